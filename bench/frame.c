@@ -13,7 +13,7 @@
 
 enum { REGISTERS = 512 };
 
-static uint8_t bytes[1 << 24], memory[1 << 20], size, order;
+static uint8_t bytes[1 << 24], memory[1 << 20];
 static char line[1 << 22];
 static size_t len, entries, given, memory_len;
 static dwframe_entry *table;
@@ -51,7 +51,7 @@ static int read_dump(const char *path)
             read_memory(line + 4);
         } else if (line[0] == 'r' && given < REGISTERS) {
             uint16_t number = (uint16_t)strtoul(line + 1, &value, 10);
-            registers[given++] = (dwframe_register){number, 1, strtoull(value, NULL, 0)};
+            registers[given++] = (dwframe_register){number, 1, 0, strtoull(value, NULL, 0)};
         }
     }
     fclose(file);
@@ -65,20 +65,19 @@ int main(int argc, char **argv)
         return 1;
     len = fread(bytes, 1, sizeof bytes, file);
     fclose(file);
-    size = (uint8_t)atoi(argv[3]);
-    order = !strcmp(argv[4], "big");
-    stop = (dwframe_stop){0, 1000, size, order, DWFRAME_UNCHANGED};
-    if (read_dump(argv[5]) || dwframe_index_size(bytes, len, size, order, &entries, &refusal))
+    dwframe_section section = dwframe_section_of(bytes, len, (uint32_t)atoi(argv[3]), !strcmp(argv[4], "big"));
+    stop = (dwframe_stop){0, 1000, DWFRAME_UNSET_UNCHANGED, 0};
+    if (read_dump(argv[5]) || dwframe_index_size(&section, &entries, &refusal))
         return 2;
     table = malloc(entries * sizeof *table + 1);
-    if (!table || dwframe_index(bytes, len, size, order, table, entries, &entries, &refusal))
+    if (!table || dwframe_index(&section, table, entries, &entries, &refusal))
         return 2;
-    dwframe_frame frame = {0, 0, 0};
+    dwframe_machine machine = {registers, given, &window, 1, memory, memory_len};
+    dwframe_frame frame = {0};
     dwframe_fault fault;
     dwframe_status status = DWFRAME_OK;
     for (uint64_t count = strtoull(argv[1], NULL, 10); count && !status; count--)
-        status = dwframe_unwind_at(bytes, len, table, entries, &stop, registers, given, &window, 1, memory, memory_len, out, REGISTERS,
-            &frame, &refusal, &fault);
+        status = dwframe_unwind_at(&section, table, entries, &stop, &machine, out, REGISTERS, &frame, &refusal, &fault);
     printf("status=%u cfa=%#" PRIx64 " registers=%zu\n", (unsigned)status, frame.cfa, frame.count);
     free(table);
     return status ? 3 : 0;

@@ -24,17 +24,18 @@ static uint64_t below(uint64_t limit)
 
 enum { RULES = 64 };
 
-static uint8_t bytes[1 << 24], size, order;
-static size_t len, entries;
+static uint8_t bytes[1 << 24];
+static dwframe_section section;
+static size_t entries;
 static dwframe_entry *table;
 static dwframe_refusal refusal;
 
 static int make_index(void)
 {
-    if (dwframe_index_size(bytes, len, size, order, &entries, &refusal))
+    if (dwframe_index_size(&section, &entries, &refusal))
         return 2;
     table = malloc(entries * sizeof *table + 1);
-    return !table || dwframe_index(bytes, len, size, order, table, entries, &entries, &refusal) ? 2 : 0;
+    return !table || dwframe_index(&section, table, entries, &entries, &refusal) ? 2 : 0;
 }
 
 static uint64_t next_address(void)
@@ -57,7 +58,7 @@ static int look_up_each(uint64_t count, uint64_t *sum)
     dwframe_row row;
     for (; count; count--) {
         uint64_t address = next_address();
-        if (dwframe_row_at(bytes, len, size, order, table, entries, address, rules, RULES, &row, &refusal))
+        if (dwframe_row_at(&section, table, entries, address, rules, RULES, &row, &refusal))
             return 3;
         *sum = with(*sum, address, &row);
     }
@@ -74,7 +75,7 @@ static int look_up_all(uint64_t count, uint64_t *sum)
         return 2;
     for (uint64_t i = 0; i < count; i++)
         addresses[i] = next_address();
-    if (dwframe_rows_at(bytes, len, size, order, addresses, count, rows, count, rules, count * RULES, &done, &refusal))
+    if (dwframe_rows_at(&section, addresses, count, rows, count, rules, count * RULES, &done, &refusal))
         return 3;
     for (uint64_t i = 0; i < done; i++)
         *sum = with(*sum, addresses[i], &rows[i]);
@@ -89,11 +90,10 @@ int main(int argc, char **argv)
     FILE *file = argc == 5 || argc == 6 ? fopen(argv[2], "rb") : NULL;
     if (!file)
         return 1;
-    len = fread(bytes, 1, sizeof bytes, file);
+    size_t len = fread(bytes, 1, sizeof bytes, file);
     fclose(file);
     uint64_t count = strtoull(argv[1], NULL, 10), sum = 0;
-    size = (uint8_t)atoi(argv[3]);
-    order = !strcmp(argv[4], "big");
+    section = dwframe_section_of(bytes, len, (uint32_t)atoi(argv[3]), !strcmp(argv[4], "big"));
     int status = make_index();
     if (!status)
         status = argc == 6 ? look_up_all(count, &sum) : look_up_each(count, &sum);

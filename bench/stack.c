@@ -15,8 +15,9 @@
 
 enum { BYTES = 1 << 24, STACK = 1 << 18, PAINT = 0xa5, RULES = 512, GIVEN = 128, REGISTERS = 512, LOOK_UPS = 8 };
 
-static uint8_t section[BYTES], memory[1 << 16], size, order;
-static size_t section_len, entries;
+static uint8_t bytes[BYTES], memory[1 << 16];
+static dwframe_section section;
+static size_t entries;
 static dwframe_entry *table;
 static dwframe_refusal refusal;
 static uint64_t address;
@@ -27,7 +28,7 @@ static void look_up(void)
 {
     static dwframe_rule rules[RULES];
     static dwframe_row row;
-    dwframe_row_at(section, section_len, size, order, table, entries, address, rules, RULES, &row, &refusal);
+    dwframe_row_at(&section, table, entries, address, rules, RULES, &row, &refusal);
 }
 
 /* The frame of a machine whose registers are all in the middle of its memory. */
@@ -38,10 +39,10 @@ static void unwind(void)
     static dwframe_frame frame;
     static dwframe_fault fault;
     for (uint16_t i = 0; i < GIVEN; i++)
-        registers[i] = (dwframe_register){i, 1, 0x10000};
-    dwframe_stop stop = {address, 100, size, order, DWFRAME_UNCHANGED};
-    dwframe_unwind_at(section, section_len, table, entries, &stop, registers, GIVEN, &window, 1, memory, sizeof memory, out, REGISTERS,
-        &frame, &refusal, &fault);
+        registers[i] = (dwframe_register){i, 1, 0, 0x10000};
+    dwframe_stop stop = {address, 100, DWFRAME_UNSET_UNCHANGED, 0};
+    dwframe_machine machine = {registers, GIVEN, &window, 1, memory, sizeof memory};
+    dwframe_unwind_at(&section, table, entries, &stop, &machine, out, REGISTERS, &frame, &refusal, &fault);
 }
 
 static void nothing(void)
@@ -76,14 +77,13 @@ int main(int argc, char **argv)
         fprintf(stderr, "usage: stack SIZE ORDER FILE\n");
         return 3;
     }
-    section_len = fread(section, 1, sizeof section, file);
+    size_t len = fread(bytes, 1, sizeof bytes, file);
     fclose(file);
-    size = (uint8_t)atoi(argv[1]);
-    order = !strcmp(argv[2], "big");
-    if (dwframe_index_size(section, section_len, size, order, &entries, &refusal) != DWFRAME_OK)
+    section = dwframe_section_of(bytes, len, (uint32_t)atoi(argv[1]), !strcmp(argv[2], "big"));
+    if (dwframe_index_size(&section, &entries, &refusal) != DWFRAME_OK)
         return 2;
     table = malloc((entries + 1) * sizeof *table);
-    if (!table || dwframe_index(section, section_len, size, order, table, entries, &entries, &refusal) != DWFRAME_OK)
+    if (!table || dwframe_index(&section, table, entries, &entries, &refusal) != DWFRAME_OK)
         return 5;
     size_t own = taken(nothing), row = 0, frame = 0;
     for (size_t i = 0; i < entries; i++) {

@@ -107,18 +107,27 @@ enum { BYTES = 1 << 16, RULES = BYTES / 2 };
 static const uint8_t *section;
 static size_t section_len, entries;
 static dwframe_entry *table;
-static uint8_t size, order, table_size, table_order;
+static uint32_t size, order, table_size, table_order;
+
+/* These bytes as the calls take them. */
+static const dwframe_section *given(const uint8_t *bytes, size_t len)
+{
+    dwframe_section *lent_section = block(sizeof *lent_section);
+    *lent_section = (dwframe_section){bytes, len, size, order};
+    return lent_section;
+}
 
 static void make_index(void)
 {
     size_t *count = block(sizeof *count);
-    if (dwframe_index_size(section, section_len, size, order, count, refusal))
+    const dwframe_section *whole = given(section, section_len);
+    if (dwframe_index_size(whole, count, refusal))
         stop_at("the section is refused");
     entries = *count;
     table_size = size;
     table_order = order;
     table = block(entries * sizeof *table);
-    if (!entries || dwframe_index(section, section_len, size, order, table, entries, count, refusal))
+    if (!entries || dwframe_index(whole, table, entries, count, refusal))
         stop_at("no index");
 }
 
@@ -151,13 +160,18 @@ static void call_whole(const uint8_t *bytes, size_t len)
     uint8_t *out = block(room);
     dwframe_counts *found = block(sizeof *found);
     uint32_t *alike = block(sizeof *alike);
-    judge(dwframe_check(bytes, len, size, order, found, refusal));
-    if (judge(dwframe_normalise(bytes, len, size, order, out, room, needed, refusal)) != DWFRAME_OK)
+    const dwframe_section *copy = given(bytes, len);
+    dwframe_section *whole = memcpy(block(sizeof *whole), given(section, section_len), sizeof *whole);
+    judge(dwframe_check(copy, found, refusal));
+    if (judge(dwframe_normalise(copy, out, room, needed, refusal)) != DWFRAME_OK)
         has_stayed(out, room);
     else
         has_stayed(out + *needed, room - *needed);
-    judge(dwframe_same(section, section_len, bytes, len, size, order, alike, refusal));
-    judge(dwframe_same(bytes, len, section, section_len, size, order, alike, refusal));
+    judge(dwframe_same(whole, copy, alike, refusal));
+    judge(dwframe_same(copy, whole, alike, refusal));
+    whole->byte_order ^= 1;
+    if (judge(dwframe_same(copy, whole, alike, refusal)) != DWFRAME_BAD_ARGUMENT || *alike)
+        stop_at("two sections of different orders");
     give_back(before);
 }
 
@@ -190,8 +204,9 @@ static size_t damage_index(dwframe_entry *index)
 }
 
 /* A machine that stopped, with random registers and windows, and what is told of its caller. */
-struct machine {
+struct stopped {
     dwframe_stop *stop;
+    dwframe_machine *held;
     dwframe_register *registers, *out;
     dwframe_window *windows;
     uint8_t *memory;
@@ -200,9 +215,9 @@ struct machine {
     dwframe_fault *fault;
 };
 
-static struct machine some_machine(uint64_t pc)
+static struct stopped some_machine(uint64_t pc)
 {
-    struct machine m = {.memory_len = below(64), .room = below(40), .register_count = below(20), .window_count = below(6)};
+    struct stopped m = {.memory_len = below(64), .room = below(40), .register_count = below(20), .window_count = below(6)};
     m.memory = block(m.memory_len);
     m.registers = block(m.register_count * sizeof *m.registers);
     m.out = block(m.room * sizeof *m.out);
@@ -211,11 +226,12 @@ static struct machine some_machine(uint64_t pc)
         m.memory[i] = (uint8_t)number();
     for (size_t i = 0; i < m.register_count; i++)
         m.registers[i] =
-            (dwframe_register){(uint16_t)below(i % 5 ? 20 : 65536), (uint16_t)below(3), i % 3 ? below(100) : number()};
+            (dwframe_register){(uint16_t)below(i % 5 ? 20 : 65536), (uint16_t)below(3), (uint32_t)number(), i % 3 ? below(100) : number()};
     for (size_t i = 0; i < m.window_count; i++)
         m.windows[i] = (dwframe_window){i % 2 ? below(100) : number(), i % 3 ? below(70) : number(), i % 4 ? below(90) : number()};
     m.stop = block(sizeof *m.stop);
-    *m.stop = (dwframe_stop){pc, below(100), size, order, (uint8_t)below(3)};
+    *m.stop = (dwframe_stop){pc, below(100), (uint32_t)below(3), (uint32_t)number()};
+    m.held = block(sizeof *m.held);
     m.frame = block(sizeof *m.frame);
     m.fault = block(sizeof *m.fault);
     return m;
@@ -231,16 +247,23 @@ static int wants_register(dwframe_status status, const dwframe_fault *fault)
     return status == DWFRAME_NO_REGISTER || (status == DWFRAME_NO_VALUE && fault->kind == DWFRAME_FAULT_NO_REGISTER);
 }
 
+/* What a call takes of it now. */
+static const dwframe_machine *held(const struct stopped *m)
+{
+    *m->held = (dwframe_machine){m->registers, m->register_count, m->windows, m->window_count, m->memory, m->memory_len};
+    return m->held;
+}
+
 /* What was wanted is told where something is missing, and only there. */
 static void judge_fault(dwframe_status status, const dwframe_fault *fault)
 {
     if (wants_memory(status, fault) ? fault->len < 1 || fault->len > 8 : fault->len || fault->address)
         stop_at("a fault that tells of another read than one that failed");
-    if (wants_register(status, fault) ? fault->wanted > 65535 : fault->wanted)
+    if (!wants_register(status, fault) && fault->wanted)
         stop_at("a fault that tells of another register than one that is wanted");
 }
 
-static dwframe_status judge_unwound(dwframe_status status, const struct machine *m)
+static dwframe_status judge_unwound(dwframe_status status, const struct stopped *m)
 {
     judge(status);
     judge_fault(status, m->fault);
@@ -249,26 +272,30 @@ static dwframe_status judge_unwound(dwframe_status status, const struct machine 
     return status;
 }
 
-static dwframe_status unwind_at(const uint8_t *bytes, size_t len, const dwframe_entry *index, size_t left, const struct machine *m)
+static dwframe_status unwind_at(const uint8_t *bytes, size_t len, const dwframe_entry *index, size_t left, const struct stopped *m)
 {
     memset(m->out, FILLED, m->room * sizeof *m->out);
-    dwframe_status status = dwframe_unwind_at(bytes, len, index, left, m->stop, m->registers, m->register_count, m->windows,
-        m->window_count, m->memory, m->memory_len, m->out, m->room, m->frame, refusal, m->fault);
+    size_t before = lents;
+    dwframe_status status = dwframe_unwind_at(
+        given(bytes, len), index, left, m->stop, held(m), m->out, m->room, m->frame, refusal, m->fault);
+    give_back(before);
     return judge_unwound(status, m);
 }
 
-static dwframe_status unwind(const uint8_t *bytes, size_t len, const struct machine *m)
+static dwframe_status unwind(const uint8_t *bytes, size_t len, const struct stopped *m)
 {
     memset(m->out, FILLED, m->room * sizeof *m->out);
-    dwframe_status status = dwframe_unwind(bytes, len, m->stop, m->registers, m->register_count, m->windows, m->window_count,
-        m->memory, m->memory_len, m->out, m->room, m->frame, refusal, m->fault);
+    size_t before = lents;
+    dwframe_status status =
+        dwframe_unwind(given(bytes, len), m->stop, held(m), m->out, m->room, m->frame, refusal, m->fault);
+    give_back(before);
     return judge_unwound(status, m);
 }
 
 static void call_unwind(const uint8_t *bytes, size_t len)
 {
     size_t before = lents;
-    struct machine m = some_machine(some_address());
+    struct stopped m = some_machine(some_address());
     unwind(bytes, len, &m);
     give_back(before);
 }
@@ -279,12 +306,12 @@ static void call_unwind_at(const uint8_t *bytes, size_t len)
     dwframe_entry *index = block(entries * sizeof *index);
     size_t left = damage_index(index);
     const dwframe_entry *entry = left ? &index[below(left)] : table;
-    struct machine m = some_machine(below(8) ? entry->begin + below(entry->range) : number());
+    struct stopped m = some_machine(below(8) ? entry->begin + below(entry->range) : number());
     unwind_at(bytes, len, index, left, &m);
     give_back(before);
 }
 
-static int is_same_told(const struct machine *m, const struct machine *other, size_t count)
+static int is_same_told(const struct stopped *m, const struct stopped *other, size_t count)
 {
     const dwframe_frame *frame = m->frame, *other_frame = other->frame;
     const dwframe_fault *fault = m->fault, *other_fault = other->fault;
@@ -305,7 +332,7 @@ static void compare_unwound(void)
     /* Read in another way it may have another index. */
     if (size != table_size || order != table_order)
         return;
-    struct machine m = some_machine(some_address()), other = m;
+    struct stopped m = some_machine(some_address()), other = m;
     other.frame = block(sizeof *other.frame);
     other.fault = block(sizeof *other.fault);
     other.out = block(other.room * sizeof *other.out);
@@ -320,7 +347,7 @@ static void compare_unwound(void)
 
 enum { READS = 1 << 12 };
 
-static int is_given(const struct machine *m, uint64_t address)
+static int is_given(const struct stopped *m, uint64_t address)
 {
     for (size_t i = 0; i < m->window_count; i++)
         if (address - m->windows[i].address < m->windows[i].len)
@@ -329,9 +356,10 @@ static int is_given(const struct machine *m, uint64_t address)
 }
 
 /* Gives what a read wanted, unless it passes the end of the address space. */
-static int give(struct machine *m)
+static int give(struct stopped *m)
 {
-    uint64_t address = m->fault->address, len = m->fault->len, last = size == 4 ? UINT32_MAX : UINT64_MAX, had = 0;
+    size_t len = m->fault->len;
+    uint64_t address = m->fault->address, last = size == 4 ? UINT32_MAX : UINT64_MAX, had = 0;
     if (address > last)
         stop_at("an address outside of the address space");
     if (len - 1 > last - address)
@@ -353,7 +381,7 @@ static void unwind_live(void)
     static uint8_t memory[8 * READS];
     static dwframe_window windows[READS];
     size_t before = lents;
-    struct machine m = some_machine(some_address());
+    struct stopped m = some_machine(some_address());
     m.memory = memory;
     m.windows = windows;
     m.memory_len = m.window_count = 0;
@@ -367,6 +395,7 @@ static void unwind_live(void)
 static void call_row_at(const uint8_t *bytes, size_t len)
 {
     size_t before = lents, room = below(20), bytes_room = below(40), blocks_room = below(4);
+    const dwframe_section *copy = given(bytes, len);
     dwframe_entry *index = block(entries * sizeof *index);
     size_t left = damage_index(index);
     dwframe_row *row = block(sizeof *row);
@@ -378,11 +407,11 @@ static void call_row_at(const uint8_t *bytes, size_t len)
         dwframe_block *blocks = block(blocks_room * sizeof *blocks);
         const dwframe_entry *entry = left ? &index[below(left)] : table;
         uint64_t address = below(8) ? entry->begin + below(entry->range) : number();
-        judge(dwframe_row_at(bytes, len, size, order, index, left, address, rules, room, row, refusal));
+        judge(dwframe_row_at(copy, index, left, address, rules, room, row, refusal));
         size_t told = row->count < room ? row->count : room;
         has_stayed(rules + told, (room - told) * sizeof *rules);
-        dwframe_status status = judge(dwframe_expressions_at(bytes, len, size, order, index, left, address, expressions, bytes_room,
-            blocks, blocks_room, all, refusal));
+        dwframe_status status = judge(
+            dwframe_expressions_at(copy, index, left, address, expressions, bytes_room, blocks, blocks_room, all, refusal));
         if (status != DWFRAME_OK)
             *all = (dwframe_blocks){0, 0};
         has_stayed(expressions + all->len, bytes_room - all->len);
@@ -393,15 +422,15 @@ static void call_row_at(const uint8_t *bytes, size_t len)
 }
 
 /* A row of `dwframe_rows_at` and its rules are those that a look-up has, by the index of the same bytes. */
-static uint64_t compare_row(const uint8_t *bytes, size_t len, const dwframe_entry *index, size_t indexed, uint64_t address,
-    const dwframe_row *row, const dwframe_rule *rules, uint64_t left)
+static size_t compare_row(const dwframe_section *copy, const dwframe_entry *index, size_t indexed, uint64_t address,
+    const dwframe_row *row, const dwframe_rule *rules, size_t left)
 {
     static dwframe_rule own[RULES];
     dwframe_row alone;
-    dwframe_status status = dwframe_row_at(bytes, len, size, order, index, indexed, address, own, RULES, &alone, refusal);
+    dwframe_status status = dwframe_row_at(copy, index, indexed, address, own, RULES, &alone, refusal);
     if (status != (row->range ? DWFRAME_OK : DWFRAME_NO_FDE) || memcmp(&alone, row, sizeof alone))
         stop_at("a row that is not that of the look-up");
-    for (uint64_t rule = 0; rule < alone.count && rule < left; rule++)
+    for (size_t rule = 0; rule < alone.count && rule < left; rule++)
         if (memcmp(&own[rule], &rules[rule], sizeof *own))
             stop_at("a rule that is not that of the look-up");
     return alone.count;
@@ -410,22 +439,24 @@ static uint64_t compare_row(const uint8_t *bytes, size_t len, const dwframe_entr
 static void call_rows_at(const uint8_t *bytes, size_t len)
 {
     size_t before = lents, count = below(6), rows_room = count + below(3) - (count && !below(8)), room = below(40), indexed = 0;
-    uint64_t *addresses = block(count * sizeof *addresses), told = 0;
+    size_t told = 0;
+    uint64_t *addresses = block(count * sizeof *addresses);
+    const dwframe_section *copy = given(bytes, len);
     dwframe_row *rows = block(rows_room * sizeof *rows);
     dwframe_rule *rules = block(room * sizeof *rules);
     size_t *done = block(sizeof *done);
-    if (dwframe_index_size(bytes, len, size, order, &indexed, refusal))
+    if (dwframe_index_size(copy, &indexed, refusal))
         indexed = 0;
     dwframe_entry *index = block(indexed * sizeof *index);
-    if (indexed && dwframe_index(bytes, len, size, order, index, indexed, &indexed, refusal))
+    if (indexed && dwframe_index(copy, index, indexed, &indexed, refusal))
         stop_at("no index");
     for (size_t i = 0; i < count; i++)
         addresses[i] = some_address();
     dwframe_status status =
-        judge(dwframe_rows_at(bytes, len, size, order, addresses, count, rows, rows_room, rules, room, done, refusal));
+        judge(dwframe_rows_at(copy, addresses, count, rows, rows_room, rules, room, done, refusal));
     for (size_t i = 0; i < *done; i++) {
-        uint64_t at = told < room ? told : room;
-        told += compare_row(bytes, len, index, indexed, addresses[i], &rows[i], rules + at, room - at);
+        size_t at = told < room ? told : room;
+        told += compare_row(copy, index, indexed, addresses[i], &rows[i], rules + at, room - at);
     }
     if (status == DWFRAME_OK ? *done != count || told > room : status == DWFRAME_TOO_SHORT ? *done && told <= room : *done != 0)
         stop_at("a status that is not so");
@@ -439,24 +470,26 @@ static void call_rows_at(const uint8_t *bytes, size_t len)
 static void call_changes(const uint8_t *bytes, size_t len)
 {
     size_t before = lents, changes_room = below(8), room = below(40), indexed = 0;
-    uint64_t address = some_address(), told = 0;
+    size_t told = 0;
+    uint64_t address = some_address();
+    const dwframe_section *copy = given(bytes, len);
     dwframe_change *changes = block(changes_room * sizeof *changes);
     dwframe_rule *rules = block(room * sizeof *rules);
     dwframe_totals *needed = block(sizeof *needed);
-    if (dwframe_index_size(bytes, len, size, order, &indexed, refusal))
+    if (dwframe_index_size(copy, &indexed, refusal))
         indexed = 0;
     dwframe_entry *index = block(indexed * sizeof *index);
-    if (indexed && dwframe_index(bytes, len, size, order, index, indexed, &indexed, refusal))
+    if (indexed && dwframe_index(copy, index, indexed, &indexed, refusal))
         stop_at("no index");
     dwframe_status status =
-        judge(dwframe_changes(bytes, len, size, order, address, changes, changes_room, rules, room, needed, refusal));
+        judge(dwframe_changes(copy, address, changes, changes_room, rules, room, needed, refusal));
     int fits = needed->changes <= changes_room && needed->rules <= room;
     if (status == DWFRAME_OK ? !needed->changes || !fits : status == DWFRAME_TOO_SHORT ? fits : needed->changes || needed->rules)
         stop_at("totals that are not so");
-    uint64_t count = needed->changes < changes_room ? needed->changes : changes_room;
-    for (uint64_t i = 0; i < count; i++) {
-        uint64_t at = told < room ? told : room;
-        told += compare_row(bytes, len, index, indexed, changes[i].address, &changes[i].row, rules + at, room - at);
+    size_t count = needed->changes < changes_room ? needed->changes : changes_room;
+    for (size_t i = 0; i < count; i++) {
+        size_t at = told < room ? told : room;
+        told += compare_row(copy, index, indexed, changes[i].address, &changes[i].row, rules + at, room - at);
         if (i ? changes[i].address <= changes[i - 1].address : changes[i].address != changes[i].row.begin)
             stop_at("rows that do not ascend from their begin");
     }
@@ -473,7 +506,7 @@ static void call_changes(const uint8_t *bytes, size_t len)
 static void call_evaluate(void)
 {
     size_t before = lents, len = below(24);
-    struct machine m = some_machine(0);
+    struct stopped m = some_machine(0);
     uint8_t *operations = block(len);
     uint64_t *value = block(sizeof *value);
     dwframe_context *context = block(sizeof *context);
@@ -481,9 +514,8 @@ static void call_evaluate(void)
     for (size_t i = 0; i < len; i++)
         operations[i] = from + i < section_len && below(2) ? section[from + i] : (uint8_t)below(i % 3 ? 256 : 0xa0);
     *context = (dwframe_context){number(), number(), number(), number(), below(100), size, order, (uint8_t)below(3), (uint8_t)below(3),
-        (uint8_t)below(3), (uint8_t)below(3), (uint16_t)number()};
-    dwframe_status status = judge(dwframe_evaluate(operations, len, context, m.registers, m.register_count, m.windows, m.window_count,
-        m.memory, m.memory_len, value, refusal, m.fault));
+        (uint8_t)below(3), (uint8_t)below(3), (uint32_t)number()};
+    dwframe_status status = judge(dwframe_evaluate(operations, len, context, held(&m), value, refusal, m.fault));
     judge_fault(status, m.fault);
     if ((status == DWFRAME_NO_VALUE) != (m.fault->kind != 0) || m.fault->column || (status != DWFRAME_OK && *value))
         stop_at("a value or a fault without its status");
@@ -523,11 +555,11 @@ int main(int argc, char **argv)
     fclose(file);
     section = memcpy(block(section_len), bytes, section_len);
     refusal = block(sizeof *refusal);
-    uint8_t own_size = size = (uint8_t)atoi(argv[1]), own_order = order = !strcmp(argv[2], "big");
+    uint32_t own_size = size = (uint32_t)atoi(argv[1]), own_order = order = !strcmp(argv[2], "big");
     make_index();
     for (unsigned long left = strtoul(argv[4], NULL, 10); left; left--) {
-        size = left % 50 ? own_size : (uint8_t)below(10);
-        order = left % 51 ? own_order : (uint8_t)below(3);
+        size = left % 50 ? own_size : (uint32_t)below(10);
+        order = left % 51 ? own_order : (uint32_t)below(3);
         call_all();
     }
     for (unsigned status = 0; status <= DWFRAME_BAD_INDEX; status++)

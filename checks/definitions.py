@@ -1,7 +1,7 @@
 #!/usr/bin/env python3
-"""docs/DEFINITIONS.md: what a reader of the public contracts has to believe. For each crate it lists the calls that it exports, in the
-order of the README's tables, with the definitions that their clauses name, and how many definitions stand behind these, in how many
-lines. Names are followed through the files of specs/; comments, imports and blank lines are not counted.
+"""docs/DEFINITIONS.md: what a reader of the public contracts has to believe. For each crate it lists the calls that it exports, with the
+definitions that their clauses name, and how many definitions stand behind these, in how many lines. Names are followed through the files
+of specs/; comments, imports and blank lines are not counted.
 
     checks/definitions.py [--write] [--root FOLDER]
 
@@ -27,18 +27,19 @@ MODEL = re.compile(r"^impl(?:<[^>]*>)? (?:Model|Iterator) for (\w+).*?^\}", re.M
 GHOST = re.compile(r"^ *ghost (?:Value|next_gives|remaining)\b[^;]*;", re.M)
 HEAD = """# What has to be believed
 
-The code is checked against its contracts; a contract says what its definitions mean. So these definitions, and nothing else in this
-repository, are what a reader has to believe. Each stands in `specs/` of the crate that it is named with. This list is made by
-`checks/definitions.py` from the sources: a call, how many clauses (`ensures`) it has, the definitions that its clauses name, and how
-many definitions these rest on in all, in how many lines, comments not counted. A definition that many calls rest on is counted for
-each of them, and once in the sums. A type's clauses speak of its value; the type of the value is counted, and how the private fields keep
-it (`view`, `invariant`) is not: whatever they say, the clauses hold of one value, and no caller sees another.
+The code is proved against its contracts, and a contract means what its definitions say. A reader has to believe these
+definitions, and nothing else in this repository. Each stands in `specs/` of the crate under which it is listed here.
 
-Only what a crate exports is listed, in the order in which the README's tables name it; calls that it does not name come last. A method of
-a trait of ours stands under the trait. The clauses of an iterator's `next` are what its type says of it (`next_gives`, `remaining`).
-Other methods that a type has by a trait (`==`, hashes, conversions, writes) are not listed: the README says which of them rest on
-`specs/Inner`. Of the 133 public calls that stood before the contracts' holes were closed, the definitions behind them had 3,135 lines. 131
-of them are left, two laws being private now, and have 2,090, with the laws that were added to them since.
+`checks/definitions.py` makes this list from the sources. For each call it says how many clauses (`ensures`) the call
+has, which definitions these clauses name, and how many definitions stand behind these, in how many lines without
+comments. A definition behind several calls counts for each of them, and once in the sums. The clauses of a type speak
+of its value. The type of that value counts; how private fields represent the value (`view`, `invariant`) does not,
+since the clauses hold of one value whatever they say, and no caller sees another.
+
+Only what a crate exports is listed, in the order of its sources. A method of one of our traits stands under the trait.
+The clauses of an iterator's `next` are what its type says of it (`next_gives`, `remaining`). Other methods that a type
+has by a trait (`==`, hashes, conversions, writes) are not listed; [CONTRACTS.md](CONTRACTS.md) says which of them rest
+on `specs/Inner`.
 """
 
 
@@ -151,31 +152,18 @@ def calls(folder, specs):
             yield f"{who}::{name}" if who else name, count, rests_on(specs, uses, "\n".join(clauses)), kept
 
 
-def order(readme, crate):
-    """Where the README's tables name a crate's calls first; a name without a type may be one of each type named before it in its cell."""
-    part, found = readme.partition(f"\n**`{crate}`**")[2].partition("\n**`")[0], {}
-    for cell in re.findall(r"^\| (`.*?) \| ", part, re.M):
-        types = []
-        for word in re.findall(r"`(?:trait )?([\w:]+)`", cell):
-            owner, _, name = word.rpartition("::")
-            for it in [word, *(f"{other}::{name}" for other in types)]:
-                found.setdefault(it, len(found))
-            types.append(owner or word)
-    return lambda call: found.get(call[0], found.get(call[0].partition("::")[0], len(found)))
-
-
 def short(keys):
     return ", ".join(f"`{name}`" for _, name in sorted(keys, key=lambda it: it[1])) or "none"
 
 
 def written(root):
-    specs, everything, parts, sums, readme = Specs(root), set(), [], [], read(f"{root}/README.md")
+    specs, everything, parts, sums = Specs(root), set(), [], []
     crates = [it.split(":")[0].split()[0] for it in read(f"{root}/crates.txt").split("\n") if it.strip() and not it.startswith("#")]
     for crate in crates:
         if not os.path.isdir(f"{root}/crates/{crate}/specs"):
             continue
         rows, whole = [], set()
-        for name, clauses, named, kept in sorted(calls(f"{root}/crates/{crate}/src", specs), key=order(readme, crate)):
+        for name, clauses, named, kept in calls(f"{root}/crates/{crate}/src", specs):
             behind = specs.behind(named | kept)
             whole |= behind
             rows.append(f"| `{name}` | {clauses} | {short(named)} | {len(behind)} in {specs.lines(behind)} |")

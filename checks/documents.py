@@ -24,11 +24,14 @@ import tempfile
 ROOT = pathlib.Path(__file__).resolve().parent.parent
 PROGRAM = ROOT / "crates/dwframe/out/dwframe"
 PAGES = ["README.md", "docs/CALLING.md", "docs/CONTRACTS.md", "docs/LIBRARY.md", "docs/REFUSALS.md"]
-LINKED = [*PAGES, "docs/ARCHITECTURE.md", "CONTRIBUTING.md", "SECURITY.md", "CHANGELOG.md", "examples/README.md"]
+# Those without commands, whose links and lines are compared too.
+OTHERS = ["SECURITY.md", "CHANGELOG.md", "CONTRIBUTING.md", "examples/README.md"]
+OTHERS += [f"docs/{name}.md" for name in ("ARCHITECTURE", "DECISIONS", "DEFINITIONS", "PERFORMANCE", "PROVING")]
 MANUAL = "docs/dwframe.1"
 REFUSALS = "docs/REFUSALS.md"
 CONTRACTS = "docs/CONTRACTS.md"
-# How many lines a page may have. A line of a Markdown page has at most WIDTH characters, but for quoted code.
+# How many lines a page may have. A line of a Markdown page has at most WIDTH characters, but for quoted code and for a row of a table
+# that checks/definitions.py makes.
 LINES = {
     "README.md": 160,
     "SECURITY.md": 45,
@@ -209,10 +212,12 @@ def compare_calls(tally):
 def compare_lengths(tally):
     """No page is longer than it may be, and no line but one of quoted code."""
     for name, most in LINES.items():
-        text = text_of(name)
-        count = len(text.splitlines())
+        count = len(text_of(name).splitlines())
         tally.tell(count <= most, f"{name}: {count} lines, where {most} are allowed")
-        plain = re.sub(r"^```.*?^```", "", text, flags=re.M | re.S) if name.endswith(".md") else ""
+    for name in [*PAGES, *OTHERS]:
+        plain = re.sub(r"^```.*?^```", "", text_of(name), flags=re.M | re.S)
+        if name == "docs/DEFINITIONS.md":
+            plain = re.sub(r"^\|.*", "", plain, flags=re.M)
         for line in plain.splitlines():
             tally.tell(len(line) <= WIDTH, f"{name}: a line of {len(line)} characters: {line[:60]}..")
 
@@ -253,7 +258,7 @@ def compare_texts(tally):
     compare_codes(tally)
     compare_calls(tally)
     compare_lengths(tally)
-    for name in LINKED:
+    for name in [*PAGES, *OTHERS]:
         compare_links(name, tally)
     compare_version(tally)
 

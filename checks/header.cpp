@@ -3,7 +3,6 @@
  *     header SIZE ORDER FILE */
 #include "dwframe.h"
 
-#include <cinttypes>
 #include <cstdio>
 #include <cstdlib>
 #include <cstring>
@@ -19,23 +18,22 @@ int main(int argc, char **argv)
         return 3;
     std::ifstream file(argv[3], std::ios::binary);
     std::vector<char> read((std::istreambuf_iterator<char>(file)), std::istreambuf_iterator<char>());
-    std::vector<std::uint8_t> bytes(read.begin(), read.end());
-    const std::size_t len = bytes.size();
-    /* The pointer to no bytes may be null, so there is always one. */
-    bytes.push_back(0);
-    const std::uint8_t size = static_cast<std::uint8_t>(std::atoi(argv[1]));
-    const std::uint8_t order = std::strcmp(argv[2], "big") ? DWFRAME_LITTLE : DWFRAME_BIG;
+    /* The pointer to no bytes may be null. */
+    const std::vector<std::uint8_t> bytes(read.begin(), read.end());
+    const std::uint32_t size = static_cast<std::uint32_t>(std::atoi(argv[1]));
+    const std::uint32_t order = std::strcmp(argv[2], "big") ? DWFRAME_LITTLE : DWFRAME_BIG;
+    const dwframe_section section = dwframe_section_of(bytes.data(), bytes.size(), size, order);
     dwframe_counts counts;
     dwframe_refusal refusal;
-    const dwframe_status status = dwframe_check(bytes.data(), len, size, order, &counts, &refusal);
+    const dwframe_status status = dwframe_check(&section, &counts, &refusal);
     if (status == DWFRAME_REFUSED) {
         char name[DWFRAME_NAME_SIZE] = "";
         dwframe_refusal_name(refusal.code, name, sizeof name);
-        std::fprintf(stderr, "refused: %s at 0x%" PRIx64 "\n", name, refusal.at);
+        std::fprintf(stderr, "refused: %s at 0x%zx\n", name, refusal.at);
         return 2;
     }
     if (status != DWFRAME_OK)
         return 5;
-    std::printf("ok cies=%" PRIu64 " fdes=%" PRIu64 " bytes=%zu\n", counts.cies, counts.fdes, len);
+    std::printf("ok cies=%zu fdes=%zu bytes=%zu\n", counts.cies, counts.fdes, bytes.size());
     return 0;
 }

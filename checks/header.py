@@ -2,9 +2,9 @@
 """Compares include/dwframe.h, and what bindings/rust declares, with the exports of crates/dw_library.
 
 Each call has to have the same name, answer and parameters in all three, and each struct the same fields in the same order, and the size
-that the header asserts. Each number of the header (statuses, refusals, faults, rules, orders and the like) has to be the one of the
-library's sources, and those that the crate for Rust has have to be the header's, and mean what their names say. A slice of Rattle is a
-pointer and a length in C, and an `alloc` is nothing.
+and the places that the header asserts. Each number of the header (statuses, refusals, faults, rules, orders and the like) has to be the
+one of the library's sources, and those that the crate for Rust has have to be the header's, and mean what their names say. A slice of
+Rattle is a pointer and a length in C, and an `alloc` is nothing.
 """
 import pathlib
 import re
@@ -16,11 +16,13 @@ NUMBERS = {"u8": "uint8_t", "u16": "uint16_t", "u32": "uint32_t", "u64": "uint64
 BYTES = {"uint8_t": 1, "uint16_t": 2, "uint32_t": 4, "uint64_t": 8, "size_t": 8, "int64_t": 8}
 # Structs by their names in Rattle, in C and in the crate for Rust.
 STRUCTS = {
+    "Section": ("dwframe_section", "RawSection"),
     "Refused": ("dwframe_refusal", "RawRefusal"),
     "Counts": ("dwframe_counts", "RawCounts"),
     "Stop": ("dwframe_stop", "RawStop"),
     "Register": ("dwframe_register", "Register"),
     "Window": ("dwframe_window", "Window"),
+    "Held": ("dwframe_machine", "RawMachine"),
     "Frame": ("dwframe_frame", "RawFrame"),
     "Fault": ("dwframe_fault", "RawFault"),
     "Ranged": ("dwframe_entry", "Entry"),
@@ -42,6 +44,8 @@ NUMBERED = [
     ("crates/dw_library/src/answer.rt", r"(?P<number>\d+) => Some\(Target \{ size, order: Order::(?P<name>\w+),", "", {}),
     ("crates/dw_library/src/caller.rt", r"(?P<number>\d+) => Some\(Policy::(?P<name>\w+)\)", "UNSET_", {"SameValue": "Unchanged"}),
 ]
+# Bytes of a struct that have no name: the entries of an index are those of a table.
+UNNAMED_BYTES = {"dwframe_entry": 2}
 # What a look-up never writes, so the header has no name for it.
 UNNAMED = {"DWFRAME_RULE_UNSPECIFIED": "0", "DWFRAME_CFA_UNSET": "0"}
 # The crate for Rust has the names of its enums in place of these.
@@ -71,7 +75,7 @@ def expected(parameter):
     kind = parameter.split(":", 1)[1].strip()
     if kind == "Global":
         return []
-    found = re.fullmatch(r"&(mut )?(\[)?(\w+)\]?", kind)
+    found = re.fullmatch(r"&(mut )?(\[)?(\w+)(?:<'_>)?\]?", kind)
     if not found:
         return [in_c(kind)]
     pointer = f"{'' if found[1] else 'const '}{in_c(found[3])} *"
@@ -107,31 +111,67 @@ def bound(text):
     return calls
 
 
-def structs(text, word):
-    found = re.findall(r"#\[repr\(C\)\] (?:#\[[^\]]*\] )*(?:pub(?:\(crate\))? )?struct (\w+) \{(.*?)\}", text)
-    fields = {name: re.findall(r"(\w+): (\w+)", inside) for name, inside in found if word(name)}
+# A field's name and its type: a number or a struct, an array of numbers, a slice of Rattle, or a pointer of Rust.
+FIELD = r"(?P<name>\w+): (?:&'a \[(?P<slice>\w+)\]|\*const (?P<pointed>\w+)|\[(?P<item>\w+); (?P<count>\d+)\]|(?P<plain>\w+))"
+# Where a slice is a pointer and a length in a struct, the length's name.
+LENGTHS = {"bytes": "len", "registers": "register_count", "windows": "window_count", "memory": "memory_len"}
+
+
+def fields_of(inside):
+    """The fields of a struct of Rattle or Rust as C has them."""
     names = {one: c for rattle, (c, raw) in STRUCTS.items() for one in (rattle, raw)}
-    return {name: [(field, NUMBERS.get(kind) or names[kind]) for field, kind in inside] for name, inside in fields.items()}
+
+    def named(kind):
+        return NUMBERS.get(kind) or names[kind]
+
+    for field in re.finditer(FIELD, inside):
+        if kind := field["slice"] or field["pointed"]:
+            yield field["name"], f"const {named(kind)} *"
+            if field["slice"]:
+                yield LENGTHS[field["name"]], "size_t"
+        elif field["item"]:
+            yield field["name"], f"{named(field['item'])}[{field['count']}]"
+        else:
+            yield field["name"], named(field["plain"])
+
+
+def structs(text, word):
+    found = re.findall(r"#\[repr\(C\)\] (?:#\[[^\]]*\] )*(?:pub(?:\(crate\))? )?struct (\w+)(?:<'a>)? \{(.*?)\}", text)
+    return {name: list(fields_of(inside)) for name, inside in found if word(name)}
 
 
 def layout_of(fields, all_fields):
-    """How many bytes a struct of these fields takes, and to how many it is aligned, as C lays it out."""
-    end, most = 0, 1
-    for _, kind in fields:
-        size, align = layout_of(all_fields[kind], all_fields) if kind in all_fields else (BYTES[kind], BYTES[kind])
-        end += -end % align + size
+    """How many bytes a struct of these fields takes, to how many it is aligned, the place of each field as C lays it out, and how many
+    bytes have no name."""
+    end, most, places, unnamed = 0, 1, {}, 0
+    for name, kind in fields:
+        item, count = re.fullmatch(r"(\w+)\[(\d+)\]", kind).groups() if kind.endswith("]") else (kind, 1)
+        if item.endswith("*"):
+            size = align = 8
+        elif item in all_fields:
+            size, align, _, inner = layout_of(all_fields[item], all_fields)
+            unnamed += inner
+        else:
+            size = align = BYTES[item]
+        places[name] = end + -end % align
+        unnamed += places[name] - end
+        end = places[name] + size * int(count)
         most = max(most, align)
-    return end + -end % most, most
+    return end + -end % most, most, places, unnamed + -end % most
 
 
 def asserted(text):
-    """The sizes that the header asserts, by the names of its structs."""
-    return {name: int(size) for name, size in re.findall(r"DWFRAME_HAS_SIZE\((\w+), (\d+)\);", text)}
+    """The sizes that the header asserts, and the places but the first, by the names of its structs."""
+    sizes = {name: (int(size), {}) for name, size in re.findall(r"DWFRAME_HAS_SIZE\((\w+), (\d+)\);", text)}
+    for name, field, place in re.findall(r"DWFRAME_HAS_PLACE\((\w+), (\w+), (\d+)\);", text):
+        sizes[name][1][field] = int(place)
+    return sizes
 
 
 def c_structs(text):
     found = re.findall(r"typedef struct \w+ \{(.*?)\} (\w+);", text)
-    return {name: [tuple(reversed(field.split())) for field in inside.split(";") if field.strip()] for inside, name in found}
+    fields = {name: re.findall(r"((?:const )?\w+ \*?)(\w+)((?:\[\d+\])?);", inside) for inside, name in found}
+    return {name: [(field, kind.strip() + array) for kind, field, array in inside] for name, inside in fields.items()}
 
 
 # ---- numbers
@@ -227,9 +267,13 @@ def main():
         if not own.get(name) == in_header.get(c) == in_rust.get(raw):
             wrong.append(f"struct {c}: {own.get(name)}, {in_header.get(c)} and {in_rust.get(raw)}")
     fields = {c: own[name] for name, (c, _) in STRUCTS.items() if name in own}
-    sizes = {c: layout_of(of, fields)[0] for c, of in fields.items()}
-    if asserted(header) != sizes:
-        wrong.append(f"the header asserts the sizes {asserted(header)}, and they are {sizes}")
+    layouts = {c: layout_of(of, fields) for c, of in fields.items()}
+    wanted = {c: (size, {name: place for name, place in places.items() if place}) for c, (size, _, places, _) in layouts.items()}
+    told = asserted(header)
+    wrong += [f"the header asserts of {c} {told.get(c)}, and it is {wanted.get(c)}" for c in told.keys() | wanted.keys() if told.get(c) != wanted.get(c)]
+    unnamed = {c: count for c, (_, _, _, count) in layouts.items() if count}
+    if unnamed != UNNAMED_BYTES:
+        wrong.append(f"bytes without a name: {unnamed}, and not {UNNAMED_BYTES}")
     if len(own) != len(in_header) or len(own) != len(in_rust):
         wrong.append("one of the three has a struct that is not compared")
     numbers = own_numbers(rattle)

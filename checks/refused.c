@@ -51,8 +51,8 @@ void __wrap_free(void *at)
 
 enum { BYTES = 1 << 14, ENTRIES = 256, RULES = 1024, ROWS = 24, CHANGES = 256, BLOCKS = 64, REGISTERS = 512, FILLED = 0xa5 };
 
-static uint8_t section[BYTES], normal_form[2 * BYTES], size, order;
-static size_t section_len, normal_len;
+static uint8_t bytes[BYTES], normal_form[2 * BYTES];
+static dwframe_section section, normal;
 static dwframe_entry table[ENTRIES];
 static size_t entries;
 static uint64_t addresses[ROWS], address;
@@ -82,55 +82,52 @@ static struct told {
 
 static dwframe_status call_check(void)
 {
-    return dwframe_check(section, section_len, size, order, &told.counts, &told.refusal);
+    return dwframe_check(&section, &told.counts, &told.refusal);
 }
 
 static dwframe_status call_normalise(void)
 {
-    return dwframe_normalise(section, section_len, size, order, rooms.bytes, sizeof rooms.bytes, &told.number, &told.refusal);
+    return dwframe_normalise(&section, rooms.bytes, sizeof rooms.bytes, &told.number, &told.refusal);
 }
 
 static dwframe_status call_same(void)
 {
     uint32_t alike;
-    dwframe_status status =
-        dwframe_same(section, section_len, normal_form, normal_len, size, order, &alike, &told.refusal);
+    dwframe_status status = dwframe_same(&section, &normal, &alike, &told.refusal);
     told.alike = alike;
     return status;
 }
 
 static dwframe_status call_index_size(void)
 {
-    return dwframe_index_size(section, section_len, size, order, &told.number, &told.refusal);
+    return dwframe_index_size(&section, &told.number, &told.refusal);
 }
 
 static dwframe_status call_index(void)
 {
-    return dwframe_index(section, section_len, size, order, rooms.entries, ENTRIES, &told.number, &told.refusal);
+    return dwframe_index(&section, rooms.entries, ENTRIES, &told.number, &told.refusal);
 }
 
 static dwframe_status call_row_at(void)
 {
-    return dwframe_row_at(
-        section, section_len, size, order, table, entries, address, rooms.rules, RULES, &told.row, &told.refusal);
+    return dwframe_row_at(&section, table, entries, address, rooms.rules, RULES, &told.row, &told.refusal);
 }
 
 static dwframe_status call_rows_at(void)
 {
-    return dwframe_rows_at(section, section_len, size, order, addresses, address_count, rooms.rows, ROWS, rooms.rules, RULES,
-        &told.number, &told.refusal);
+    return dwframe_rows_at(
+        &section, addresses, address_count, rooms.rows, ROWS, rooms.rules, RULES, &told.number, &told.refusal);
 }
 
 static dwframe_status call_expressions_at(void)
 {
-    return dwframe_expressions_at(section, section_len, size, order, table, entries, address, rooms.bytes, sizeof rooms.bytes,
-        rooms.blocks, BLOCKS, &told.blocks, &told.refusal);
+    return dwframe_expressions_at(&section, table, entries, address, rooms.bytes, sizeof rooms.bytes, rooms.blocks, BLOCKS,
+        &told.blocks, &told.refusal);
 }
 
 static dwframe_status call_changes(void)
 {
-    return dwframe_changes(section, section_len, size, order, address, rooms.changes, CHANGES, rooms.rules, RULES, &told.totals,
-        &told.refusal);
+    return dwframe_changes(&section, address, rooms.changes, CHANGES, rooms.rules, RULES, &told.totals, &told.refusal);
 }
 
 /* A machine whose registers are all in the middle of what is known of its memory. */
@@ -138,44 +135,46 @@ static const uint8_t memory[4096];
 static const dwframe_window windows[] = {{0x7000, 2048, 2048}, {0x6800, 0, 2048}};
 static dwframe_register registers[32];
 enum { GIVEN = sizeof registers / sizeof *registers, WINDOWS = sizeof windows / sizeof *windows };
+static const dwframe_machine machine = {registers, GIVEN, windows, WINDOWS, memory, sizeof memory};
 
 static dwframe_stop stop_here(void)
 {
     for (uint16_t i = 0; i < GIVEN; i++)
-        registers[i] = (dwframe_register){i, 1, 0x7000};
-    return (dwframe_stop){address, 100, size, order, DWFRAME_UNSET_UNCHANGED};
+        registers[i] = (dwframe_register){i, 1, 0, 0x7000};
+    return (dwframe_stop){address, 100, DWFRAME_UNSET_UNCHANGED, 0};
 }
 
 static dwframe_status call_unwind(void)
 {
     dwframe_stop stop = stop_here();
-    return dwframe_unwind(section, section_len, &stop, registers, GIVEN, windows, WINDOWS, memory, sizeof memory, rooms.registers,
-        REGISTERS, &told.frame, &told.refusal, &told.fault);
+    return dwframe_unwind(
+        &section, &stop, &machine, rooms.registers, REGISTERS, &told.frame, &told.refusal, &told.fault);
 }
 
 static dwframe_status call_unwind_at(void)
 {
     dwframe_stop stop = stop_here();
-    return dwframe_unwind_at(section, section_len, table, entries, &stop, registers, GIVEN, windows, WINDOWS, memory, sizeof memory,
-        rooms.registers, REGISTERS, &told.frame, &told.refusal, &told.fault);
+    return dwframe_unwind_at(&section, table, entries, &stop, &machine, rooms.registers, REGISTERS, &told.frame, &told.refusal,
+        &told.fault);
 }
 
 /* The same with no memory: the fault tells what was wanted. */
 static dwframe_status call_unwind_blind(void)
 {
     dwframe_stop stop = stop_here();
-    return dwframe_unwind_at(section, section_len, table, entries, &stop, registers, GIVEN, windows, 0, memory, 0, rooms.registers,
-        REGISTERS, &told.frame, &told.refusal, &told.fault);
+    dwframe_machine blind = dwframe_machine_of(registers, GIVEN, NULL, 0, NULL, 0);
+    return dwframe_unwind_at(
+        &section, table, entries, &stop, &blind, rooms.registers, REGISTERS, &told.frame, &told.refusal, &told.fault);
 }
 
 /* breg7 8; deref; plus: over what the stack begins with. */
 static dwframe_status call_evaluate(void)
 {
     static const uint8_t block[] = {0x77, 0x08, 0x06, 0x22};
-    dwframe_context context = {.start = 1, .steps = 100, .address_size = size, .byte_order = order, .has_start = 1};
+    dwframe_context context = {.start = 1, .steps = 100, .address_size = section.address_size, .byte_order = section.byte_order,
+        .has_start = 1};
     stop_here();
-    return dwframe_evaluate(block, sizeof block, &context, registers, GIVEN, windows, WINDOWS, memory, sizeof memory, &told.value,
-        &told.refusal, &told.fault);
+    return dwframe_evaluate(block, sizeof block, &context, &machine, &told.value, &told.refusal, &told.fault);
 }
 
 /* ---- each request refused */
@@ -186,26 +185,12 @@ static void stop_at(const char *name, const char *why)
     exit(1);
 }
 
-/* What stands between fields says nothing. */
-static void fill_padding(void *items, size_t count, size_t each, size_t from, size_t len)
+/* What stands behind the fields of an entry says nothing. */
+static void fill_padding(void)
 {
-    for (size_t i = 0; i < count; i++)
-        memset((uint8_t *)items + i * each + from, FILLED, len);
-}
-
-enum {
-    FRAME = offsetof(dwframe_frame, return_register) + 4,
-    FAULT = offsetof(dwframe_fault, wanted) + 4,
-    ENTRY = offsetof(dwframe_entry, return_register) + 2
-};
-
-static void fill_all_padding(void)
-{
-    fill_padding(rooms.entries, ENTRIES, sizeof(dwframe_entry), ENTRY, sizeof(dwframe_entry) - ENTRY);
-    fill_padding(rooms.blocks, BLOCKS, sizeof(dwframe_block), 4, offsetof(dwframe_block, place) - 4);
-    fill_padding(rooms.registers, REGISTERS, sizeof(dwframe_register), 4, offsetof(dwframe_register, value) - 4);
-    fill_padding(&told.frame, 1, sizeof told.frame, FRAME, sizeof told.frame - FRAME);
-    fill_padding(&told.fault, 1, sizeof told.fault, FAULT, sizeof told.fault - FAULT);
+    size_t end = offsetof(dwframe_entry, return_register) + sizeof(uint16_t);
+    for (size_t i = 0; i < ENTRIES; i++)
+        memset((uint8_t *)&rooms.entries[i] + end, FILLED, sizeof(dwframe_entry) - end);
 }
 
 static dwframe_status made(dwframe_status (*call)(void), unsigned long number, const char *name)
@@ -218,7 +203,7 @@ static dwframe_status made(dwframe_status (*call)(void), unsigned long number, c
     is_counted = 1;
     dwframe_status status = call();
     is_counted = 0;
-    fill_all_padding();
+    fill_padding();
     if (held)
         stop_at(name, "a block is not given back");
     return status;
@@ -238,8 +223,8 @@ static int is_nothing(int has_rows, int has_changes)
     int zero = is_all(&told.refusal, sizeof told.refusal, 0);
     const void *parts[] = {&told.counts, &told.frame, &told.fault, &told.row, &told.blocks, &told.totals, &told.alike,
         &told.value, &told.number};
-    const size_t sizes[] = {sizeof told.counts, FRAME, FAULT, sizeof told.row, sizeof told.blocks, sizeof told.totals,
-        sizeof told.alike, sizeof told.value, sizeof told.number};
+    const size_t sizes[] = {sizeof told.counts, sizeof told.frame, sizeof told.fault, sizeof told.row, sizeof told.blocks,
+        sizeof told.totals, sizeof told.alike, sizeof told.value, sizeof told.number};
     for (size_t i = 0; i < sizeof sizes / sizeof *sizes - (has_rows ? 1 : 0); i++)
         zero &= is_all(parts[i], sizes[i], 0) || is_all(parts[i], sizes[i], FILLED);
     if (has_changes)
@@ -291,16 +276,16 @@ int main(int argc, char **argv)
         fprintf(stderr, "usage: refused SIZE ORDER FILE\n");
         return 3;
     }
-    section_len = fread(section, 1, sizeof section, file);
+    size_t len = fread(bytes, 1, sizeof bytes, file), normal_len;
     fclose(file);
-    size = (uint8_t)atoi(argv[1]);
-    order = !strcmp(argv[2], "big");
-    if (dwframe_index(section, section_len, size, order, table, ENTRIES, &entries, &told.refusal))
+    section = dwframe_section_of(bytes, len, (uint32_t)atoi(argv[1]), !strcmp(argv[2], "big"));
+    if (dwframe_index(&section, table, ENTRIES, &entries, &told.refusal))
         stop_at("dwframe_index", "no index");
     choose_addresses();
     /* What the section is compared with. */
-    if (dwframe_normalise(section, section_len, size, order, normal_form, sizeof normal_form, &normal_len, &told.refusal))
+    if (dwframe_normalise(&section, normal_form, sizeof normal_form, &normal_len, &told.refusal))
         stop_at("dwframe_normalise", "no normal form");
+    normal = dwframe_section_of(normal_form, normal_len, section.address_size, section.byte_order);
     each_refused("dwframe_check", call_check);
     each_refused("dwframe_normalise", call_normalise);
     each_refused("dwframe_same", call_same);

@@ -33,8 +33,9 @@ void *__wrap_realloc(void *at, size_t size)
 /* At most so many addresses of an FDE are looked up. */
 enum { BYTES = 1 << 24, RULES = 256, GIVEN = 32, TOLD = 64, REGISTERS = 512, LOOK_UPS = 4096 };
 
-static uint8_t section[BYTES], size, order;
-static size_t section_len, entries;
+static uint8_t bytes[BYTES];
+static dwframe_section section;
+static size_t entries;
 static dwframe_entry *table;
 static dwframe_refusal refusal;
 
@@ -61,7 +62,7 @@ static unsigned look_up(uint64_t address)
     static dwframe_rule rules[RULES];
     dwframe_row row;
     requests = 0;
-    dwframe_status status = dwframe_row_at(section, section_len, size, order, table, entries, address, rules, RULES, &row, &refusal);
+    dwframe_status status = dwframe_row_at(&section, table, entries, address, rules, RULES, &row, &refusal);
     return status == DWFRAME_OK ? below(&row, rules) : 0;
 }
 
@@ -71,16 +72,17 @@ static void unwind(uint64_t address)
     static const uint8_t memory[1 << 16];
     static dwframe_register registers[GIVEN], out[REGISTERS];
     for (uint16_t i = 0; i < GIVEN; i++)
-        registers[i] = (dwframe_register){i, 1, 0x10000};
+        registers[i] = (dwframe_register){i, 1, 0, 0x10000};
     dwframe_window window = {0x8000, 0, sizeof memory};
-    dwframe_stop stop = {address, 100, size, order, DWFRAME_UNSET_UNCHANGED};
+    dwframe_stop stop = {address, 100, DWFRAME_UNSET_UNCHANGED, 0};
+    dwframe_machine machine = {registers, GIVEN, &window, 1, memory, sizeof memory};
     dwframe_frame frame;
     dwframe_fault fault;
     look_up(address);
     unsigned long before = requests;
     requests = 0;
-    dwframe_status status = dwframe_unwind_at(section, section_len, table, entries, &stop, registers, GIVEN, &window, 1, memory,
-        sizeof memory, out, REGISTERS, &frame, &refusal, &fault);
+    dwframe_status status =
+        dwframe_unwind_at(&section, table, entries, &stop, &machine, out, REGISTERS, &frame, &refusal, &fault);
     if (status != DWFRAME_OK || frame.count > TOLD)
         return;
     frames++;
@@ -116,14 +118,13 @@ int main(int argc, char **argv)
         fprintf(stderr, "usage: requests SIZE ORDER FILE\n");
         return 3;
     }
-    section_len = fread(section, 1, sizeof section, file);
+    size_t len = fread(bytes, 1, sizeof bytes, file);
     fclose(file);
-    size = (uint8_t)atoi(argv[1]);
-    order = !strcmp(argv[2], "big");
-    if (dwframe_index_size(section, section_len, size, order, &entries, &refusal) != DWFRAME_OK)
+    section = dwframe_section_of(bytes, len, (uint32_t)atoi(argv[1]), !strcmp(argv[2], "big"));
+    if (dwframe_index_size(&section, &entries, &refusal) != DWFRAME_OK)
         return 2;
     table = malloc((entries + 1) * sizeof *table);
-    if (!table || dwframe_index(section, section_len, size, order, table, entries, &entries, &refusal) != DWFRAME_OK)
+    if (!table || dwframe_index(&section, table, entries, &entries, &refusal) != DWFRAME_OK)
         return 5;
     for (size_t i = 0; i < entries; i++)
         count(&table[i]);

@@ -137,7 +137,7 @@ else
     echo "scripts: what links libdwframe.a is left out, for it is not built"
 fi
 if command -v shellcheck >/dev/null; then
-    (cd "$root" && shellcheck check dwframe install library section .ci/run checks/*.sh) || fail "shellcheck has something to say"
+    (cd "$root" && shellcheck check dwframe install library section .ci/run checks/*.sh examples/make.sh completions/dwframe.bash) || fail "shellcheck has something to say"
 else
     echo "scripts: there is no shellcheck"
 fi

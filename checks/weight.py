@@ -16,18 +16,18 @@ import sys
 
 # Lines of sources, and of proofs.
 BUDGET = {
-    "dw_num": (1040, 1816),
-    "dw_op": (2835, 4784),
+    "dw_num": (1040, 1802),
+    "dw_op": (2495, 4643),
     "dw_eval": (1675, 1556),
-    "dw_cfa": (5765, 6124),
-    "dw_section": (3382, 5960),
+    "dw_cfa": (5677, 6037),
+    "dw_section": (3362, 5957),
     "dw_canon": (55, 4220),
-    "dw_normal": (4504, 5926),
+    "dw_normal": (3045, 3652),
     "dw_unwind": (1608, 2610),
     "dw_words": (984, 1310),
-    "dw_command": (2390, 2461),
+    "dw_command": (2391, 2453),
     "dwframe": (278, 0),
-    "dw_library": (2189, 922),
+    "dw_library": (2262, 968),
 }
 COLUMNS = ["sources", "functions", "public", "specs", "inner", "proofs", "longest"]
 FUNCTION = re.compile(r'^\s*(pub(?:\([a-z]+\))? )?(?:extern "C" )?fn ', re.M)

@@ -2,17 +2,17 @@
 
 _dwframe()
 {
-    local word=${COMP_WORDS[COMP_CWORD]} before=${COMP_WORDS[COMP_CWORD - 1]} subcommand= options i
-    [[ $word == = ]] && word=
+    local word=${COMP_WORDS[COMP_CWORD]} before=${COMP_WORDS[COMP_CWORD - 1]} subcommand='' options i
+    [[ $word == = ]] && word=''
     [[ $before == = ]] && before=${COMP_WORDS[COMP_CWORD - 2]}
     for ((i = 1; i < COMP_CWORD; i++)); do
         [[ ${COMP_WORDS[i]} == -* ]] || { subcommand=${COMP_WORDS[i]}; break; }
     done
     COMPREPLY=()
     case $before in
-        --size) COMPREPLY=($(compgen -W '4 8' -- "$word")); return ;;
-        --order) COMPREPLY=($(compgen -W 'little big' -- "$word")); return ;;
-        --default) COMPREPLY=($(compgen -W 'same undefined' -- "$word")); return ;;
+        --size) mapfile -t COMPREPLY < <(compgen -W '4 8' -- "$word"); return ;;
+        --order) mapfile -t COMPREPLY < <(compgen -W 'little big' -- "$word"); return ;;
+        --default) mapfile -t COMPREPLY < <(compgen -W 'same undefined' -- "$word"); return ;;
         --steps | --start | --cap) return ;;
     esac
     options='--size --order --help'
@@ -24,9 +24,9 @@ _dwframe()
         normal) options+=' --cap' ;;
     esac
     case $subcommand:$word in
-        *:-*) COMPREPLY=($(compgen -W "$options" -- "$word")) ;;
-        :* | help:*) COMPREPLY=($(compgen -W 'check rows at entries expr eval unwind normal same cost help' -- "$word")) ;;
-        *) COMPREPLY=($(compgen -f -- "$word")) ;;
+        *:-*) mapfile -t COMPREPLY < <(compgen -W "$options" -- "$word") ;;
+        :* | help:*) mapfile -t COMPREPLY < <(compgen -W 'check rows at entries expr eval unwind normal same cost help' -- "$word") ;;
+        *) mapfile -t COMPREPLY < <(compgen -f -- "$word") ;;
     esac
 }
 

@@ -74,19 +74,18 @@ static void make_index(struct module *module)
 {
     char name[DWFRAME_NAME_SIZE] = "";
     dwframe_refusal refusal;
-    const uint8_t *table = module->table.at;
-    size_t len = module->table.len;
-    dwframe_status status = dwframe_index_size(table, len, 8, DWFRAME_LITTLE, &module->entries, &refusal);
+    module->section = dwframe_section_of(module->table.at, module->table.len, 8, DWFRAME_LITTLE);
+    dwframe_status status = dwframe_index_size(&module->section, &module->entries, &refusal);
     if (status == DWFRAME_OK) {
         /* No pointer is null, also where there are no entries. */
         module->index = allocated(malloc((module->entries + 1) * sizeof *module->index));
-        status = dwframe_index(table, len, 8, DWFRAME_LITTLE, module->index, module->entries, &module->entries, &refusal);
+        status = dwframe_index(&module->section, module->index, module->entries, &module->entries, &refusal);
     }
     if (status == DWFRAME_OUT_OF_MEMORY)
         fail(5, "out of memory");
     if (status == DWFRAME_REFUSED) {
         dwframe_refusal_name(refusal.code, name, sizeof name);
-        snprintf(module->lacks, sizeof module->lacks, "the file's .debug_frame is refused: %s at 0x%" PRIx64, name, refusal.at);
+        snprintf(module->lacks, sizeof module->lacks, "the file's .debug_frame is refused: %s at 0x%zx", name, refusal.at);
     }
 }
 
@@ -94,15 +93,16 @@ static void make_index(struct module *module)
    fetched is not wanted again, so this ends. */
 static dwframe_status unwind(const struct module *module, const struct frame *frame, dwframe_frame *caller, dwframe_register *out)
 {
-    dwframe_stop stop = {.pc = frame->looked_up - module->bias, .steps = STEPS, .address_size = 8, .byte_order = DWFRAME_LITTLE,
-        .unset = DWFRAME_UNSET_UNCHANGED};
+    dwframe_stop stop = {.pc = frame->looked_up - module->bias, .steps = STEPS, .unset = DWFRAME_UNSET_UNCHANGED};
     dwframe_refusal refusal;
     dwframe_fault fault;
     dwframe_status status;
     int wants_memory;
     do {
-        status = dwframe_unwind_at(module->table.at, module->table.len, module->index, module->entries, &stop, frame->registers,
-            frame->count, core.windows, core.window_count, core.memory, core.memory_len, out, REGISTERS, caller, &refusal, &fault);
+        dwframe_machine machine = dwframe_machine_of(
+            frame->registers, frame->count, core.windows, core.window_count, core.memory, core.memory_len);
+        status = dwframe_unwind_at(
+            &module->section, module->index, module->entries, &stop, &machine, out, REGISTERS, caller, &refusal, &fault);
         wants_memory = status == DWFRAME_UNREADABLE || (status == DWFRAME_NO_VALUE && fault.kind == DWFRAME_FAULT_UNREADABLE);
     } while (wants_memory && fetch(&core, fault.address, fault.len));
     return status;
@@ -131,7 +131,7 @@ static const char *why(dwframe_status status)
 /* ---- a walk */
 
 /* A register of a frame, where its value is known. */
-static const dwframe_register *find_register(const struct frame *frame, uint32_t number)
+static const dwframe_register *find_register(const struct frame *frame, uint16_t number)
 {
     for (size_t i = 0; i < frame->count; i++) {
         if (frame->registers[i].number == number && frame->registers[i].known)
@@ -167,7 +167,7 @@ static void enter_thread(const struct thread *thread, struct frame *frame)
    so in the call: a call that never returns may be the last instruction of its function. Of the innermost frame it is the pc itself, and so it
    is of a frame that a signal has interrupted. That one is never reached here: what the handler returns to is a trampoline of the C library or
    of the kernel, and these have no .debug_frame. */
-static const char *enter_caller(struct frame *frame, uint64_t cfa, uint32_t return_register)
+static const char *enter_caller(struct frame *frame, uint64_t cfa, uint16_t return_register)
 {
     const dwframe_register *found = find_register(frame, return_register);
     if (!found)

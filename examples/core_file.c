@@ -149,7 +149,7 @@ void put_first(struct core *core, uint64_t address)
     }
 }
 
-static void add_window(struct core *core, uint64_t address, uint64_t place, uint64_t len)
+static void add_window(struct core *core, uint64_t address, size_t place, size_t len)
 {
     core->windows = grown(core->windows, core->window_count, sizeof *core->windows);
     core->windows[core->window_count++] = (dwframe_window){.address = address, .place = place, .len = len};
@@ -372,7 +372,7 @@ static struct bytes constant_at(const struct module *module, uint64_t address, u
     return (struct bytes){NULL, 0};
 }
 
-int fetch(struct core *core, uint64_t address, uint64_t len)
+int fetch(struct core *core, uint64_t address, size_t len)
 {
     const struct module *module = module_at(core, address);
     if (!module || core->fetches == FETCHES || len > FETCHED)
@@ -399,8 +399,6 @@ void read_core(struct core *core, const char *program, const char *path)
         fail(4, "cannot read %s", path);
     if (!read_elf(&core->elf) || core->elf.header.e_type != ET_CORE)
         fail(2, "%s is not a core file of 64 bits, little-endian", path);
-    /* No pointer is null, also where there are no windows. */
-    core->windows = grown(NULL, 0, sizeof *core->windows);
     for (size_t i = 0; next_segment(&core->elf, PT_LOAD, &i, &segment);)
         add_window(core, segment.p_vaddr, segment.p_offset, segment.p_filesz);
     for (size_t i = 0; next_segment(&core->elf, PT_NOTE, &i, &segment);)

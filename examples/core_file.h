@@ -29,8 +29,9 @@ struct module {
     const char *path;
     struct elf elf;
     uint64_t bias, begin, end;
-    /* The section .debug_frame, and its index. */
+    /* The section .debug_frame, where it stands and as the library takes it, and its index. */
     struct bytes table;
+    dwframe_section section;
     dwframe_entry *index;
     size_t entries;
     /* Why there is no index, or nothing. */
@@ -87,6 +88,6 @@ struct bytes memory_at(const struct core *core, uint64_t address, uint64_t len);
 void put_first(struct core *core, uint64_t address);
 
 /* Adds a window of bytes that none has, from the file that was mapped there. Answers whether it has them. */
-int fetch(struct core *core, uint64_t address, uint64_t len);
+int fetch(struct core *core, uint64_t address, size_t len);
 
 #endif

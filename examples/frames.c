@@ -18,7 +18,7 @@
 /* The room for the registers of a frame, for windows and for the bytes of memory. */
 enum { REGISTERS = 512, WINDOWS = 65536, MEMORY = 1 << 20 };
 
-struct machine {
+struct stopped {
     dwframe_register registers[REGISTERS];
     size_t register_count;
     dwframe_window windows[WINDOWS];
@@ -28,10 +28,9 @@ struct machine {
 };
 
 /* What the dump says; and what the walk gives: the registers of a frame, and the memory that it has given. */
-static struct machine dump, given;
+static struct stopped dump, given;
 static dwframe_stop stop;
-static uint8_t *section;
-static size_t section_len;
+static dwframe_section section;
 
 static int fail(int status, const char *text)
 {
@@ -58,14 +57,21 @@ static uint8_t *load(const char *path, size_t *len)
 
 /* ---- the dump: a line `pc V`, lines `rN V` and `mem V BYTES` */
 
-static void add_register(struct machine *machine, dwframe_register own)
+static void add_register(struct stopped *machine, dwframe_register own)
 {
     if (machine->register_count < REGISTERS)
         machine->registers[machine->register_count++] = own;
 }
 
+/* What a call needs to know of it. */
+static dwframe_machine lent(const struct stopped *machine)
+{
+    return dwframe_machine_of(machine->registers, machine->register_count, machine->windows, machine->window_count, machine->memory,
+        machine->memory_len);
+}
+
 /* Lets a window stand over the last `len` bytes of memory. Answers whether there was room. */
-static int add_window(struct machine *machine, uint64_t address, uint64_t len)
+static int add_window(struct stopped *machine, uint64_t address, size_t len)
 {
     if (machine->window_count == WINDOWS)
         return 0;
@@ -75,7 +81,7 @@ static int add_window(struct machine *machine, uint64_t address, uint64_t len)
 
 static void read_memory(uint64_t address, const char *digits)
 {
-    uint64_t len = 0;
+    size_t len = 0;
     unsigned byte;
     while (sscanf(digits, "%2x", &byte) == 1 && dump.memory_len < MEMORY) {
         dump.memory[dump.memory_len++] = (uint8_t)byte;
@@ -95,7 +101,7 @@ static int read_dump(const char *text)
         if (sscanf(line, "pc %" SCNx64, &stop.pc) == 1)
             has_pc = 1;
         else if (sscanf(line, "r%u %" SCNx64, &number, &value) == 2)
-            add_register(&dump, (dwframe_register){(uint16_t)number, 1, value});
+            add_register(&dump, (dwframe_register){.number = (uint16_t)number, .known = 1, .value = value});
         else if (sscanf(line, "mem %" SCNx64 " %n", &value, &digits) == 1 && digits)
             read_memory(value, line + digits);
     }
@@ -115,12 +121,12 @@ static int tell(dwframe_status status, const dwframe_refusal *refusal, const dwf
     switch (status) {
     case DWFRAME_REFUSED:
         dwframe_refusal_name(refusal->code, name, sizeof name);
-        fprintf(stderr, "refused: %s at 0x%" PRIx64 "\n", name, refusal->at);
+        fprintf(stderr, "refused: %s at 0x%zx\n", name, refusal->at);
         return 2;
     case DWFRAME_NO_FDE:
         return fail(2, "fault: NoFde");
     case DWFRAME_NO_VALUE:
-        fprintf(stderr, "fault: %s at %" PRIu64 " in %s\n", KINDS[fault->kind], fault->index, column);
+        fprintf(stderr, "fault: %s at %zu in %s\n", KINDS[fault->kind], fault->index, column);
         return 2;
     case DWFRAME_UNREADABLE:
     case DWFRAME_NO_REGISTER:
@@ -144,11 +150,11 @@ static int print_frame(void)
     dwframe_frame frame;
     dwframe_refusal refusal;
     dwframe_fault fault;
-    dwframe_status status = dwframe_unwind(section, section_len, &stop, dump.registers, dump.register_count, dump.windows,
-        dump.window_count, dump.memory, dump.memory_len, caller, REGISTERS, &frame, &refusal, &fault);
+    dwframe_machine machine = lent(&dump);
+    dwframe_status status = dwframe_unwind(&section, &stop, &machine, caller, REGISTERS, &frame, &refusal, &fault);
     if (status != DWFRAME_OK)
         return tell(status, &refusal, &fault);
-    printf("cfa 0x%" PRIx64 "\nra r%" PRIu32 "\n", frame.cfa, frame.return_register);
+    printf("cfa 0x%" PRIx64 "\nra r%u\n", frame.cfa, frame.return_register);
     for (size_t i = 0; i < frame.count; i++) {
         if (caller[i].known)
             printf("r%u 0x%" PRIx64 "\n", caller[i].number, caller[i].value);
@@ -165,19 +171,19 @@ static size_t entries;
 
 static dwframe_status make_index(dwframe_refusal *refusal)
 {
-    dwframe_status status = dwframe_index_size(section, section_len, stop.address_size, stop.byte_order, &entries, refusal);
+    dwframe_status status = dwframe_index_size(&section, &entries, refusal);
     if (status != DWFRAME_OK)
         return status;
     /* No pointer is null, also where there are no entries. */
     if (!(table = malloc((entries + 1) * sizeof *table)))
         return DWFRAME_OUT_OF_MEMORY;
-    return dwframe_index(section, section_len, stop.address_size, stop.byte_order, table, entries, &entries, refusal);
+    return dwframe_index(&section, table, entries, &entries, refusal);
 }
 
 /* Whether a read ends within the address space. What passes its end cannot be given. */
-static int is_in_space(uint64_t address, uint64_t len)
+static int is_in_space(uint64_t address, size_t len)
 {
-    uint64_t last = stop.address_size == 4 ? UINT32_MAX : UINT64_MAX;
+    uint64_t last = section.address_size == 4 ? UINT32_MAX : UINT64_MAX;
     return address <= last && len - 1 <= last - address;
 }
 
@@ -193,11 +199,11 @@ static int byte_at(uint64_t address)
 }
 
 /* Gives the bytes from an address on, if they are there. */
-static int fetch(uint64_t address, uint64_t len)
+static int fetch(uint64_t address, size_t len)
 {
     if (!is_in_space(address, len) || MEMORY - given.memory_len < len)
         return 0;
-    for (uint64_t i = 0; i < len; i++) {
+    for (size_t i = 0; i < len; i++) {
         int byte = byte_at(address + i);
         if (byte < 0)
             return 0;
@@ -216,10 +222,10 @@ static int wants_memory(dwframe_status status, const dwframe_fault *fault)
 static dwframe_status unwind(dwframe_frame *frame, dwframe_refusal *refusal, dwframe_fault *fault)
 {
     dwframe_status status;
-    do
-        status = dwframe_unwind_at(section, section_len, table, entries, &stop, given.registers, given.register_count, given.windows,
-            given.window_count, given.memory, given.memory_len, caller, REGISTERS, frame, refusal, fault);
-    while (wants_memory(status, fault) && fetch(fault->address, fault->len));
+    do {
+        dwframe_machine machine = lent(&given);
+        status = dwframe_unwind_at(&section, table, entries, &stop, &machine, caller, REGISTERS, frame, refusal, fault);
+    } while (wants_memory(status, fault) && fetch(fault->address, fault->len));
     return status;
 }
 
@@ -229,7 +235,7 @@ static int go_up(const dwframe_frame *frame, uint16_t stack_pointer, uint64_t *p
 {
     int found = 0;
     given.register_count = 0;
-    add_register(&given, (dwframe_register){stack_pointer, 1, frame->cfa});
+    add_register(&given, (dwframe_register){.number = stack_pointer, .known = 1, .value = frame->cfa});
     for (size_t i = 0; i < frame->count; i++) {
         if (caller[i].number == frame->return_register && caller[i].known) {
             *pc = caller[i].value;
@@ -269,23 +275,22 @@ static int walk(uint16_t stack_pointer)
 
 int main(int argc, char **argv)
 {
-    size_t text_len = 0;
+    size_t len = 0, text_len = 0;
     if (argc < 5 || argc > 6)
         return fail(3, "usage: frames 4|8 little|big FILE DUMP [N]");
-    stop.address_size = (uint8_t)atoi(argv[1]);
-    stop.byte_order = strcmp(argv[2], "big") ? DWFRAME_LITTLE : DWFRAME_BIG;
     stop.unset = DWFRAME_UNSET_UNCHANGED;
     stop.steps = 10000;
-    section = load(argv[3], &section_len);
+    uint8_t *bytes = load(argv[3], &len);
     char *text = (char *)load(argv[4], &text_len);
     int status;
-    if (!section || !text)
+    section = dwframe_section_of(bytes, len, (uint32_t)atoi(argv[1]), strcmp(argv[2], "big") ? DWFRAME_LITTLE : DWFRAME_BIG);
+    if (!bytes || !text)
         status = fail(4, "cannot read a file");
     else if (!read_dump(text))
         status = fail(2, "fault: NoPc");
     else
         status = argc == 6 ? walk((uint16_t)atoi(argv[5])) : print_frame();
-    free(section);
+    free(bytes);
     free(table);
     free(text);
     return status;

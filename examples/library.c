@@ -10,13 +10,6 @@
 
 #include "dwframe.h"
 
-struct section {
-    uint8_t *bytes;
-    size_t len;
-};
-
-static uint8_t address_size, byte_order;
-
 static int fail(int status, const char *text)
 {
     fprintf(stderr, "%s\n", text);
@@ -32,7 +25,7 @@ static int tell(dwframe_status status, const dwframe_refusal *refusal, int two)
     if (status != DWFRAME_REFUSED)
         return fail(5, "out of memory");
     dwframe_refusal_name(refusal->code, name, sizeof name);
-    fprintf(stderr, "refused: %s at 0x%llx", name, (unsigned long long)refusal->at);
+    fprintf(stderr, "refused: %s at 0x%zx", name, refusal->at);
     if (two)
         fprintf(stderr, " in %s", refusal->section == 1 ? "first" : "second");
     fprintf(stderr, "\n");
@@ -40,47 +33,44 @@ static int tell(dwframe_status status, const dwframe_refusal *refusal, int two)
 }
 
 /* The bytes of a file, at an address that is not null also where there are none. */
-static int load(const char *path, struct section *section)
+static uint8_t *load(const char *path, size_t *len)
 {
     size_t room = 1 << 16;
     FILE *file = fopen(path, "rb");
     if (!file)
-        return 0;
-    section->bytes = malloc(room);
-    section->len = 0;
-    while (section->bytes) {
-        section->len += fread(section->bytes + section->len, 1, room - section->len, file);
-        if (section->len < room)
+        return NULL;
+    uint8_t *bytes = malloc(room);
+    *len = 0;
+    while (bytes) {
+        *len += fread(bytes + *len, 1, room - *len, file);
+        if (*len < room)
             break;
-        uint8_t *more = realloc(section->bytes, room *= 2);
+        uint8_t *more = realloc(bytes, room *= 2);
         if (!more)
-            free(section->bytes);
-        section->bytes = more;
+            free(bytes);
+        bytes = more;
     }
     fclose(file);
-    return section->bytes != NULL;
+    return bytes;
 }
 
-static int check(struct section section)
+static int check(const dwframe_section *section)
 {
     dwframe_counts counts;
     dwframe_refusal refusal;
-    dwframe_status status = dwframe_check(section.bytes, section.len, address_size, byte_order, &counts, &refusal);
+    dwframe_status status = dwframe_check(section, &counts, &refusal);
     if (status != DWFRAME_OK)
         return tell(status, &refusal, 0);
-    printf("ok cies=%llu fdes=%llu bytes=%zu\n", (unsigned long long)counts.cies, (unsigned long long)counts.fdes,
-        section.len);
+    printf("ok cies=%zu fdes=%zu bytes=%zu\n", counts.cies, counts.fdes, section->len);
     return 0;
 }
 
 /* Asks with no room first, and then with what is needed. */
-static int normal(struct section section)
+static int normal(const dwframe_section *section)
 {
-    uint8_t none;
     size_t needed;
     dwframe_refusal refusal;
-    dwframe_status status =
-        dwframe_normalise(section.bytes, section.len, address_size, byte_order, &none, 0, &needed, &refusal);
+    dwframe_status status = dwframe_normalise(section, DWFRAME_NOT_NULL(uint8_t, NULL), 0, &needed, &refusal);
     if (status == DWFRAME_OK)
         return 0;
     if (status != DWFRAME_TOO_SHORT)
@@ -89,19 +79,18 @@ static int normal(struct section section)
     if (!out)
         return fail(5, "out of memory");
     size_t room = needed;
-    status = dwframe_normalise(section.bytes, section.len, address_size, byte_order, out, room, &needed, &refusal);
+    status = dwframe_normalise(section, out, room, &needed, &refusal);
     if (status == DWFRAME_OK)
         fwrite(out, 1, needed, stdout);
     free(out);
     return status == DWFRAME_OK ? 0 : tell(status, &refusal, 0);
 }
 
-static int same(struct section first, struct section second)
+static int same(const dwframe_section *first, const dwframe_section *second)
 {
     uint32_t alike;
     dwframe_refusal refusal;
-    dwframe_status status = dwframe_same(
-        first.bytes, first.len, second.bytes, second.len, address_size, byte_order, &alike, &refusal);
+    dwframe_status status = dwframe_same(first, second, &alike, &refusal);
     if (status != DWFRAME_OK)
         return tell(status, &refusal, 1);
     puts(alike ? "same" : "different");
@@ -110,23 +99,26 @@ static int same(struct section first, struct section second)
 
 int main(int argc, char **argv)
 {
-    struct section first = {0}, second = {0};
+    uint8_t *bytes = NULL, *other = NULL;
+    size_t len = 0, other_len = 0;
     const char *call = argc > 1 ? argv[1] : "";
     int two = !strcmp(call, "same");
     int status;
     if (argc != 5 + two)
         return fail(3, "usage: library check|normal|same 4|8 little|big FILE [FILE2]");
-    address_size = (uint8_t)atoi(argv[2]);
-    byte_order = !strcmp(argv[3], "big") ? DWFRAME_BIG : DWFRAME_LITTLE;
-    if (!load(argv[4], &first) || (two && !load(argv[5], &second))) {
-        free(first.bytes);
+    if (!(bytes = load(argv[4], &len)) || (two && !(other = load(argv[5], &other_len)))) {
+        free(bytes);
         return fail(4, "cannot read the file");
     }
+    uint32_t address_size = (uint32_t)atoi(argv[2]);
+    uint32_t byte_order = !strcmp(argv[3], "big") ? DWFRAME_BIG : DWFRAME_LITTLE;
+    dwframe_section first = dwframe_section_of(bytes, len, address_size, byte_order);
+    dwframe_section second = dwframe_section_of(other, other_len, address_size, byte_order);
     if (two)
-        status = same(first, second);
+        status = same(&first, &second);
     else
-        status = !strcmp(call, "normal") ? normal(first) : check(first);
-    free(first.bytes);
-    free(second.bytes);
+        status = !strcmp(call, "normal") ? normal(&first) : check(&first);
+    free(bytes);
+    free(other);
     return status;
 }

@@ -14,9 +14,8 @@
 /* A row has a rule for each of 65,536 registers at most; those of real programs have some twenty. */
 enum { RULES = 512, BYTES = 1 << 14, TEXT = 32 * RULES + 2 * BYTES, WORDS = 64, CHANGES = 1 << 12 };
 
-static uint8_t address_size, byte_order;
-static uint8_t *section;
-static size_t section_len, entries;
+static dwframe_section section;
+static size_t entries;
 static dwframe_entry *table;
 static uint8_t expressions[BYTES];
 static dwframe_block blocks[RULES];
@@ -55,7 +54,7 @@ static int tell(dwframe_status status, const dwframe_refusal *refusal)
     if (status != DWFRAME_REFUSED)
         return fail(5, "out of memory");
     dwframe_refusal_name(refusal->code, name, sizeof name);
-    fprintf(stderr, "refused: %s at 0x%" PRIx64 "\n", name, refusal->at);
+    fprintf(stderr, "refused: %s at 0x%zx\n", name, refusal->at);
     return 2;
 }
 
@@ -88,7 +87,7 @@ static void put_rule(char *text, const dwframe_rule *rule)
         sprintf(text, "cfa%+" PRId64, rule->offset);
         break;
     case DWFRAME_RULE_REGISTER:
-        sprintf(text, "r%" PRIu32, rule->other);
+        sprintf(text, "r%u", rule->other);
         break;
     case DWFRAME_RULE_EXPRESSION:
         *text++ = '[';
@@ -105,14 +104,14 @@ static void put_row(char *text, const dwframe_row *row, const dwframe_rule *rule
         sprintf(text, " cfa=r%u%+" PRId64, row->cfa_register, row->cfa_offset);
     else
         put_expression(text + sprintf(text, " cfa="), DWFRAME_COLUMN_CFA);
-    for (uint64_t i = 0; i < row->count; i++)
+    for (size_t i = 0; i < row->count; i++)
         put_rule(text + strlen(text), &rules[i]);
 }
 
 static int has_expression(const dwframe_row *row, const dwframe_rule *rules)
 {
     int found = row->cfa_kind == DWFRAME_CFA_EXPRESSION;
-    for (uint64_t i = 0; i < row->count; i++)
+    for (size_t i = 0; i < row->count; i++)
         found |= rules[i].kind == DWFRAME_RULE_EXPRESSION || rules[i].kind == DWFRAME_RULE_VAL_EXPRESSION;
     return found;
 }
@@ -123,8 +122,8 @@ static int put_text(uint64_t address, char *text, const dwframe_row *row, const 
     dwframe_refusal refusal;
     dwframe_status status = DWFRAME_OK;
     if (has_expression(row, rules))
-        status = dwframe_expressions_at(section, section_len, address_size, byte_order, table, entries, address, expressions, BYTES,
-            blocks, RULES, &all, &refusal);
+        status = dwframe_expressions_at(
+            &section, table, entries, address, expressions, BYTES, blocks, RULES, &all, &refusal);
     if (status != DWFRAME_OK)
         return tell(status, &refusal);
     put_row(text, row, rules);
@@ -132,10 +131,10 @@ static int put_text(uint64_t address, char *text, const dwframe_row *row, const 
 }
 
 /* The rows of an FDE from first to last, each with the rules of its registers. */
-static int print_changes(const dwframe_change *changes, const dwframe_rule *rules, uint64_t count)
+static int print_changes(const dwframe_change *changes, const dwframe_rule *rules, size_t count)
 {
     static char text[TEXT];
-    for (uint64_t i = 0; i < count; i++) {
+    for (size_t i = 0; i < count; i++) {
         int status = changes[i].row.count > RULES ? tell(DWFRAME_TOO_SHORT, NULL)
                                                   : put_text(changes[i].address, text, &changes[i].row, rules);
         if (status)
@@ -157,8 +156,8 @@ static int print_fde(const dwframe_entry *fde)
     printf("fde 0x%" PRIx64 " 0x", fde->begin);
     printf(last == UINT64_MAX ? "10000000000000000" : "%" PRIx64, last + 1);
     printf(" ra=r%u\n", fde->return_register);
-    dwframe_status status = dwframe_changes(section, section_len, address_size, byte_order, fde->begin, changes, CHANGES, rules,
-        16 * CHANGES, &needed, &refusal);
+    dwframe_status status =
+        dwframe_changes(&section, fde->begin, changes, CHANGES, rules, 16 * CHANGES, &needed, &refusal);
     return status == DWFRAME_OK ? print_changes(changes, rules, needed.changes) : tell(status, &refusal);
 }
 
@@ -193,8 +192,8 @@ static int print_these(char **words, size_t count)
     size_t done;
     for (size_t i = 0; i < count; i++)
         addresses[i] = strtoull(words[i], NULL, 0);
-    dwframe_status status = dwframe_rows_at(section, section_len, address_size, byte_order, addresses, count, rows, WORDS, rules,
-        WORDS * RULES, &done, &refusal);
+    dwframe_status status =
+        dwframe_rows_at(&section, addresses, count, rows, WORDS, rules, WORDS * RULES, &done, &refusal);
     return status == DWFRAME_OK ? print_rows(addresses, rows, rules, done) : tell(status, &refusal);
 }
 
@@ -202,13 +201,13 @@ static int print_these(char **words, size_t count)
 static int run(char **words, size_t count)
 {
     dwframe_refusal refusal;
-    dwframe_status status = dwframe_index_size(section, section_len, address_size, byte_order, &entries, &refusal);
+    dwframe_status status = dwframe_index_size(&section, &entries, &refusal);
     if (status != DWFRAME_OK)
         return tell(status, &refusal);
     table = malloc(entries * sizeof *table + 1);
     if (!table)
         return fail(5, "out of memory");
-    status = dwframe_index(section, section_len, address_size, byte_order, table, entries, &entries, &refusal);
+    status = dwframe_index(&section, table, entries, &entries, &refusal);
     if (status != DWFRAME_OK)
         return tell(status, &refusal);
     return count ? print_these(words, count) : print_all();
@@ -218,13 +217,14 @@ int main(int argc, char **argv)
 {
     if (argc < 4 || argc - 4 > WORDS)
         return fail(3, "usage: lookup 4|8 little|big FILE [ADDRESS..], of 64 addresses at most");
-    address_size = (uint8_t)atoi(argv[1]);
-    byte_order = strcmp(argv[2], "little") ? DWFRAME_BIG : DWFRAME_LITTLE;
-    section = load(argv[3], &section_len);
-    if (!section)
+    size_t len = 0;
+    uint8_t *bytes = load(argv[3], &len);
+    if (!bytes)
         return fail(4, "the file cannot be read");
+    uint32_t byte_order = strcmp(argv[2], "little") ? DWFRAME_BIG : DWFRAME_LITTLE;
+    section = dwframe_section_of(bytes, len, (uint32_t)atoi(argv[1]), byte_order);
     int status = run(argv + 4, (size_t)argc - 4);
     free(table);
-    free(section);
+    free(bytes);
     return status;
 }

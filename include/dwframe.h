@@ -11,12 +11,14 @@
  *
  * What a caller keeps:
  *
- * - No pointer is null, also where its length or its room is 0: give the address of any one item then.
+ * - No pointer is null, also where its length or its room is 0, and also in a struct. dwframe_section_of and dwframe_machine_of
+ *   take null with a length of 0, and DWFRAME_NOT_NULL makes of null a pointer that can be given with one.
  * - A pointer with a length, a count or a room behind it is to so many items of its type, one after another: bytes, addresses,
  *   entries, rules, rows, blocks, registers or windows. Together they have at most PTRDIFF_MAX bytes. A pointer without one is to
  *   one item. Each pointer is aligned as C aligns its type, also where there are no items.
  *   A `len` counts bytes and a `.._count` items that are given, a `.._room` those that fit where an answer is written. `needed` tells
  *   how many the answer has, also where the room is too short.
+ * - `reserved` is 0 where the library writes it, and is not looked at where it reads it: let it be 0.
  * - What a call reads does not change while it runs, and what it writes is read and written by nobody else. So what it writes
  *   shares no byte with what it reads, nor with anything else that it writes.
  * - Memory comes from the program's malloc, realloc and free, and is given back before a call returns. A program that brings its
@@ -26,6 +28,9 @@
  *
  * All else is answered: any bytes, any size, order, number and length of room have a status. No call keeps anything when it has
  * returned, so any number of threads may make calls at once.
+ *
+ * A DWARF number of a register is a uint16_t. A length, a count and a place in what is given is a size_t. What belongs to the machine
+ * that a section is of (addresses, how many of them there are, values, steps) is a uint64_t.
  */
 #ifndef DWFRAME_H
 #define DWFRAME_H
@@ -61,7 +66,7 @@ enum {
     /* malloc or realloc gave no memory. */
     DWFRAME_OUT_OF_MEMORY = 2,
     /* An address size other than 4 and 8, a byte order other than DWFRAME_LITTLE and DWFRAME_BIG, or another `unset` than
-       DWFRAME_UNSET_UNCHANGED and DWFRAME_UNSET_UNDEFINED. */
+       DWFRAME_UNSET_UNCHANGED and DWFRAME_UNSET_UNDEFINED; or two sections of different sizes or orders. */
     DWFRAME_BAD_ARGUMENT = 3,
     /* The room that is lent is too short; the call tells how much it needs. */
     DWFRAME_TOO_SHORT = 4,
@@ -82,7 +87,36 @@ enum {
 /* The order of the bytes of a number. */
 enum { DWFRAME_LITTLE = 0, DWFRAME_BIG = 1 };
 
-/* What is wrong with a section or an expression. The README says of each what it means, and which byte is named. */
+/* A section, and how its numbers are read. */
+typedef struct dwframe_section {
+    const uint8_t *bytes;
+    size_t len;
+    /* 4 or 8 (address_size of a CIE). */
+    uint32_t address_size;
+    /* DWFRAME_LITTLE or DWFRAME_BIG. */
+    uint32_t byte_order;
+} dwframe_section;
+
+/* A pointer, or where it is null one that is not, to no items of its type: DWFRAME_NOT_NULL(uint8_t, vector.data()). */
+#define DWFRAME_NOT_NULL(type, pointer) ((type *)dwframe_not_null(pointer))
+static inline void *dwframe_not_null(const void *pointer)
+{
+    static uint64_t none;
+    return pointer ? (void *)(uintptr_t)pointer : (void *)&none;
+}
+
+/* A section of `len` bytes. `bytes` may be null where `len` is 0. */
+static inline dwframe_section dwframe_section_of(const uint8_t *bytes, size_t len, uint32_t address_size, uint32_t byte_order)
+{
+    dwframe_section section;
+    section.bytes = DWFRAME_NOT_NULL(const uint8_t, bytes);
+    section.len = len;
+    section.address_size = address_size;
+    section.byte_order = byte_order;
+    return section;
+}
+
+/* What is wrong with a section or an expression. docs/REFUSALS.md says of each what it means, and which byte is named. */
 enum {
     DWFRAME_REFUSAL_TRUNCATED = 1, DWFRAME_REFUSAL_RESERVED_LENGTH = 2, DWFRAME_REFUSAL_ENTRY_PAST_END = 3,
     DWFRAME_REFUSAL_BAD_VERSION = 4, DWFRAME_REFUSAL_AUGMENTATION = 5, DWFRAME_REFUSAL_ADDRESS_SIZE = 6,
@@ -103,14 +137,14 @@ typedef struct dwframe_refusal {
     /* Which section: 1, or 2 for the second of two. Of an expression 1. */
     uint32_t section;
     /* The place of the first bad byte, counted from the first one of the section or of the expression. */
-    uint64_t at;
+    size_t at;
 } dwframe_refusal;
 
 /* How many common information entries (CIEs, whose CIE_id is all ones) and frame description entries (FDEs, each with the CIE_pointer
    of its CIE) a section has (DWARF 5, 6.4.1). */
 typedef struct dwframe_counts {
-    uint64_t cies;
-    uint64_t fdes;
+    size_t cies;
+    size_t fdes;
 } dwframe_counts;
 
 /* The room that each name of a status, a refusal or a fault fits into, with the zero byte behind it. */
@@ -120,8 +154,7 @@ typedef struct dwframe_counts {
  * Judges a section. DWFRAME_OK where it is well formed: its entries and their fields, all programs, a rule for the CFA at each
  * address that an FDE covers, and no two FDEs that share an address. DWFRAME_REFUSED with its first fault where it is not.
  */
-dwframe_status dwframe_check(const uint8_t *bytes, size_t len, uint8_t address_size, uint8_t byte_order,
-    dwframe_counts *counts, dwframe_refusal *refusal) DWFRAME_CALL;
+dwframe_status dwframe_check(const dwframe_section *section, dwframe_counts *counts, dwframe_refusal *refusal) DWFRAME_CALL;
 
 /*
  * Writes the name of a refusal's code, as `EntryPastEnd`, and a zero byte behind it, where both fit into the `name_room`
@@ -138,16 +171,16 @@ size_t dwframe_fault_name(uint32_t kind, char *name, size_t name_room) DWFRAME_N
  * say the same exactly where their normal forms are equal. DWFRAME_TOO_SHORT, with the length, where `out_room` is less; `out` stays
  * then, and where the section is refused. A normal form above 2147483647 bytes is refused.
  */
-dwframe_status dwframe_normalise(const uint8_t *bytes, size_t len, uint8_t address_size, uint8_t byte_order, uint8_t *out,
-    size_t out_room, size_t *needed, dwframe_refusal *refusal) DWFRAME_CALL;
+dwframe_status dwframe_normalise(const dwframe_section *section, uint8_t *out, size_t out_room, size_t *needed,
+    dwframe_refusal *refusal) DWFRAME_CALL;
 
 /*
  * Whether two sections say the same: the same FDEs with the same return address registers, and the same rules at each address
- * that they cover. `alike` is 1 where they do, and 0 where they do not. A section whose normal form is above 2147483647 bytes is
- * refused. FDEs that cover no address say nothing.
+ * that they cover. `alike` is 1 where they do, and 0 where they do not. Both have one address size and one byte order. A section
+ * whose normal form is above 2147483647 bytes is refused. FDEs that cover no address say nothing.
  */
-dwframe_status dwframe_same(const uint8_t *first, size_t first_len, const uint8_t *second, size_t second_len,
-    uint8_t address_size, uint8_t byte_order, uint32_t *alike, dwframe_refusal *refusal) DWFRAME_CALL;
+dwframe_status dwframe_same(const dwframe_section *first, const dwframe_section *second, uint32_t *alike,
+    dwframe_refusal *refusal) DWFRAME_CALL;
 
 /*
  * An entry of an index: an FDE's first address (initial_location), how many it covers (address_range), the place of its entry in
@@ -162,16 +195,15 @@ typedef struct dwframe_entry {
 } dwframe_entry;
 
 /* Writes to `needed` how many entries the index of a section has: one for each FDE that covers an address. The section is judged. */
-dwframe_status dwframe_index_size(const uint8_t *bytes, size_t len, uint8_t address_size, uint8_t byte_order, size_t *needed,
-    dwframe_refusal *refusal) DWFRAME_CALL;
+dwframe_status dwframe_index_size(const dwframe_section *section, size_t *needed, dwframe_refusal *refusal) DWFRAME_CALL;
 
 /*
  * Writes the index of a section to the front of the `index_room` entries at `index`, ascending by begin, and how many there are to
  * `needed`. DWFRAME_TOO_SHORT, with their number, where `index_room` is less; `index` stays then, and where the section is refused.
  * A room of as many entries as dwframe_check counts FDEs always does.
  */
-dwframe_status dwframe_index(const uint8_t *bytes, size_t len, uint8_t address_size, uint8_t byte_order, dwframe_entry *index,
-    size_t index_room, size_t *needed, dwframe_refusal *refusal) DWFRAME_CALL;
+dwframe_status dwframe_index(const dwframe_section *section, dwframe_entry *index, size_t index_room, size_t *needed,
+    dwframe_refusal *refusal) DWFRAME_CALL;
 
 /* How a register of the caller is found (DWARF 5, 6.4.1). CFA is the canonical frame address. */
 enum {
@@ -203,7 +235,8 @@ enum { DWFRAME_CFA_REGISTER = 1, DWFRAME_CFA_EXPRESSION = 2 };
 typedef struct dwframe_rule {
     uint16_t number;
     uint16_t kind;
-    uint32_t other;
+    uint16_t other;
+    uint16_t reserved;
     int64_t offset;
 } dwframe_rule;
 
@@ -215,7 +248,7 @@ typedef struct dwframe_row {
     /* The offset of DW_CFA_def_cfa, in bytes. */
     int64_t cfa_offset;
     /* How many registers have a rule. */
-    uint64_t count;
+    size_t count;
     /* DWFRAME_CFA_REGISTER, DWFRAME_CFA_EXPRESSION or 0. */
     uint32_t cfa_kind;
     /* The register of DW_CFA_def_cfa. */
@@ -234,9 +267,8 @@ typedef struct dwframe_row {
  * which dwframe_index wrote, the rules are those of the section. Any other index does no harm: what stands
  * at the entry's place is told if it is an FDE that covers the address, and else DWFRAME_BAD_INDEX or DWFRAME_REFUSED is answered.
  */
-dwframe_status dwframe_row_at(const uint8_t *bytes, size_t len, uint8_t address_size, uint8_t byte_order,
-    const dwframe_entry *index, size_t index_count, uint64_t address, dwframe_rule *rules, size_t rules_room, dwframe_row *row,
-    dwframe_refusal *refusal) DWFRAME_CALL;
+dwframe_status dwframe_row_at(const dwframe_section *section, const dwframe_entry *index, size_t index_count, uint64_t address,
+    dwframe_rule *rules, size_t rules_room, dwframe_row *row, dwframe_refusal *refusal) DWFRAME_CALL;
 
 /*
  * The rows of many addresses in any order, as of a profile: the section is judged once, as dwframe_check does, and then each address is
@@ -250,9 +282,8 @@ dwframe_status dwframe_row_at(const uint8_t *bytes, size_t len, uint8_t address_
  * DWFRAME_OUT_OF_MEMORY those before the address whose row needed it. With any other status it is 0, also with DWFRAME_TOO_SHORT
  * where `rows_room` is less than `address_count`. The rows behind the first `done` are left as they were.
  */
-dwframe_status dwframe_rows_at(const uint8_t *bytes, size_t len, uint8_t address_size, uint8_t byte_order,
-    const uint64_t *addresses, size_t address_count, dwframe_row *rows, size_t rows_room, dwframe_rule *rules, size_t rules_room,
-    size_t *done, dwframe_refusal *refusal) DWFRAME_CALL;
+dwframe_status dwframe_rows_at(const dwframe_section *section, const uint64_t *addresses, size_t address_count, dwframe_row *rows,
+    size_t rows_room, dwframe_rule *rules, size_t rules_room, size_t *done, dwframe_refusal *refusal) DWFRAME_CALL;
 
 /* A row of an FDE, and the first address that has it: the begin of the FDE, or one at which a rule is not that one address before. The
    row holds up to the address of the next one, or to the end of the FDE. */
@@ -263,8 +294,8 @@ typedef struct dwframe_change {
 
 /* How many rows an FDE has, and how many rules of registers they have together. Both are 0 where there is none. */
 typedef struct dwframe_totals {
-    uint64_t changes;
-    uint64_t rules;
+    size_t changes;
+    size_t rules;
 } dwframe_totals;
 
 /*
@@ -276,9 +307,8 @@ typedef struct dwframe_totals {
  * for each, of both as many as fit. `needed` says how many there are. DWFRAME_TOO_SHORT where either room has less: then give so much room,
  * and ask again. With DWFRAME_OUT_OF_MEMORY `needed` is 0, and what both buffers hold is not said.
  */
-dwframe_status dwframe_changes(const uint8_t *bytes, size_t len, uint8_t address_size, uint8_t byte_order, uint64_t address,
-    dwframe_change *changes, size_t changes_room, dwframe_rule *rules, size_t rules_room, dwframe_totals *needed,
-    dwframe_refusal *refusal) DWFRAME_CALL;
+dwframe_status dwframe_changes(const dwframe_section *section, uint64_t address, dwframe_change *changes, size_t changes_room,
+    dwframe_rule *rules, size_t rules_room, dwframe_totals *needed, dwframe_refusal *refusal) DWFRAME_CALL;
 
 /* The column of the CFA, beside the numbers of registers. */
 #define DWFRAME_COLUMN_CFA 65536
@@ -287,6 +317,7 @@ dwframe_status dwframe_changes(const uint8_t *bytes, size_t len, uint8_t address
 typedef struct dwframe_block {
     /* A register's number, or DWFRAME_COLUMN_CFA. */
     uint32_t column;
+    uint32_t reserved;
     /* Its first byte, counted from the buffer's first one, and how many bytes it has. */
     size_t place;
     size_t len;
@@ -309,9 +340,9 @@ typedef struct dwframe_blocks {
  * Both stay with each status but DWFRAME_OK. Rooms of 0 do for a row that has no expression. The index is taken as dwframe_row_at
  * takes it.
  */
-dwframe_status dwframe_expressions_at(const uint8_t *bytes, size_t len, uint8_t address_size, uint8_t byte_order,
-    const dwframe_entry *index, size_t index_count, uint64_t address, uint8_t *expressions, size_t expressions_room,
-    dwframe_block *blocks, size_t blocks_room, dwframe_blocks *needed, dwframe_refusal *refusal) DWFRAME_CALL;
+dwframe_status dwframe_expressions_at(const dwframe_section *section, const dwframe_entry *index, size_t index_count,
+    uint64_t address, uint8_t *expressions, size_t expressions_room, dwframe_block *blocks, size_t blocks_room,
+    dwframe_blocks *needed, dwframe_refusal *refusal) DWFRAME_CALL;
 
 /* What a register is taken as that no instruction has set: the ABI decides. */
 enum { DWFRAME_UNSET_UNCHANGED = 0, DWFRAME_UNSET_UNDEFINED = 1 };
@@ -323,27 +354,54 @@ typedef struct dwframe_stop {
     uint64_t pc;
     /* How many steps each expression may take. */
     uint64_t steps;
-    /* 4 or 8 (address_size). */
-    uint8_t address_size;
-    /* DWFRAME_LITTLE or DWFRAME_BIG. */
-    uint8_t byte_order;
     /* DWFRAME_UNSET_UNCHANGED or DWFRAME_UNSET_UNDEFINED. */
-    uint8_t unset;
+    uint32_t unset;
+    uint32_t reserved;
 } dwframe_stop;
 
 /* A register: its DWARF number, 1 where its value is known and 0 where it is not, and the value. */
 typedef struct dwframe_register {
     uint16_t number;
     uint16_t known;
+    uint32_t reserved;
     uint64_t value;
 } dwframe_register;
 
 /* `len` bytes of the machine's memory from `address` on. They stand in one buffer, from its byte `place` on. */
 typedef struct dwframe_window {
     uint64_t address;
-    uint64_t place;
-    uint64_t len;
+    size_t place;
+    size_t len;
 } dwframe_window;
+
+/*
+ * What a machine held: its registers, and windows over one buffer of its memory.
+ *
+ * If a register is given twice, its first known value is used. A byte of memory is that of the first window that covers its
+ * address. Windows may come in any order. What lies past the buffer's end is not there.
+ */
+typedef struct dwframe_machine {
+    const dwframe_register *registers;
+    size_t register_count;
+    const dwframe_window *windows;
+    size_t window_count;
+    const uint8_t *memory;
+    size_t memory_len;
+} dwframe_machine;
+
+/* A machine that held this. Each pointer may be null where what stands behind it is 0. */
+static inline dwframe_machine dwframe_machine_of(const dwframe_register *registers, size_t register_count, const dwframe_window *windows,
+    size_t window_count, const uint8_t *memory, size_t memory_len)
+{
+    dwframe_machine machine;
+    machine.registers = DWFRAME_NOT_NULL(const dwframe_register, registers);
+    machine.register_count = register_count;
+    machine.windows = DWFRAME_NOT_NULL(const dwframe_window, windows);
+    machine.window_count = window_count;
+    machine.memory = DWFRAME_NOT_NULL(const uint8_t, memory);
+    machine.memory_len = memory_len;
+    return machine;
+}
 
 /* A caller's frame. All are 0 where there is none. */
 typedef struct dwframe_frame {
@@ -352,7 +410,8 @@ typedef struct dwframe_frame {
     /* How many registers it has. */
     size_t count;
     /* The number of the register that holds the return address (return_address_register). */
-    uint32_t return_register;
+    uint16_t return_register;
+    uint16_t reserved[3];
 } dwframe_frame;
 
 /* What is wrong with an expression: the stack has too few entries, division by zero, a register is not given, a byte of memory is
@@ -370,25 +429,22 @@ typedef struct dwframe_fault {
     /* A register's number, or DWFRAME_COLUMN_CFA. Of dwframe_evaluate it is 0. */
     uint32_t column;
     /* Of an expression: one of DWFRAME_FAULT_.. */
-    uint32_t kind;
+    uint16_t kind;
+    /* Where a register is not given (DWFRAME_NO_REGISTER, DWFRAME_FAULT_NO_REGISTER): the DWARF number of the first one that was asked
+       for and is not given. It may be 0, so the status and `kind` say whether a register is wanted. */
+    uint16_t wanted;
     /* Of an expression: which operation, counted from 0, or how many there are for a fault at the end. */
-    uint64_t index;
+    size_t index;
     /* Where a byte is missing (DWFRAME_UNREADABLE, DWFRAME_FAULT_UNREADABLE): the first address of the first read that failed, and how
        many bytes it asked for, 1 to 8. Where `address` plus `len` is above 2^N, N being the bits of an address, the read passes the end
        of the address space, and no window helps. */
     uint64_t address;
-    uint64_t len;
-    /* Where a register is not given (DWFRAME_NO_REGISTER, DWFRAME_FAULT_NO_REGISTER): the DWARF number of the first one that was asked
-       for and is not given. It may be 0, so the status and `kind` say whether a register is wanted. */
-    uint32_t wanted;
+    size_t len;
 } dwframe_fault;
 
 /*
  * The caller's frame of a machine that stopped, by the rules of a section for the address `stop->pc`. The section is judged
  * first, as dwframe_check does.
- *
- * If a register is given twice, its first known value is used. A byte of memory is that of the first window that covers its
- * address. Windows may come in any order. What lies past the buffer's end is not there.
  *
  * With DWFRAME_OK the first `frame->count` of the `out_room` registers at `out` are the caller's, ascending: each that is given,
  * that the rules name, or that holds the return address. What leads from one frame to the next is the ABI's: the stack pointer is
@@ -397,8 +453,7 @@ typedef struct dwframe_fault {
  *
  * The number that DW_OP_addr pushes is taken as it stands in the section: no load bias is added to it.
  */
-dwframe_status dwframe_unwind(const uint8_t *bytes, size_t len, const dwframe_stop *stop, const dwframe_register *registers,
-    size_t register_count, const dwframe_window *windows, size_t window_count, const uint8_t *memory, size_t memory_len,
+dwframe_status dwframe_unwind(const dwframe_section *section, const dwframe_stop *stop, const dwframe_machine *machine,
     dwframe_register *out, size_t out_room, dwframe_frame *frame, dwframe_refusal *refusal, dwframe_fault *fault) DWFRAME_CALL;
 
 /*
@@ -414,10 +469,9 @@ dwframe_status dwframe_unwind(const uint8_t *bytes, size_t len, const dwframe_st
  * examples/frames.c has this loop. Registers are best given all at the start: one that no rule asks for is not wanted, and where it is
  * not given the caller's frame does not have it.
  */
-dwframe_status dwframe_unwind_at(const uint8_t *bytes, size_t len, const dwframe_entry *index, size_t index_count, const dwframe_stop *stop,
-    const dwframe_register *registers, size_t register_count, const dwframe_window *windows, size_t window_count,
-    const uint8_t *memory, size_t memory_len, dwframe_register *out, size_t out_room, dwframe_frame *frame, dwframe_refusal *refusal,
-    dwframe_fault *fault) DWFRAME_CALL;
+dwframe_status dwframe_unwind_at(const dwframe_section *section, const dwframe_entry *index, size_t index_count,
+    const dwframe_stop *stop, const dwframe_machine *machine, dwframe_register *out, size_t out_room, dwframe_frame *frame,
+    dwframe_refusal *refusal, dwframe_fault *fault) DWFRAME_CALL;
 
 /* What the stack of an expression begins with, and what it may ask for beside registers and memory (DWARF 5, 2.5.1). Each of the
    first four counts where the number that is named after it is not 0, and is taken modulo 2^N, N being the bits of an address. */
@@ -433,19 +487,18 @@ typedef struct dwframe_context {
     /* How many operations may be executed, those of a loop counted each time. */
     uint64_t steps;
     /* 4 or 8. */
-    uint8_t address_size;
+    uint32_t address_size;
     /* DWFRAME_LITTLE or DWFRAME_BIG. */
-    uint8_t byte_order;
+    uint32_t byte_order;
     uint8_t has_start;
     uint8_t has_frame_base;
     uint8_t has_cfa;
     uint8_t has_object;
-    /* 0. It is not looked at. */
-    uint16_t reserved;
+    uint32_t reserved;
 } dwframe_context;
 
 /*
- * The value of an expression by itself (DWARF 5, 2.5), over registers and memory as dwframe_unwind takes them: what is on top of the
+ * The value of an expression by itself (DWARF 5, 2.5), over the registers and the memory of a machine: what is on top of the
  * stack at its end, below 2^N. The expression is a block of `len` bytes, which may have all operations that a location description
  * has; one that describes a place (DW_OP_reg0, DW_OP_piece, DW_OP_stack_value and those like these) has no value.
  *
@@ -453,33 +506,96 @@ typedef struct dwframe_context {
  * none and why, and which byte or register was wanted, so that it can be given and asked again, as with dwframe_unwind_at. `value` is 0
  * with each status but DWFRAME_OK. The number that DW_OP_addr pushes is taken as it stands: no load bias is added to it.
  */
-dwframe_status dwframe_evaluate(const uint8_t *block, size_t len, const dwframe_context *context, const dwframe_register *registers,
-    size_t register_count, const dwframe_window *windows, size_t window_count, const uint8_t *memory, size_t memory_len,
+dwframe_status dwframe_evaluate(const uint8_t *block, size_t len, const dwframe_context *context, const dwframe_machine *machine,
     uint64_t *value, dwframe_refusal *refusal, dwframe_fault *fault) DWFRAME_CALL;
 
-/* The sizes that the library was built with, for compilers that can check them. */
+/* The sizes and places that the library was built with, for compilers that can check them. */
 #if defined(__cplusplus) && __cplusplus >= 201103L
-#define DWFRAME_HAS_SIZE(type, size) static_assert(sizeof(type) == size, "libdwframe.a has another size of " #type)
+#define DWFRAME_ASSERT(what, text) static_assert(what, text)
 #elif !defined(__cplusplus) && defined(__STDC_VERSION__) && __STDC_VERSION__ >= 201112L
-#define DWFRAME_HAS_SIZE(type, size) _Static_assert(sizeof(type) == size, "libdwframe.a has another size of " #type)
+#define DWFRAME_ASSERT(what, text) _Static_assert(what, text)
 #endif
-#ifdef DWFRAME_HAS_SIZE
+#ifdef DWFRAME_ASSERT
+#define DWFRAME_HAS_SIZE(type, size) DWFRAME_ASSERT(sizeof(type) == size, "libdwframe.a has another size of " #type)
+#define DWFRAME_HAS_PLACE(type, field, place) \
+    DWFRAME_ASSERT(offsetof(type, field) == place, "libdwframe.a has another place of " #field " in " #type)
+DWFRAME_HAS_SIZE(dwframe_section, 24);
+DWFRAME_HAS_PLACE(dwframe_section, len, 8);
+DWFRAME_HAS_PLACE(dwframe_section, address_size, 16);
+DWFRAME_HAS_PLACE(dwframe_section, byte_order, 20);
 DWFRAME_HAS_SIZE(dwframe_refusal, 16);
+DWFRAME_HAS_PLACE(dwframe_refusal, section, 4);
+DWFRAME_HAS_PLACE(dwframe_refusal, at, 8);
 DWFRAME_HAS_SIZE(dwframe_counts, 16);
+DWFRAME_HAS_PLACE(dwframe_counts, fdes, 8);
 DWFRAME_HAS_SIZE(dwframe_entry, 24);
+DWFRAME_HAS_PLACE(dwframe_entry, range, 8);
+DWFRAME_HAS_PLACE(dwframe_entry, at, 16);
+DWFRAME_HAS_PLACE(dwframe_entry, return_register, 20);
 DWFRAME_HAS_SIZE(dwframe_rule, 16);
+DWFRAME_HAS_PLACE(dwframe_rule, kind, 2);
+DWFRAME_HAS_PLACE(dwframe_rule, other, 4);
+DWFRAME_HAS_PLACE(dwframe_rule, reserved, 6);
+DWFRAME_HAS_PLACE(dwframe_rule, offset, 8);
 DWFRAME_HAS_SIZE(dwframe_row, 40);
+DWFRAME_HAS_PLACE(dwframe_row, range, 8);
+DWFRAME_HAS_PLACE(dwframe_row, cfa_offset, 16);
+DWFRAME_HAS_PLACE(dwframe_row, count, 24);
+DWFRAME_HAS_PLACE(dwframe_row, cfa_kind, 32);
+DWFRAME_HAS_PLACE(dwframe_row, cfa_register, 36);
+DWFRAME_HAS_PLACE(dwframe_row, return_register, 38);
 DWFRAME_HAS_SIZE(dwframe_change, 48);
+DWFRAME_HAS_PLACE(dwframe_change, row, 8);
 DWFRAME_HAS_SIZE(dwframe_totals, 16);
+DWFRAME_HAS_PLACE(dwframe_totals, rules, 8);
 DWFRAME_HAS_SIZE(dwframe_block, 24);
+DWFRAME_HAS_PLACE(dwframe_block, reserved, 4);
+DWFRAME_HAS_PLACE(dwframe_block, place, 8);
+DWFRAME_HAS_PLACE(dwframe_block, len, 16);
 DWFRAME_HAS_SIZE(dwframe_blocks, 16);
+DWFRAME_HAS_PLACE(dwframe_blocks, len, 8);
 DWFRAME_HAS_SIZE(dwframe_stop, 24);
+DWFRAME_HAS_PLACE(dwframe_stop, steps, 8);
+DWFRAME_HAS_PLACE(dwframe_stop, unset, 16);
+DWFRAME_HAS_PLACE(dwframe_stop, reserved, 20);
 DWFRAME_HAS_SIZE(dwframe_register, 16);
+DWFRAME_HAS_PLACE(dwframe_register, known, 2);
+DWFRAME_HAS_PLACE(dwframe_register, reserved, 4);
+DWFRAME_HAS_PLACE(dwframe_register, value, 8);
 DWFRAME_HAS_SIZE(dwframe_window, 24);
+DWFRAME_HAS_PLACE(dwframe_window, place, 8);
+DWFRAME_HAS_PLACE(dwframe_window, len, 16);
+DWFRAME_HAS_SIZE(dwframe_machine, 48);
+DWFRAME_HAS_PLACE(dwframe_machine, register_count, 8);
+DWFRAME_HAS_PLACE(dwframe_machine, windows, 16);
+DWFRAME_HAS_PLACE(dwframe_machine, window_count, 24);
+DWFRAME_HAS_PLACE(dwframe_machine, memory, 32);
+DWFRAME_HAS_PLACE(dwframe_machine, memory_len, 40);
 DWFRAME_HAS_SIZE(dwframe_frame, 24);
-DWFRAME_HAS_SIZE(dwframe_fault, 40);
-DWFRAME_HAS_SIZE(dwframe_context, 48);
+DWFRAME_HAS_PLACE(dwframe_frame, count, 8);
+DWFRAME_HAS_PLACE(dwframe_frame, return_register, 16);
+DWFRAME_HAS_PLACE(dwframe_frame, reserved, 18);
+DWFRAME_HAS_SIZE(dwframe_fault, 32);
+DWFRAME_HAS_PLACE(dwframe_fault, kind, 4);
+DWFRAME_HAS_PLACE(dwframe_fault, wanted, 6);
+DWFRAME_HAS_PLACE(dwframe_fault, index, 8);
+DWFRAME_HAS_PLACE(dwframe_fault, address, 16);
+DWFRAME_HAS_PLACE(dwframe_fault, len, 24);
+DWFRAME_HAS_SIZE(dwframe_context, 56);
+DWFRAME_HAS_PLACE(dwframe_context, frame_base, 8);
+DWFRAME_HAS_PLACE(dwframe_context, cfa, 16);
+DWFRAME_HAS_PLACE(dwframe_context, object, 24);
+DWFRAME_HAS_PLACE(dwframe_context, steps, 32);
+DWFRAME_HAS_PLACE(dwframe_context, address_size, 40);
+DWFRAME_HAS_PLACE(dwframe_context, byte_order, 44);
+DWFRAME_HAS_PLACE(dwframe_context, has_start, 48);
+DWFRAME_HAS_PLACE(dwframe_context, has_frame_base, 49);
+DWFRAME_HAS_PLACE(dwframe_context, has_cfa, 50);
+DWFRAME_HAS_PLACE(dwframe_context, has_object, 51);
+DWFRAME_HAS_PLACE(dwframe_context, reserved, 52);
 #undef DWFRAME_HAS_SIZE
+#undef DWFRAME_HAS_PLACE
+#undef DWFRAME_ASSERT
 #endif
 
 #ifdef __cplusplus

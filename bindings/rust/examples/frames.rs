@@ -42,11 +42,11 @@ impl Dump {
 
     fn add_memory(&mut self, text: &str) -> Option<()> {
         let (address, digits) = text.split_once(' ')?;
-        let place = self.memory.len() as u64;
+        let place = self.memory.len();
         for at in (0..digits.len()).step_by(2) {
             self.memory.push(u8::from_str_radix(digits.get(at..at + 2)?, 16).ok()?);
         }
-        let len = self.memory.len() as u64 - place;
+        let len = self.memory.len() - place;
         self.windows.push(Window { address: number(address)?, place, len });
         Some(())
     }

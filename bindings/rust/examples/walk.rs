@@ -31,7 +31,7 @@ struct Fetched {
 impl Fetched {
     /// Keeps bytes from an address on.
     fn keep(&mut self, address: u64, bytes: &[u8]) {
-        self.windows.push(Window { address, place: self.bytes.len() as u64, len: bytes.len() as u64 });
+        self.windows.push(Window { address, place: self.bytes.len(), len: bytes.len() });
         self.bytes.extend_from_slice(bytes);
     }
 }
@@ -62,8 +62,8 @@ fn frame_at<'o>(
             return Err(failure);
         };
         // A read that passes the end of the address space cannot be fetched.
-        let is_in_space = address.checked_add(len - 1).is_some();
-        let mut bytes = vec![0; len as usize];
+        let is_in_space = address.checked_add(len as u64 - 1).is_some();
+        let mut bytes = vec![0; len];
         if !is_in_space || !fetch(address, &mut bytes) {
             return Err(failure);
         }

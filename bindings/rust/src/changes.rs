@@ -56,7 +56,7 @@ impl<'o> Iterator for ChangeIter<'o> {
 
     fn next(&mut self) -> Option<(u64, Row<'o>)> {
         let Change(RawChange { address, row }) = self.changes.next()?;
-        let (own, behind) = self.rules.split_at(row.count as usize);
+        let (own, behind) = self.rules.split_at(row.count);
         self.rules = behind;
         Some((*address, row_of(row, own)))
     }
@@ -78,17 +78,16 @@ impl Section<'_> {
         changes: &'o mut [Change],
         rules: &'o mut [RegisterRule],
     ) -> Result<Changes<'o>, Failure> {
-        let (size, order) = self.target.numbers();
         let (mut needed, mut refusal) = (RawTotals::default(), RawRefusal::default());
-        let (bytes, len) = (self.bytes.as_ptr(), self.bytes.len());
+        let section = self.target.section(self.bytes);
         let (rows, rows_room) = (changes.as_mut_ptr().cast::<RawChange>(), changes.len());
         let (told, room) = (rules.as_mut_ptr().cast::<RawRule>(), rules.len());
         // SAFETY: all slices and both structs are lent for the call, and those that are written are ours alone. A change is a RawChange,
         // and a rule a RawRule.
         let status = unsafe {
-            dwframe_changes(bytes, len, size, order, address, rows, rows_room, told, room, &mut needed, &mut refusal)
+            dwframe_changes(&section, address, rows, rows_room, told, room, &mut needed, &mut refusal)
         };
-        let (count, rule_count) = (needed.changes as usize, needed.rules as usize);
+        let (count, rule_count) = (needed.changes, needed.rules);
         match answer(status, refusal, count) {
             Err(Failure::TooShort { .. }) => Err(Failure::ChangesTooShort { changes: count, rules: rule_count }),
             told => told.map(|()| Changes { changes: &changes[..count], rules: &rules[..rule_count] }),

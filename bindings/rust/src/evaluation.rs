@@ -44,24 +44,11 @@ pub fn evaluate(
         has_object: object.is_some().into(),
         reserved: 0,
     };
-    let (registers, windows, memory) = (machine.registers, machine.windows, machine.memory);
     let (mut value, mut refusal, mut fault) = Default::default();
     // SAFETY: all slices and structs are lent for the call, and those that are written are ours alone.
     let status = unsafe {
-        dwframe_evaluate(
-            block.as_ptr(),
-            block.len(),
-            &context,
-            registers.as_ptr(),
-            registers.len(),
-            windows.as_ptr(),
-            windows.len(),
-            memory.as_ptr(),
-            memory.len(),
-            &mut value,
-            &mut refusal,
-            &mut fault,
-        )
+        let (first, len) = (block.as_ptr(), block.len());
+        dwframe_evaluate(first, len, &context, &machine.raw(), &mut value, &mut refusal, &mut fault)
     };
     if let Some(fault) = expression_fault_of(status, fault) {
         return Err(fault);

@@ -13,7 +13,7 @@ pub enum Which {
     Second,
 }
 
-/// What is wrong with a section or with an expression. The README says of each what it means, and which byte is named.
+/// What is wrong with a section or with an expression. `docs/REFUSALS.md` says of each what it means, and which byte is named.
 #[derive(Clone, Copy, Debug, PartialEq, Eq, Hash)]
 #[non_exhaustive]
 pub enum Code {
@@ -87,7 +87,7 @@ pub struct Refusal {
     /// Which section is refused.
     pub which: Which,
     /// The place of the first bad byte.
-    pub at: u64,
+    pub at: usize,
 }
 
 impl fmt::Display for Refusal {
@@ -165,7 +165,7 @@ pub enum Wanted {
         /// The first address.
         address: u64,
         /// How many bytes.
-        len: u64,
+        len: usize,
     },
     /// A register by its number.
     Register(u16),
@@ -180,7 +180,7 @@ pub enum Fault {
         /// What is wrong.
         kind: Kind,
         /// Which operation, counted from 0, or how many there are for a fault at the end.
-        index: u64,
+        index: usize,
         /// The column.
         column: Column,
         /// What was wanted first, where a byte or a register is missing.
@@ -191,7 +191,7 @@ pub enum Fault {
         /// What is wrong.
         kind: Kind,
         /// Which operation, counted from 0, or how many there are for a fault at the end.
-        index: u64,
+        index: usize,
         /// What was wanted first, where a byte or a register is missing.
         wanted: Option<Wanted>,
     },
@@ -202,7 +202,7 @@ pub enum Fault {
         /// The first address of the read.
         address: u64,
         /// How many bytes it asked for.
-        len: u64,
+        len: usize,
     },
     /// A register that is asked for is not given.
     NoRegister {
@@ -320,7 +320,7 @@ fn value_fault(fault: &RawFault) -> Option<(Kind, Option<Wanted>)> {
     let kind = kind_of(fault.kind)?;
     let wanted = match kind {
         Kind::Unreadable => Some(Wanted::Memory { address: fault.address, len: fault.len }),
-        Kind::NoRegister => Some(Wanted::Register(fault.wanted as u16)),
+        Kind::NoRegister => Some(Wanted::Register(fault.wanted)),
         _ => None,
     };
     Some((kind, wanted))
@@ -335,7 +335,7 @@ pub(crate) fn fault_of(status: u32, fault: RawFault) -> Option<Failure> {
             None => Failure::Unknown { status },
         },
         DWFRAME_UNREADABLE => Failure::Fault(Fault::Unreadable { column, address: fault.address, len: fault.len }),
-        DWFRAME_NO_REGISTER => Failure::Fault(Fault::NoRegister { column, register: fault.wanted as u16 }),
+        DWFRAME_NO_REGISTER => Failure::Fault(Fault::NoRegister { column, register: fault.wanted }),
         _ => return None,
     })
 }
@@ -384,7 +384,7 @@ fn code_of(code: u32) -> Option<Code> {
     })
 }
 
-fn kind_of(kind: u32) -> Option<Kind> {
+fn kind_of(kind: u16) -> Option<Kind> {
     Some(match kind {
         DWFRAME_FAULT_STACK_UNDERFLOW => Kind::StackUnderflow,
         DWFRAME_FAULT_DIVIDE_BY_ZERO => Kind::DivideByZero,

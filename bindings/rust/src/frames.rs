@@ -2,7 +2,7 @@
 
 use crate::failure::{Failure, answer, fault_of};
 use crate::raw::*;
-use crate::{Index, Section, Target};
+use crate::{Index, Section};
 use core::fmt;
 
 /// What a register is taken as that no instruction has set: the ABI decides.
@@ -20,13 +20,14 @@ pub enum Unset {
 pub struct Register {
     number: u16,
     known: u16,
+    reserved: u32,
     value: u64,
 }
 
 impl Register {
     /// A register that holds a value.
     pub const fn new(number: u16, value: u64) -> Register {
-        Register { number, known: 1, value }
+        Register { number, known: 1, reserved: 0, value }
     }
 
     /// Its number.
@@ -47,9 +48,9 @@ pub struct Window {
     /// The first address.
     pub address: u64,
     /// Where its byte stands.
-    pub place: u64,
+    pub place: usize,
     /// How many bytes.
-    pub len: u64,
+    pub len: usize,
 }
 
 /// A machine that stopped.
@@ -63,6 +64,21 @@ pub struct Machine<'a> {
     pub windows: &'a [Window],
     /// The bytes of all windows.
     pub memory: &'a [u8],
+}
+
+impl Machine<'_> {
+    // What a call needs to know of it, which is lent as long as its slices are.
+    pub(crate) fn raw(&self) -> RawMachine {
+        let Machine { registers, windows, memory, .. } = *self;
+        RawMachine {
+            registers: registers.as_ptr(),
+            register_count: registers.len(),
+            windows: windows.as_ptr(),
+            window_count: windows.len(),
+            memory: memory.as_ptr(),
+            memory_len: memory.len(),
+        }
+    }
 }
 
 // The bytes of its memory are counted, and not printed.
@@ -93,14 +109,13 @@ impl Frame<'_> {
     }
 }
 
-// What a call of the library needs to know of a machine and of a target.
-fn stop_of(machine: &Machine<'_>, target: Target, unset: Unset, steps: u64) -> RawStop {
-    let (address_size, byte_order) = target.numbers();
+// What a call of the library needs to know of where a machine stopped.
+fn stop_of(machine: &Machine<'_>, unset: Unset, steps: u64) -> RawStop {
     let unset = match unset {
         Unset::Unchanged => DWFRAME_UNSET_UNCHANGED,
         Unset::Undefined => DWFRAME_UNSET_UNDEFINED,
     };
-    RawStop { pc: machine.pc, steps, address_size, byte_order, unset }
+    RawStop { pc: machine.pc, steps, unset, reserved: 0 }
 }
 
 // The frame, or why there is none.
@@ -111,12 +126,12 @@ fn frame_of<'o>(
     fault: RawFault,
     out: &'o [Register],
 ) -> Result<Frame<'o>, Failure> {
-    let RawFrame { cfa, count, return_register } = frame;
+    let RawFrame { cfa, count, return_register, .. } = frame;
     if let Some(fault) = fault_of(status, fault) {
         return Err(fault);
     }
     answer(status, refusal, count)?;
-    Ok(Frame { cfa, return_register: return_register as u16, registers: &out[..count] })
+    Ok(Frame { cfa, return_register, registers: &out[..count] })
 }
 
 impl Section<'_> {
@@ -130,27 +145,13 @@ impl Section<'_> {
         steps: u64,
         out: &'o mut [Register],
     ) -> Result<Frame<'o>, Failure> {
-        let stop = stop_of(machine, self.target, unset, steps);
-        let (registers, windows, memory) = (machine.registers, machine.windows, machine.memory);
+        let (stop, held) = (stop_of(machine, unset, steps), machine.raw());
+        let section = self.target.section(self.bytes);
         let (mut frame, mut refusal, mut fault) = Default::default();
         // SAFETY: all slices and structs are lent for the call, and those that are written are ours alone.
         let status = unsafe {
-            dwframe_unwind(
-                self.bytes.as_ptr(),
-                self.bytes.len(),
-                &stop,
-                registers.as_ptr(),
-                registers.len(),
-                windows.as_ptr(),
-                windows.len(),
-                memory.as_ptr(),
-                memory.len(),
-                out.as_mut_ptr(),
-                out.len(),
-                &mut frame,
-                &mut refusal,
-                &mut fault,
-            )
+            let (first, room) = (out.as_mut_ptr(), out.len());
+            dwframe_unwind(&section, &stop, &held, first, room, &mut frame, &mut refusal, &mut fault)
         };
         frame_of(status, frame, refusal, fault, out)
     }
@@ -166,28 +167,15 @@ impl Index<'_, '_> {
         steps: u64,
         out: &'o mut [Register],
     ) -> Result<Frame<'o>, Failure> {
-        let stop = stop_of(machine, self.target, unset, steps);
-        let (registers, windows, memory) = (machine.registers, machine.windows, machine.memory);
+        let (stop, held) = (stop_of(machine, unset, steps), machine.raw());
+        let section = self.target.section(self.bytes);
         let (mut frame, mut refusal, mut fault) = Default::default();
         // SAFETY: all slices and structs are lent for the call, and those that are written are ours alone.
         let status = unsafe {
+            let (entries, count) = (self.entries.as_ptr(), self.entries.len());
+            let (first, room) = (out.as_mut_ptr(), out.len());
             dwframe_unwind_at(
-                self.bytes.as_ptr(),
-                self.bytes.len(),
-                self.entries.as_ptr(),
-                self.entries.len(),
-                &stop,
-                registers.as_ptr(),
-                registers.len(),
-                windows.as_ptr(),
-                windows.len(),
-                memory.as_ptr(),
-                memory.len(),
-                out.as_mut_ptr(),
-                out.len(),
-                &mut frame,
-                &mut refusal,
-                &mut fault,
+                &section, entries, count, &stop, &held, first, room, &mut frame, &mut refusal, &mut fault,
             )
         };
         frame_of(status, frame, refusal, fault, out)

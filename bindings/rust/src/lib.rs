@@ -83,7 +83,13 @@ pub struct Target {
 }
 
 impl Target {
-    fn numbers(self) -> (u8, u8) {
+    // What a call needs to know of a section of these bytes, which is lent as long as they are.
+    fn section(self, bytes: &[u8]) -> RawSection {
+        let (address_size, byte_order) = self.numbers();
+        RawSection { bytes: bytes.as_ptr(), len: bytes.len(), address_size, byte_order }
+    }
+
+    fn numbers(self) -> (u32, u32) {
         let size = match self.size {
             Size::Four => 4,
             Size::Eight => 8,
@@ -100,9 +106,9 @@ impl Target {
 #[derive(Clone, Copy, Debug, PartialEq, Eq)]
 pub struct Counts {
     /// Common information entries, whose `CIE_id` is all ones (6.4.1).
-    pub cies: u64,
+    pub cies: usize,
     /// Frame description entries, each with a `CIE_pointer`.
-    pub fdes: u64,
+    pub fdes: usize,
 }
 
 /// A section that was checked.
@@ -125,12 +131,10 @@ impl fmt::Debug for Section<'_> {
 impl<'a> Section<'a> {
     /// The section of these bytes, where it is well formed, or its first fault.
     pub fn check(bytes: &'a [u8], target: Target) -> Result<Section<'a>, Failure> {
-        let (size, order) = target.numbers();
         let mut counts = RawCounts::default();
         let mut refusal = RawRefusal::default();
-        // SAFETY: both slices and both numbers are lent for the call, and those that are written are ours alone.
-        let status =
-            unsafe { dwframe_check(bytes.as_ptr(), bytes.len(), size, order, &mut counts, &mut refusal) };
+        // SAFETY: the bytes and the structs are lent for the call, and those that are written are ours alone.
+        let status = unsafe { dwframe_check(&target.section(bytes), &mut counts, &mut refusal) };
         answer(status, refusal, 0)?;
         let counts = Counts { cies: counts.cies, fdes: counts.fdes };
         Ok(Section { bytes, target, counts })
@@ -154,14 +158,12 @@ impl<'a> Section<'a> {
     /// Writes the normal form of the section to the front of `out`, and answers how many bytes it has. Where it does not fit,
     /// `Failure::TooShort` says how many are needed, and `out` stays. A normal form above 2147483647 bytes is refused.
     pub fn normalise(&self, out: &mut [u8]) -> Result<usize, Failure> {
-        let (size, order) = self.target.numbers();
         let mut needed = 0;
         let mut refusal = RawRefusal::default();
-        let (bytes, len, room) = (self.bytes.as_ptr(), self.bytes.len(), out.len());
-        // SAFETY: both slices and both numbers are lent for the call, and those that are written are ours alone.
-        let status = unsafe {
-            dwframe_normalise(bytes, len, size, order, out.as_mut_ptr(), room, &mut needed, &mut refusal)
-        };
+        let section = self.target.section(self.bytes);
+        // SAFETY: both slices and the structs are lent for the call, and those that are written are ours alone.
+        let status =
+            unsafe { dwframe_normalise(&section, out.as_mut_ptr(), out.len(), &mut needed, &mut refusal) };
         answer(status, refusal, needed)?;
         Ok(needed)
     }
@@ -185,14 +187,11 @@ impl<'a> Section<'a> {
 /// each address that they cover. `Refused` says which section is refused, the first one's fault before the second's. A section
 /// whose normal form is above 2147483647 bytes is refused too.
 pub fn same(first: &[u8], second: &[u8], target: Target) -> Result<bool, Failure> {
-    let (size, order) = target.numbers();
     let mut alike = 0;
     let mut refusal = RawRefusal::default();
-    let (a, b) = (first.as_ptr(), second.as_ptr());
-    // SAFETY: both slices and both numbers are lent for the call, and those that are written are ours alone.
-    let status = unsafe {
-        dwframe_same(a, first.len(), b, second.len(), size, order, &mut alike, &mut refusal)
-    };
+    let (first, second) = (target.section(first), target.section(second));
+    // SAFETY: both slices and the structs are lent for the call, and those that are written are ours alone.
+    let status = unsafe { dwframe_same(&first, &second, &mut alike, &mut refusal) };
     answer(status, refusal, 0)?;
     Ok(alike == 1)
 }

@@ -13,8 +13,8 @@ pub(crate) const DWFRAME_UNREADABLE: u32 = 7;
 pub(crate) const DWFRAME_NO_REGISTER: u32 = 8;
 pub(crate) const DWFRAME_BAD_INDEX: u32 = 10;
 
-pub(crate) const DWFRAME_LITTLE: u8 = 0;
-pub(crate) const DWFRAME_BIG: u8 = 1;
+pub(crate) const DWFRAME_LITTLE: u32 = 0;
+pub(crate) const DWFRAME_BIG: u32 = 1;
 
 pub(crate) const DWFRAME_REFUSAL_TRUNCATED: u32 = 1;
 pub(crate) const DWFRAME_REFUSAL_RESERVED_LENGTH: u32 = 2;
@@ -54,43 +54,60 @@ pub(crate) const DWFRAME_RULE_VAL_EXPRESSION: u16 = 7;
 pub(crate) const DWFRAME_CFA_REGISTER: u32 = 1;
 pub(crate) const DWFRAME_CFA_EXPRESSION: u32 = 2;
 
-pub(crate) const DWFRAME_UNSET_UNCHANGED: u8 = 0;
-pub(crate) const DWFRAME_UNSET_UNDEFINED: u8 = 1;
+pub(crate) const DWFRAME_UNSET_UNCHANGED: u32 = 0;
+pub(crate) const DWFRAME_UNSET_UNDEFINED: u32 = 1;
 
-pub(crate) const DWFRAME_FAULT_STACK_UNDERFLOW: u32 = 1;
-pub(crate) const DWFRAME_FAULT_DIVIDE_BY_ZERO: u32 = 2;
-pub(crate) const DWFRAME_FAULT_NO_REGISTER: u32 = 3;
-pub(crate) const DWFRAME_FAULT_UNREADABLE: u32 = 4;
-pub(crate) const DWFRAME_FAULT_STEP_LIMIT: u32 = 6;
-pub(crate) const DWFRAME_FAULT_EMPTY_RESULT: u32 = 7;
-pub(crate) const DWFRAME_FAULT_NOT_A_VALUE: u32 = 8;
-pub(crate) const DWFRAME_FAULT_NO_FRAME_BASE: u32 = 9;
-pub(crate) const DWFRAME_FAULT_NO_CFA: u32 = 10;
-pub(crate) const DWFRAME_FAULT_NO_OBJECT: u32 = 11;
-pub(crate) const DWFRAME_FAULT_MISSING_PIECE: u32 = 12;
+pub(crate) const DWFRAME_FAULT_STACK_UNDERFLOW: u16 = 1;
+pub(crate) const DWFRAME_FAULT_DIVIDE_BY_ZERO: u16 = 2;
+pub(crate) const DWFRAME_FAULT_NO_REGISTER: u16 = 3;
+pub(crate) const DWFRAME_FAULT_UNREADABLE: u16 = 4;
+pub(crate) const DWFRAME_FAULT_STEP_LIMIT: u16 = 6;
+pub(crate) const DWFRAME_FAULT_EMPTY_RESULT: u16 = 7;
+pub(crate) const DWFRAME_FAULT_NOT_A_VALUE: u16 = 8;
+pub(crate) const DWFRAME_FAULT_NO_FRAME_BASE: u16 = 9;
+pub(crate) const DWFRAME_FAULT_NO_CFA: u16 = 10;
+pub(crate) const DWFRAME_FAULT_NO_OBJECT: u16 = 11;
+pub(crate) const DWFRAME_FAULT_MISSING_PIECE: u16 = 12;
+
+#[repr(C)]
+pub(crate) struct RawSection {
+    pub(crate) bytes: *const u8,
+    pub(crate) len: usize,
+    pub(crate) address_size: u32,
+    pub(crate) byte_order: u32,
+}
+
+#[repr(C)]
+pub(crate) struct RawMachine {
+    pub(crate) registers: *const Register,
+    pub(crate) register_count: usize,
+    pub(crate) windows: *const Window,
+    pub(crate) window_count: usize,
+    pub(crate) memory: *const u8,
+    pub(crate) memory_len: usize,
+}
 
 #[repr(C)]
 #[derive(Clone, Copy, Default)]
 pub(crate) struct RawRefusal {
     pub(crate) code: u32,
     pub(crate) section: u32,
-    pub(crate) at: u64,
+    pub(crate) at: usize,
 }
 
 #[repr(C)]
 #[derive(Clone, Copy, Default)]
 pub(crate) struct RawCounts {
-    pub(crate) cies: u64,
-    pub(crate) fdes: u64,
+    pub(crate) cies: usize,
+    pub(crate) fdes: usize,
 }
 
 #[repr(C)]
 pub(crate) struct RawStop {
     pub(crate) pc: u64,
     pub(crate) steps: u64,
-    pub(crate) address_size: u8,
-    pub(crate) byte_order: u8,
-    pub(crate) unset: u8,
+    pub(crate) unset: u32,
+    pub(crate) reserved: u32,
 }
 
 #[repr(C)]
@@ -100,13 +117,13 @@ pub(crate) struct RawContext {
     pub(crate) cfa: u64,
     pub(crate) object: u64,
     pub(crate) steps: u64,
-    pub(crate) address_size: u8,
-    pub(crate) byte_order: u8,
+    pub(crate) address_size: u32,
+    pub(crate) byte_order: u32,
     pub(crate) has_start: u8,
     pub(crate) has_frame_base: u8,
     pub(crate) has_cfa: u8,
     pub(crate) has_object: u8,
-    pub(crate) reserved: u16,
+    pub(crate) reserved: u32,
 }
 
 #[repr(C)]
@@ -114,7 +131,8 @@ pub(crate) struct RawContext {
 pub(crate) struct RawFrame {
     pub(crate) cfa: u64,
     pub(crate) count: usize,
-    pub(crate) return_register: u32,
+    pub(crate) return_register: u16,
+    pub(crate) reserved: [u16; 3],
 }
 
 #[repr(C)]
@@ -122,7 +140,8 @@ pub(crate) struct RawFrame {
 pub(crate) struct RawRule {
     pub(crate) number: u16,
     pub(crate) kind: u16,
-    pub(crate) other: u32,
+    pub(crate) other: u16,
+    pub(crate) reserved: u16,
     pub(crate) offset: i64,
 }
 
@@ -132,7 +151,7 @@ pub(crate) struct RawRow {
     pub(crate) begin: u64,
     pub(crate) range: u64,
     pub(crate) cfa_offset: i64,
-    pub(crate) count: u64,
+    pub(crate) count: usize,
     pub(crate) cfa_kind: u32,
     pub(crate) cfa_register: u16,
     pub(crate) return_register: u16,
@@ -148,14 +167,15 @@ pub(crate) struct RawChange {
 #[repr(C)]
 #[derive(Clone, Copy, Default)]
 pub(crate) struct RawTotals {
-    pub(crate) changes: u64,
-    pub(crate) rules: u64,
+    pub(crate) changes: usize,
+    pub(crate) rules: usize,
 }
 
 #[repr(C)]
 #[derive(Clone, Copy, Debug, Default, PartialEq, Eq)]
 pub(crate) struct RawBlock {
     pub(crate) column: u32,
+    pub(crate) reserved: u32,
     pub(crate) place: usize,
     pub(crate) len: usize,
 }
@@ -171,52 +191,36 @@ pub(crate) struct RawBlocks {
 #[derive(Clone, Copy, Default)]
 pub(crate) struct RawFault {
     pub(crate) column: u32,
-    pub(crate) kind: u32,
-    pub(crate) index: u64,
+    pub(crate) kind: u16,
+    pub(crate) wanted: u16,
+    pub(crate) index: usize,
     pub(crate) address: u64,
-    pub(crate) len: u64,
-    pub(crate) wanted: u32,
+    pub(crate) len: usize,
 }
 
 unsafe extern "C" {
     pub(crate) fn dwframe_check(
-        bytes: *const u8,
-        len: usize,
-        address_size: u8,
-        byte_order: u8,
+        section: *const RawSection,
         counts: *mut RawCounts,
         refusal: *mut RawRefusal,
     ) -> u32;
     pub(crate) fn dwframe_normalise(
-        bytes: *const u8,
-        len: usize,
-        address_size: u8,
-        byte_order: u8,
+        section: *const RawSection,
         out: *mut u8,
         room: usize,
         needed: *mut usize,
         refusal: *mut RawRefusal,
     ) -> u32;
     pub(crate) fn dwframe_same(
-        first: *const u8,
-        first_len: usize,
-        second: *const u8,
-        second_len: usize,
-        address_size: u8,
-        byte_order: u8,
+        first: *const RawSection,
+        second: *const RawSection,
         alike: *mut u32,
         refusal: *mut RawRefusal,
     ) -> u32;
     pub(crate) fn dwframe_unwind(
-        bytes: *const u8,
-        len: usize,
+        section: *const RawSection,
         stop: *const RawStop,
-        registers: *const Register,
-        register_count: usize,
-        windows: *const Window,
-        window_count: usize,
-        memory: *const u8,
-        memory_len: usize,
+        machine: *const RawMachine,
         out: *mut Register,
         room: usize,
         frame: *mut RawFrame,
@@ -224,17 +228,11 @@ unsafe extern "C" {
         fault: *mut RawFault,
     ) -> u32;
     pub(crate) fn dwframe_unwind_at(
-        bytes: *const u8,
-        len: usize,
+        section: *const RawSection,
         index: *const Entry,
         entries: usize,
         stop: *const RawStop,
-        registers: *const Register,
-        register_count: usize,
-        windows: *const Window,
-        window_count: usize,
-        memory: *const u8,
-        memory_len: usize,
+        machine: *const RawMachine,
         out: *mut Register,
         room: usize,
         frame: *mut RawFrame,
@@ -245,39 +243,25 @@ unsafe extern "C" {
         block: *const u8,
         len: usize,
         context: *const RawContext,
-        registers: *const Register,
-        register_count: usize,
-        windows: *const Window,
-        window_count: usize,
-        memory: *const u8,
-        memory_len: usize,
+        machine: *const RawMachine,
         value: *mut u64,
         refusal: *mut RawRefusal,
         fault: *mut RawFault,
     ) -> u32;
     pub(crate) fn dwframe_index_size(
-        bytes: *const u8,
-        len: usize,
-        address_size: u8,
-        byte_order: u8,
+        section: *const RawSection,
         size: *mut usize,
         refusal: *mut RawRefusal,
     ) -> u32;
     pub(crate) fn dwframe_index(
-        bytes: *const u8,
-        len: usize,
-        address_size: u8,
-        byte_order: u8,
+        section: *const RawSection,
         index: *mut Entry,
         room: usize,
         written: *mut usize,
         refusal: *mut RawRefusal,
     ) -> u32;
     pub(crate) fn dwframe_row_at(
-        bytes: *const u8,
-        len: usize,
-        address_size: u8,
-        byte_order: u8,
+        section: *const RawSection,
         index: *const Entry,
         entries: usize,
         address: u64,
@@ -287,10 +271,7 @@ unsafe extern "C" {
         refusal: *mut RawRefusal,
     ) -> u32;
     pub(crate) fn dwframe_rows_at(
-        bytes: *const u8,
-        len: usize,
-        address_size: u8,
-        byte_order: u8,
+        section: *const RawSection,
         addresses: *const u64,
         count: usize,
         rows: *mut RawRow,
@@ -301,10 +282,7 @@ unsafe extern "C" {
         refusal: *mut RawRefusal,
     ) -> u32;
     pub(crate) fn dwframe_changes(
-        bytes: *const u8,
-        len: usize,
-        address_size: u8,
-        byte_order: u8,
+        section: *const RawSection,
         address: u64,
         changes: *mut RawChange,
         changes_room: usize,
@@ -314,10 +292,7 @@ unsafe extern "C" {
         refusal: *mut RawRefusal,
     ) -> u32;
     pub(crate) fn dwframe_expressions_at(
-        bytes: *const u8,
-        len: usize,
-        address_size: u8,
-        byte_order: u8,
+        section: *const RawSection,
         index: *const Entry,
         entries: usize,
         address: u64,

@@ -72,7 +72,7 @@ impl RegisterRule {
             DWFRAME_RULE_SAME_VALUE => Rule::SameValue,
             DWFRAME_RULE_OFFSET => Rule::Offset(offset),
             DWFRAME_RULE_VAL_OFFSET => Rule::ValOffset(offset),
-            DWFRAME_RULE_REGISTER => Rule::Register(other as u16),
+            DWFRAME_RULE_REGISTER => Rule::Register(other),
             DWFRAME_RULE_EXPRESSION => Rule::Expression,
             DWFRAME_RULE_VAL_EXPRESSION => Rule::ValExpression,
             // DWFRAME_RULE_UNDEFINED, or 0 where no look-up has written it.
@@ -99,12 +99,10 @@ pub struct Row<'a> {
 impl<'a> Section<'a> {
     /// How many entries the index of the section has.
     pub fn index_size(&self) -> Result<usize, Failure> {
-        let (size, order) = self.target.numbers();
         let (mut count, mut refusal) = (0, RawRefusal::default());
-        // SAFETY: the slice and both numbers are lent for the call, and those that are written are ours alone.
-        let status = unsafe {
-            dwframe_index_size(self.bytes.as_ptr(), self.bytes.len(), size, order, &mut count, &mut refusal)
-        };
+        let section = self.target.section(self.bytes);
+        // SAFETY: the slice and the structs are lent for the call, and those that are written are ours alone.
+        let status = unsafe { dwframe_index_size(&section, &mut count, &mut refusal) };
         answer(status, refusal, 0)?;
         Ok(count)
     }
@@ -165,7 +163,7 @@ impl<'o> Iterator for RowIter<'o> {
 
     fn next(&mut self) -> Option<Option<Row<'o>>> {
         let AddressRow(row) = self.rows.next()?;
-        let (own, behind) = self.rules.split_at(row.count as usize);
+        let (own, behind) = self.rules.split_at(row.count);
         self.rules = behind;
         Some((row.range > 0).then(|| row_of(row, own)))
     }
@@ -187,21 +185,18 @@ impl Section<'_> {
         rows: &'o mut [AddressRow],
         rules: &'o mut [RegisterRule],
     ) -> Result<Rows<'o>, Failure> {
-        let (size, order) = self.target.numbers();
         let (mut done, mut refusal) = (0, RawRefusal::default());
-        let (bytes, len) = (self.bytes.as_ptr(), self.bytes.len());
+        let section = self.target.section(self.bytes);
         let (asked, count) = (addresses.as_ptr(), addresses.len());
         let (out, rows_room) = (rows.as_mut_ptr().cast::<RawRow>(), rows.len());
         let (told, room) = (rules.as_mut_ptr().cast::<RawRule>(), rules.len());
         // SAFETY: all slices and both structs are lent for the call, and those that are written are ours alone. A row is a RawRow, and a
         // rule a RawRule.
         let status = unsafe {
-            dwframe_rows_at(
-                bytes, len, size, order, asked, count, out, rows_room, told, room, &mut done, &mut refusal,
-            )
+            dwframe_rows_at(&section, asked, count, out, rows_room, told, room, &mut done, &mut refusal)
         };
-        let all: u64 = rows[..done].iter().map(|row| row.0.count).sum();
-        let needed = if rows_room < count { count } else { all as usize };
+        let all = rows[..done].iter().map(|row| row.0.count).sum();
+        let needed = if rows_room < count { count } else { all };
         answer(status, refusal, needed)?;
         Ok(Rows { rows: &rows[..done], rules: &rules[..needed] })
     }
@@ -240,13 +235,11 @@ impl<'i, 'a> Index<'i, 'a> {
     /// it does not fit, `Failure::TooShort` says how many entries there are, and `out` stays. An FDE takes 16 bytes at least, so a room
     /// of `bytes.len() / 16` entries always does.
     pub fn make(bytes: &'a [u8], target: Target, out: &'i mut [Entry]) -> Result<Index<'i, 'a>, Failure> {
-        let (size, order) = target.numbers();
         let (mut count, mut refusal) = (0, RawRefusal::default());
-        let (first, len, room) = (bytes.as_ptr(), bytes.len(), out.len());
-        // SAFETY: both slices and both numbers are lent for the call, and those that are written are ours alone.
-        let status = unsafe {
-            dwframe_index(first, len, size, order, out.as_mut_ptr(), room, &mut count, &mut refusal)
-        };
+        let section = target.section(bytes);
+        // SAFETY: both slices and the structs are lent for the call, and those that are written are ours alone.
+        let status =
+            unsafe { dwframe_index(&section, out.as_mut_ptr(), out.len(), &mut count, &mut refusal) };
         answer(status, refusal, count)?;
         Ok(Index { bytes, target, entries: &out[..count] })
     }
@@ -265,17 +258,16 @@ impl<'i, 'a> Index<'i, 'a> {
     /// are where they do not fit, and then `out` has as many as do; `NoFde` that no entry covers the address; `BadIndex` that no
     /// FDE that covers it stands where the index leads; and `Refused` a fault of that FDE, of its CIE or of their programs.
     pub fn row_at<'o>(&self, address: u64, out: &'o mut [RegisterRule]) -> Result<Row<'o>, Failure> {
-        let (size, order) = self.target.numbers();
         let (mut row, mut refusal) = (RawRow::default(), RawRefusal::default());
-        let (bytes, len) = (self.bytes.as_ptr(), self.bytes.len());
+        let section = self.target.section(self.bytes);
         let (entries, count) = (self.entries.as_ptr(), self.entries.len());
         let (rules, room) = (out.as_mut_ptr().cast::<RawRule>(), out.len());
         // SAFETY: all slices and both structs are lent for the call, and those that are written are ours alone. A rule is a RawRule.
         let status = unsafe {
-            dwframe_row_at(bytes, len, size, order, entries, count, address, rules, room, &mut row, &mut refusal)
+            dwframe_row_at(&section, entries, count, address, rules, room, &mut row, &mut refusal)
         };
-        answer(status, refusal, row.count as usize)?;
-        Ok(row_of(&row, &out[..row.count as usize]))
+        answer(status, refusal, row.count)?;
+        Ok(row_of(&row, &out[..row.count]))
     }
 }
 
@@ -361,16 +353,15 @@ impl Index<'_, '_> {
         bytes: &'o mut [u8],
         blocks: &'o mut [Block],
     ) -> Result<Expressions<'o>, Failure> {
-        let (size, order) = self.target.numbers();
         let (mut all, mut refusal) = (RawBlocks::default(), RawRefusal::default());
-        let (section, len) = (self.bytes.as_ptr(), self.bytes.len());
+        let section = self.target.section(self.bytes);
         let (entries, count) = (self.entries.as_ptr(), self.entries.len());
         let (out, room) = (bytes.as_mut_ptr(), bytes.len());
         let (places, most) = (blocks.as_mut_ptr().cast::<RawBlock>(), blocks.len());
         // SAFETY: all slices and both structs are lent for the call, and those that are written are ours alone. A block is a RawBlock.
         let status = unsafe {
             dwframe_expressions_at(
-                section, len, size, order, entries, count, address, out, room, places, most, &mut all, &mut refusal,
+                &section, entries, count, address, out, room, places, most, &mut all, &mut refusal,
             )
         };
         match answer(status, refusal, all.count) {

@@ -175,7 +175,7 @@ fn tells_what_is_wanted_until_there_is_a_frame() {
             panic!("{fault} wants no memory");
         };
         reads.push((address, len));
-        windows.push(Window { address, place: address - WINDOWS[0].address, len });
+        windows.push(Window { address, place: (address - WINDOWS[0].address) as usize, len });
     }
     assert_eq!(reads, [(0x7ffe00, 8), (0x7ffe08, 8)]);
     let failure = index.unwind_at(&machine(&[]), Unset::Unchanged, 0, &mut []).err();

@@ -91,8 +91,8 @@ pub fn changes_text(alloc: Global, table: &Table<'_>) -> Result<String, Fail> {
     Ok(text)
 }
 
-// The first change of the FDE of an address, by both calls that go on in the room of changes of the section, and how many bytes
-// its own program and that of its CIE have, as the second says.
+// The first change of the FDE of an address, gone on to in the room of changes of the section, and how many bytes its own program
+// and that of its CIE have.
 fn opening_text<'a>(
     alloc: Global,
     table: &Table<'a>,
@@ -107,10 +107,7 @@ fn opening_text<'a>(
     };
     table.go_on(changes, fde);
     let first = next_given(alloc, changes)?;
-    let opening = table.go_on_opening(changes, fde);
-    if first != next_given(alloc, changes)? {
-        return Err(Fail::new("both calls differ"));
-    }
+    let opening = table.opening(fde);
     Ok(format!(in alloc;
         "{first} {} behind {}",
         opening.program.len(),

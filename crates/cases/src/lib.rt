@@ -16,6 +16,8 @@ mod programs;
 #[cfg(test)]
 mod register_sets;
 #[cfg(test)]
+mod room;
+#[cfg(test)]
 mod sections;
 #[cfg(test)]
 mod tables;

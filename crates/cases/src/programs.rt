@@ -1,15 +1,12 @@
 //! Two programs that are run: the rows that they give, and the first refusal.
 
-ghost use Rattle.std.specs.Prelude.{◌<◌, List};
+ghost use Rattle.std.specs.Prelude.{◌<◌};
 ghost use Rattle.dw_num.specs.Target.{address_limit};
-ghost use Rattle.dw_cfa.specs.Gives.{Gives};
-ghost use Rattle.dw_cfa.specs.RowSteps.{program_input};
-ghost use Rattle.dw_cfa.specs.declared.execution.LocatedRow.{LocatedRow as TheRow};
 
 use crate::lines::{compare, number, parts, sides};
 use crate::targets::{BIG, LITTLE, PLAIN, SHORT};
 use crate::texts::{located_text, refusal_text, row_text};
-use dw_cfa::{CieMachine, Factors, LocatedRow, RowRoom, RowSteps, RowWalk, run};
+use dw_cfa::{CieMachine, Factors, LocatedRow, RowSteps, RowWalk, run};
 use dw_num::{Program, ReadError, Target};
 use std::alloc::Global;
 use std::test::Fail;
@@ -438,70 +435,4 @@ fn asks_rows_for_the_cfa(rt: HostRuntime) -> Result<(), Fail> {
     agree_on_lacking(&mut machine)?;
     let initial = row_text(rt.alloc(), machine.initial())?;
     compare("the initial row", initial.as_str(), "cfa=unset")
-}
-
-// ---- room that is kept
-
-// The row of an address, in room for it.
-fn run_to(alloc: Global, pair: Pair<'_>, address: u64) -> Result<String, Fail> {
-    if address < pair.begin {
-        return Err(Fail::new("an address before all rows"));
-    }
-    let Pair { cie, fde, .. } = pair;
-    let mut room = RowRoom::new(alloc);
-    room.run_to(cie, fde, pair.begin, pair.factors, pair.target, address)?;
-    row_text(alloc, room.row())
-}
-
-// The first row of an FDE that a walk goes to and then goes on to, and whether it is the one that the walk kept at first.
-fn walked<'a>(alloc: Global, pair: Pair<'a>, walk: &mut RowWalk<'a>) -> Result<String, Fail>
-    requires { (rows : List TheRow) × Gives pair.factors (program_input pair.cie pair.target) (program_input pair.fde pair.target) pair.begin rows }
-{
-    walk.go_to(pair.cie, pair.fde, pair.begin, pair.factors, pair.target);
-    let _ = walk.advance()?;
-    walk.keep()?;
-    walk.go_on(pair.fde, pair.begin);
-    let _ = walk.advance()?;
-    let row = row_text(alloc, walk.row())?;
-    Ok(format!(in alloc; "{row} {}", walk.is_kept())?)
-}
-
-// Whether a walk keeps the CIE's row before its first one, that row, the row of an address, and where that ends.
-fn walked_to<'a>(
-    alloc: Global,
-    pair: Pair<'a>,
-    walk: &mut RowWalk<'a>,
-    address: u64,
-) -> Result<String, Fail>
-    requires { (rows : List TheRow) × Gives pair.factors (program_input pair.cie pair.target) (program_input pair.fde pair.target) pair.begin rows }
-{
-    walk.go_to(pair.cie, pair.fde, pair.begin, pair.factors, pair.target);
-    let is_kept = walk.keep_initial()?;
-    let initial = row_text(alloc, walk.kept())?;
-    walk.advance_to(address)?;
-    let row = row_text(alloc, walk.row())?;
-    Ok(format!(in alloc; "{is_kept} {initial}; {row} to {:?}", walk.next_start())?)
-}
-
-// The same of programs that are known to give rows, since they gave them once.
-fn walked_known(alloc: Global, pair: Pair<'_>) -> Result<String, Fail> {
-    let Pair { cie, fde, .. } = pair;
-    let _rows = run(alloc, cie, fde, pair.begin, pair.factors, pair.target)?;
-    let mut walk = RowWalk::new(alloc, pair.target);
-    let first = walked(alloc, pair, &mut walk)?;
-    let second = walked_to(alloc, pair, &mut walk, 0x1005)?;
-    Ok(format!(in alloc; "{first}; {second}")?)
-}
-
-#[test]
-fn keeps_room(rt: HostRuntime) -> Result<(), Fail> {
-    let pair = pair_of(CIE, b"\x0a\x0e\x10\x44\x0b\x44", 0x1000, PLAIN, LITTLE)?;
-    let row = run_to(rt.alloc(), pair, 0x1003)?;
-    compare("a row", row.as_str(), "cfa=r7+16 r16=[cfa-8]")?;
-    let text = walked_known(rt.alloc(), pair)?;
-    compare(
-        "a walk",
-        text.as_str(),
-        "cfa=r7+16 r16=[cfa-8] true; true cfa=r7+8 r16=[cfa-8]; cfa=r7+8 r16=[cfa-8] to Some(4104)",
-    )
 }

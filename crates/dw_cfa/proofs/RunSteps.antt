@@ -98,10 +98,6 @@ pub initial_left : (r : Result Rules Refusal) (go : Rules → Outcome) → (on_i
 initial_left (Ok row) go none = refl
 initial_left (Err r) go none = absurd cc
 
-pub begun_initial : (f : Factors) (cie fde : Input) (m : Machine) → (begun_rows f cie fde m).fault ≡ None → IsOk (initial_row (placed f cie) m.states.row)
-unfolding begun_rows
-begun_initial f cie fde m none = initial_left (initial_row (placed f cie) m.states.row) _ none
-
 pub begun_stuck : (f : Factors) (cie fde : Input) (m : Machine) (r : Refusal) → initial_row (placed f cie) m.states.row ≡ Err r → (begun_rows f cie fde m ≡ fails r) × (begun_stop f cie fde m ≡ m.location)
 unfolding begun_rows begun_stop
 begun_stuck f cie fde m r is = (rw is refl, rw is refl)

@@ -1,10 +1,9 @@
 -- Registers in slots: what is set in one register's slot is what setting that register leaves.
-use Rattle.dw_cfa.proofs.Words.{if◌then◌else◌, nat_lt, ◌≡◌, ◌⊎◌, Bool, true, false, inl, inr, cases_eq, cases_lt, ℕ, zero, suc, ◌+◌, ◌<◌, ◌≤◌, cond, Some, None, List, [], ◌∷◌, length, ◌++◌, length-append, get_or, refl, sym, ap, ◌∙◌, subst, arith, length-set, get_or-set_same}
+use Rattle.dw_cfa.proofs.Words.{if◌then◌else◌, nat_lt, ◌≡◌, ◌⊎◌, Bool, true, false, inl, inr, cases_eq, cases_lt, ℕ, zero, suc, ◌+◌, ◌<◌, ◌≤◌, cond, Some, None, List, [], ◌∷◌, length, get_or, refl, sym, ap, ◌∙◌, subst, arith, get_or-set_same}
 use Rattle.dw_cfa.proofs.Words.{get_or-set_other, nat_tests, IsTrue, nat_eq, ℤ, ◌-◌, ◌*◌, ◌/◌, ◌%◌, ◌^◌, bit_or, bit_and, bit_at, bit_not, trailing_zeros, w64, w128, Option, not, div-le_self, bit_at-zero, bit_at_above}
 use Rattle.dw_cfa.proofs.Words.{bit_at-trailing_zeros, bit_at_set_same, bit_at_set_other, bit_at_clear_other, bit_at_clear_same, bit_at_or, Entries, Kind, RegRule, Slot, Unspecified, is_specified, AreSpecified, HasFar, rule_in, listed, put}
-use Rattle.dw_cfa.proofs.Words.{EntriesSo, entries_of, kind_rule, slot_rule, slots_of, listed_from, listed_near, near_rule, no_slot, rule_if, FirstBit, FirstIn, HasRoom, Holds, HoldsRule, IsSlotOf}
+use Rattle.dw_cfa.proofs.Words.{EntriesSo, entries_of, kind_rule, slot_rule, listed_from, listed_near, near_rule, no_slot, rule_if, FirstBit, FirstIn, Holds, HoldsRule, IsSlotOf}
 use Rattle.std.proofs.Common.{set}
-use Rattle.std.proofs.lemmas.List.{get_or_append_left, get_or-append_right}
 use Rattle.std.proofs.lemmas.Nat.{one_shl, pow-add, pow_pos, shr-shr}
 use Rattle.std.proofs.lemmas.Nat.Bits.{bit_at-lt, bit_at_and, bit_at_cat_low, and_pow}
 use Rattle.dw_cfa.specs.declared.slot.Kind.TheVariants as kinds
@@ -42,13 +41,13 @@ module _ (f : ℕ → RegRule) (far : List Entry) (up : AreSpecified 128 far) wh
   far_is q le = grind (arith, nat_tests, row_rule q)
 
 pub entries_ascend : (e : Entries) → EntriesSo e → AreSpecified 0 (entries_of e)
-entries_ascend e so = slots_ascend (near_rule e.used (slots_of e) e.expressions.entries) e.far.entries so.far
+entries_ascend e so = slots_ascend (near_rule e.used e.slots e.expressions.entries) e.far.entries so.far
 
-pub slot_rule_is : (e : Entries) → EntriesSo e → (q : ℕ) → q < 128 → rule_in (entries_of e) q ≡ near_rule e.used (slots_of e) e.expressions.entries q
-slot_rule_is e so q lt = near_is (near_rule e.used (slots_of e) e.expressions.entries) e.far.entries so.far q lt
+pub slot_rule_is : (e : Entries) → EntriesSo e → (q : ℕ) → q < 128 → rule_in (entries_of e) q ≡ near_rule e.used e.slots e.expressions.entries q
+slot_rule_is e so q lt = near_is (near_rule e.used e.slots e.expressions.entries) e.far.entries so.far q lt
 
 pub behind_slots : (e : Entries) → EntriesSo e → (q : ℕ) → 128 ≤ q → rule_in (entries_of e) q ≡ rule_in e.far.entries q
-behind_slots e so q le = far_is (near_rule e.used (slots_of e) e.expressions.entries) e.far.entries so.far q le
+behind_slots e so q le = far_is (near_rule e.used e.slots e.expressions.entries) e.far.entries so.far q le
 
 -- an entry of the tree is a rule of the row
 pub has_far : (f : ℕ → RegRule) (far : List Entry) → AreSpecified 128 far → (far ≡ [] → ⊥) → HasFar (listed_from 0 128 f far)
@@ -92,14 +91,14 @@ set_rule used near expressions q one = ap (λ (n : ℕ). rule_if n (get_or near 
 
 -- a register whose bit is not set has no rule
 pub not_set : (e : Entries) → EntriesSo e → (q : ℕ) → q < 128 → bit_at e.used q ≡ 0 → rule_in (entries_of e) q ≡ Unspecified
-not_set e so q lt none = slot_rule_is e so q lt ∙ unset_rule e.used (slots_of e) e.expressions.entries q none
+not_set e so q lt none = slot_rule_is e so q lt ∙ unset_rule e.used e.slots e.expressions.entries q none
 
 -- and one whose bit is set has its slot's
-pub is_set : (e : Entries) → EntriesSo e → (q : ℕ) → q < 128 → bit_at e.used q ≡ 1 → rule_in (entries_of e) q ≡ slot_rule (get_or (slots_of e) q no_slot) (rule_in e.expressions.entries q)
-is_set e so q lt one = slot_rule_is e so q lt ∙ set_rule e.used (slots_of e) e.expressions.entries q one
+pub is_set : (e : Entries) → EntriesSo e → (q : ℕ) → q < 128 → bit_at e.used q ≡ 1 → rule_in (entries_of e) q ≡ slot_rule (get_or e.slots q no_slot) (rule_in e.expressions.entries q)
+is_set e so q lt one = slot_rule_is e so q lt ∙ set_rule e.used e.slots e.expressions.entries q one
 
 pub is_given : (e : Entries) → EntriesSo e → (q : ℕ) → q < 128 → bit_at e.used q ≡ 1 → IsTrue (is_specified (rule_in (entries_of e) q))
-is_given e so q lt one = subst (λ (rule : RegRule). IsTrue (is_specified rule)) (sym (slot_rule_is e so q lt)) (so.used q one).1
+is_given e so q lt one = subst (λ (rule : RegRule). IsTrue (is_specified rule)) (sym (slot_rule_is e so q lt)) (so.used q one)
 
 -- a test of the mask
 pub not_in : (n q : ℕ) (b : Bool) → b ≡ nat_eq (bit_at n q) 1 → b ≡ false → bit_at n q ≡ 0
@@ -107,9 +106,6 @@ not_in n q b is e = grind (arith, nat_tests, is, e, bit_at-lt n q)
 
 pub one_in : (n q : ℕ) (b : Bool) → b ≡ nat_eq (bit_at n q) 1 → b ≡ true → bit_at n q ≡ 1
 one_in n q b is e = grind (arith, nat_tests, is, e)
-
-pub so_room : (e : Entries) → EntriesSo e → (q : ℕ) (b : Bool) → b ≡ nat_eq (bit_at e.used q) 1 → b ≡ true → q < length (slots_of e)
-so_room e so q b is there = (so.used q (one_in e.used q b is there)).0
 
 -- no register is held by an empty mask
 pub none_hold : (near : List Slot) (expressions : List Entry) → Holds 0 near expressions
@@ -120,27 +116,7 @@ none_listed near expressions far none =
     let f = near_rule 0 near expressions in let e = ap (λ (l : List Entry). listed_from 0 128 f l) none in
     e ∙ same_entries 0 (listed_from 0 128 f []) [] (slots_ascend f [] tt) tt (λ q. row_rule f [] tt q ∙ grind (arith, nat_tests, unset_rule 0 near expressions q (bit_at-zero q)))
 
--- ---- room
-
-module _ (used : ℕ) (near near' : List Slot) (expressions : List Entry) (room : HasRoom near near') (holds : Holds used near expressions) where
-  pub room_rule : (q : ℕ) → near_rule used near' expressions q ≡ near_rule used near expressions q
-  room_rule q = grind (arith, nat_tests, bit_at-lt used q, λ (one : bit_at used q ≡ 1). room.kept q no_slot (holds q one).0)
-
-  pub room_holds : Holds used near' expressions
-  room_holds q one = (omega (arith, (holds q one).0, room.longer), subst (λ (rule : RegRule). IsTrue (is_specified rule)) (sym (room_rule q)) (holds q one).1)
-
--- more slots behind the first ones
-pub room_behind : (low high high' : List Slot) → HasRoom high high' → HasRoom (low ++ high) (low ++ high')
-room_behind low high high' room = record {
-  longer = omega (arith, length-append low high, length-append low high', room.longer);
-  kept = λ q d within. elim (cases_lt q (length low)) [
-    | inl lt ↦ get_or_append_left low high' d q lt ∙ sym (get_or_append_left low high d q lt)
-    | inr ge ↦
-        get_or-append_right low high' (length low) q d refl ge
-        ∙ room.kept (q - length low) d (omega (arith, within, length-append low high, ge))
-        ∙ sym (get_or-append_right low high (length low) q d refl ge)
-  ];
-}
+-- ---- one bit of a mask
 
 pub cases_bit : (n : ℕ) → n < 2 → (n ≡ 0) ⊎ (n ≡ 1)
 cases_bit n lt = elim (cases_eq n 0) [ inl e ↦ inl e | inr ne ↦ inr (grind (arith, ne, lt)) ]
@@ -193,10 +169,9 @@ module _ (used : ℕ) (near : List Slot) (expressions expressions' : List Entry)
 
   pub put_holds : Holds used near expressions → IsTrue (is_specified (slot_rule s (rule_in expressions' r))) → Holds (bit_or used b) (set near p s) expressions'
   put_holds holds given q one = elim (cases_eq q r) [
-    | inl e ↦ (omega (arith, e, room, length-set near p s), subst (λ (n : ℕ). IsTrue (is_specified (near_rule (bit_or used b) (set near p s) expressions' n))) (sym e) (subst (λ (rule : RegRule). IsTrue (is_specified rule)) (sym put_rule_is) given))
+    | inl e ↦ subst (λ (n : ℕ). IsTrue (is_specified (near_rule (bit_or used b) (set near p s) expressions' n))) (sym e) (subst (λ (rule : RegRule). IsTrue (is_specified rule)) (sym put_rule_is) given)
     | inr ne ↦
-        let was = holds q (sym (bit_set_other used r b lt bit q ne) ∙ one) in
-        (omega (arith, was.0, length-set near p s), subst (λ (rule : RegRule). IsTrue (is_specified rule)) (sym (other_rule_is q ne)) was.1)
+        subst (λ (rule : RegRule). IsTrue (is_specified rule)) (sym (other_rule_is q ne)) (holds q (sym (bit_set_other used r b lt bit q ne) ∙ one))
   ]
 
 -- ---- as the code sets them
@@ -214,10 +189,10 @@ own_rule : (k : Kind) (r : ℕ) (n : ℤ) (block : RegRule) → HoldsRule k r n 
 own_rule kinds.Expression r n block = tt
 own_rule k r n block = λ other. refl
 
-pub own_slot : (s : Slot) (block : RegRule) → IsSlotOf (slot_rule s block) s
-own_slot s block = own_rule s.kind s.register s.offset block
+module _ (e : Entries) (so : EntriesSo e) (r : ℕ) (s : Slot) (new : List Slot) (lt : r < 128) (b : ℕ) (bit : b ≡ 1 * 2 ^ r % 2 ^ 128) (stored : new ≡ set e.slots r s) where
+  room : r < length e.slots
+  room = omega (arith, lt, so.slots)
 
-module _ (e : Entries) (so : EntriesSo e) (r : ℕ) (s : Slot) (new : List Slot) (lt : r < 128) (b : ℕ) (bit : b ≡ 1 * 2 ^ r % 2 ^ 128) (room : r < length (slots_of e)) (stored : new ≡ set (slots_of e) r s) where
   abbrev with_bit : ℕ
   with_bit = bit_or e.used b
 
@@ -225,15 +200,15 @@ module _ (e : Entries) (so : EntriesSo e) (r : ℕ) (s : Slot) (new : List Slot)
   plain_put not rule is =
       let x = e.expressions.entries in
       ap (λ (l : List Slot). listed_near 0 with_bit l x e.far.entries) stored
-      ∙ rules_put (near_rule e.used (slots_of e) x) (near_rule with_bit (set (slots_of e) r s) x) e.far.entries so.far r rule lt
-      (put_rule_is e.used (slots_of e) x x r r s lt b bit refl room (λ q ne. refl) ∙ held_rule s.kind s.register s.offset rule not is (rule_in x r))
-      (λ q low. other_rule_is e.used (slots_of e) x x r r s lt b bit refl room (λ n ne. refl) q)
+      ∙ rules_put (near_rule e.used e.slots x) (near_rule with_bit (set e.slots r s) x) e.far.entries so.far r rule lt
+      (put_rule_is e.used e.slots x x r r s lt b bit refl room (λ q ne. refl) ∙ held_rule s.kind s.register s.offset rule not is (rule_in x r))
+      (λ q low. other_rule_is e.used e.slots x x r r s lt b bit refl room (λ n ne. refl) q)
 
   pub plain_holds : (s.kind ≡ kinds.Expression → ⊥) → Holds (bit_or e.used b) new e.expressions.entries
   plain_holds not =
       let x = e.expressions.entries in
       subst (λ (l : List Slot). Holds with_bit l x) (sym stored)
-      (put_holds e.used (slots_of e) x x r r s lt b bit refl room (λ q ne. refl) so.used (plain_given s.kind s.register s.offset (rule_in x r) not))
+      (put_holds e.used e.slots x x r r s lt b bit refl room (λ q ne. refl) so.used (plain_given s.kind s.register s.offset (rule_in x r) not))
 
   module _ (rule : RegRule) (expressions' : List Entry) (is : s.kind ≡ kinds.Expression) (put_in : expressions' ≡ put r rule e.expressions.entries) where
     others : (q : ℕ) → (q ≡ r → ⊥) → rule_in expressions' q ≡ rule_in e.expressions.entries q
@@ -246,14 +221,14 @@ module _ (e : Entries) (so : EntriesSo e) (r : ℕ) (s : Slot) (new : List Slot)
     expression_put =
         let x = e.expressions.entries in
         ap (λ (l : List Slot). listed_near 0 with_bit l expressions' e.far.entries) stored
-        ∙ rules_put (near_rule e.used (slots_of e) x) (near_rule with_bit (set (slots_of e) r s) expressions') e.far.entries so.far r rule lt
-        (put_rule_is e.used (slots_of e) x expressions' r r s lt b bit refl room others ∙ here)
-        (λ q low. other_rule_is e.used (slots_of e) x expressions' r r s lt b bit refl room others q)
+        ∙ rules_put (near_rule e.used e.slots x) (near_rule with_bit (set e.slots r s) expressions') e.far.entries so.far r rule lt
+        (put_rule_is e.used e.slots x expressions' r r s lt b bit refl room others ∙ here)
+        (λ q low. other_rule_is e.used e.slots x expressions' r r s lt b bit refl room others q)
 
     pub expression_holds : IsTrue (is_specified rule) → Holds (bit_or e.used b) new expressions'
     expression_holds given =
         subst (λ (l : List Slot). Holds with_bit l expressions') (sym stored)
-        (put_holds e.used (slots_of e) e.expressions.entries expressions' r r s lt b bit refl room others so.used (subst (λ (x : RegRule). IsTrue (is_specified x)) (sym here) given))
+        (put_holds e.used e.slots e.expressions.entries expressions' r r s lt b bit refl room others so.used (subst (λ (x : RegRule). IsTrue (is_specified x)) (sym here) given))
 
 -- ---- registers that are taken out of the mask
 
@@ -263,22 +238,21 @@ module _ (used used' : ℕ) (near : List Slot) (expressions : List Entry) (holds
   fewer_rule q one = set_rule used' near expressions q one ∙ sym (set_rule used near expressions q (fewer q one))
 
   pub fewer_holds : Holds used' near expressions
-  fewer_holds q one =
-      let was = holds q (fewer q one) in (was.0, subst (λ (rule : RegRule). IsTrue (is_specified rule)) (sym (fewer_rule q one)) was.1)
+  fewer_holds q one = subst (λ (rule : RegRule). IsTrue (is_specified rule)) (sym (fewer_rule q one)) (holds q (fewer q one))
 
 module _ (e : Entries) (so : EntriesSo e) (r : ℕ) (lt : r < 128) (b : ℕ) (bit : b ≡ 1 * 2 ^ r % 2 ^ 128) where
   abbrev dropped : ℕ
   dropped = bit_and e.used (bit_not w128 b)
 
-  pub dropped_put : listed_near 0 (bit_and e.used (bit_not w128 b)) (slots_of e) e.expressions.entries e.far.entries ≡ put r Unspecified (entries_of e)
+  pub dropped_put : listed_near 0 (bit_and e.used (bit_not w128 b)) e.slots e.expressions.entries e.far.entries ≡ put r Unspecified (entries_of e)
   dropped_put =
-      let x = e.expressions.entries in let near = (slots_of e) in
+      let x = e.expressions.entries in let near = e.slots in
       rules_put (near_rule e.used near x) (near_rule dropped near x) e.far.entries so.far r Unspecified lt (unset_rule dropped near x r (bit_clear_same e.used r b lt bit))
       (λ q low ne. ap (λ (n : ℕ). rule_if n (get_or near q no_slot) (rule_in x q)) (bit_clear_other e.used r b lt bit q low ne))
 
-  pub dropped_holds : Holds (bit_and e.used (bit_not w128 b)) (slots_of e) e.expressions.entries
+  pub dropped_holds : Holds (bit_and e.used (bit_not w128 b)) e.slots e.expressions.entries
   dropped_holds =
-      fewer_holds e.used dropped (slots_of e) e.expressions.entries so.used (λ q one. omega (arith, one, bit_at_and e.used (bit_not w128 b) q, bit_at-lt e.used q))
+      fewer_holds e.used dropped e.slots e.expressions.entries so.used (λ q one. omega (arith, one, bit_at_and e.used (bit_not w128 b) q, bit_at-lt e.used q))
 
 -- ---- the registers one after another
 
@@ -376,5 +350,5 @@ module _ (used : ℕ) (near : List Slot) (expressions far : List Entry) where
       let is : rule ≡ f r = e ∙ ap (λ (x : Slot). slot_rule x (rule_in expressions r)) at ∙ sym (set_rule used near expressions r first.2) in
       skipped k r first.0 (omega (arith, first.1)) first.3
       ∙ one_from r (128 - r) (128 - suc r) f far (omega (arith, first.1))
-      ∙ listed_is r (f r) (listed_from (suc r) (128 - suc r) f far) (holds r first.2).1
+      ∙ listed_is r (f r) (listed_from (suc r) (128 - suc r) f far) (holds r first.2)
       ∙ ap (λ (x : RegRule). (r, x) ∷ listed_from (suc r) (128 - suc r) f far) (sym is)

@@ -10,7 +10,7 @@ pub use Rattle.dw_cfa.specs.Inner.Agreement.{agreed, is_agreed, same_cfa, same_r
 pub use Rattle.dw_cfa.specs.Inner.Coverage.{is_unset, lacks_from, leaves_one}
 pub use Rattle.dw_cfa.specs.Inner.Difference.{SameUnset, start_behind}
 unfoldable pub use Rattle.dw_cfa.specs.Inner.Entries.{listed_from}
-pub use Rattle.dw_cfa.specs.Inner.Entries.{EntriesSo, FirstBit, FirstIn, HasRoom, Holds, HoldsRule, IsSlotOf, LeavesAmong, LeavesAt, LeavesBelow, entries_of, kind_rule, left, listed_near, near_rule, no_slot, rule_if, slot_rule, slots_of}
+pub use Rattle.dw_cfa.specs.Inner.Entries.{EntriesSo, FirstBit, FirstIn, Holds, HoldsRule, IsSlotOf, LeavesAmong, LeavesAt, LeavesBelow, entries_of, kind_rule, left, listed_near, near_rule, no_slot, rule_if, slot_rule}
 pub use Rattle.dw_cfa.specs.Inner.Exact.{BehindGives, BehindRefused, GivesRows, InitialLeaves, InitialRefused, LeavesInitial}
 unfoldable pub use Rattle.dw_cfa.specs.Inner.FrontInstr.{block_at, expression_in, instr_at}
 pub use Rattle.dw_cfa.specs.Inner.FrontInstr.{after_code, after_length, block_in, expression_of, form_at, judged, known_at, leaving, operand_at, then_operand, with_instr}
@@ -54,7 +54,7 @@ pub use Rattle.dw_cfa.specs.declared.machine.Machine.{Machine}
 pub use Rattle.dw_cfa.specs.declared.marks.Marks.{Marks}
 pub use Rattle.dw_cfa.specs.declared.opcode.Opcode.{Opcode}
 pub use Rattle.dw_cfa.specs.declared.opening.FirstRow.TheVariants.{CfaOffset, Initial, Other}
-pub use Rattle.dw_cfa.specs.declared.row.Entries.{Entries}
+pub use Rattle.dw_cfa.specs.declared.entries.Entries.{Entries}
 pub use Rattle.dw_cfa.specs.declared.row_walk.Leading.{Leading}
 pub use Rattle.dw_cfa.specs.declared.rule.CfaRule.{CfaRule}
 pub use Rattle.dw_cfa.specs.declared.rule.CfaRule.TheVariants.{Unset}

@@ -11,15 +11,14 @@ ghost use Rattle.dw_cfa.specs.Behind.{LeavesTo, RunsBehind};
 ghost use Rattle.dw_cfa.specs.Rows.{AreSpecified};
 ghost use Rattle.dw_cfa.specs.Runs.{finished};
 ghost use Rattle.dw_cfa.specs.Inner.Runs.{rows_behind};
-ghost use Rattle.dw_cfa.specs.RowSteps.{Advances, program_input, stepping};
+ghost use Rattle.dw_cfa.specs.RowSteps.{program_input, stepping};
 
 use crate::coverage::lacks_rule;
-use crate::execution::next_row;
 use crate::instr::Factors;
 use crate::machine::Machine;
 use crate::row::Row;
 use crate::states::States;
-use crate::steps::{Progress, initial_row, progress_after};
+use crate::steps::{Progress, initial_row};
 use dw_num::{Cursor, Program, ReadError, Target, are_bytes};
 use std::alloc::{AllocError, Global};
 use std::marker::Model;
@@ -84,6 +83,34 @@ impl<'a> CieMachine<'a> {
         })
     }
 
+    /// Runs another CIE's program (`initial_instructions`, 6.4.1) in the same room. No row is to come until an FDE's program begins.
+    /// Otherwise the first refusal, or want of memory (`OutOfMemory`), behind which a CIE's program has to run before anything
+    /// else is asked. Refusals are those of `initial_row`.
+    pub fn go_to(
+        &mut self,
+        cie_program: Program<'a>,
+        factors: Factors,
+        target: Target,
+    ) -> Result<(), ReadError>
+        ensures ok { OnOk result (LeavesTo factors (program_input cie_program.entry target) (Ok self.new.initial) × (self.new.factors ≡ factors) × (self.new.target ≡ target) × (self.new.steps ≡ stepping self.new.initial finished)) }
+        ensures err { IfErr result (Refuses (λ r. LeavesTo factors (program_input cie_program.entry target) (Err r))) }
+    {
+        self.progress = Progress::Finished;
+        self.factors = factors;
+        self.target = target;
+        let machine = &mut self.machine;
+        machine.states.untrack();
+        machine
+            .initial
+            .become_initial(cie_program, factors, target)?;
+        if machine.states.rewind(&machine.initial).is_err() {
+            machine.states.untrack();
+            return Err(ReadError::OutOfMemory);
+        }
+        machine.states.track(machine.initial.is_wide());
+        Ok(())
+    }
+
     /// The row that the CIE's program leaves (6.4.1, 6.4.3). `DW_CFA_restore` and `DW_CFA_restore_extended` give a register the
     /// rule that it has there (6.4.2.3).
     pub fn initial(&self) -> &Row<'a>
@@ -127,27 +154,6 @@ impl<'a> CieMachine<'a> {
         self.start(fde_program, begin)
     }
 
-    /// Goes on to the next row of the FDE (6.4.1, 6.4.3), which `row` lends then, and answers the location that it starts at, or
-    /// none behind the last row. No row is copied. An error is a refusal or `OutOfMemory`, and is answered from then on. A refusal
-    /// is one of `Instructions`, or `LocationBackwards` (14), `LocationTooLarge` (15), `EmptyStateStack` (16), `StateStackFull`
-    /// (17) or `CfaNotRegister` (18) at the opcode.
-    pub(crate) fn advance(&mut self) -> Result<Option<u128>, ReadError>
-        ensures advances { Advances self.old.steps result self.new.steps }
-        ensures same { self.new ≡ with_steps self.old self.new.steps }
-    {
-        match self.progress {
-            Progress::Running => {}
-            Progress::Begun | Progress::Finished => return Ok(None),
-            Progress::Failed(error) => return Err(error),
-        }
-        let answer = next_row(&mut self.fde, self.factors, &mut self.machine, false);
-        if answer.is_err() {
-            self.machine.states.untrack();
-        }
-        self.progress = progress_after(answer);
-        Ok(Some(answer?.0))
-    }
-
     /// Runs the program that began to its end, and says whether the rows still to come leave an address below the end without a
     /// rule for the CFA (6.4.1, 6.4.2.2). No row is to come then. An error is a refusal or `OutOfMemory`, and is answered from then
     /// on. A refusal is one of `Instructions`, or `LocationBackwards` (14), `LocationTooLarge` (15), `EmptyStateStack` (16),
@@ -176,12 +182,5 @@ impl<'a> CieMachine<'a> {
                 Err(error)
             }
         }
-    }
-
-    /// The row (6.4.1) that `advance` went on to.
-    pub(crate) fn row(&self) -> &Row<'a>
-        ensures { result.now ≡ self.now.steps.current }
-    {
-        self.machine.states.row()
     }
 }

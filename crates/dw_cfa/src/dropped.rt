@@ -6,7 +6,8 @@ ghost use Rattle.dw_cfa.specs.Inner.Entries.{EntriesSo, entries_of};
 ghost use Rattle.dw_cfa.specs.Inner.Rows.{put};
 ghost use Rattle.dw_cfa.specs.declared.rule.RegRule.TheVariants.{Unspecified};
 
-use crate::row::{Entries, NEAR, Row};
+use crate::entries::{Entries, NEAR};
+use crate::row::Row;
 
 impl<'a> Entries<'a> {
     // Takes a register out.

@@ -7,10 +7,11 @@ ghost use Rattle.dw_cfa.specs.Rows.{blank};
 ghost use Rattle.dw_cfa.specs.Inner.LookUp.{SpecifiesIn, kept_if, look_up_at};
 ghost use Rattle.dw_cfa.specs.Inner.Turns.{Did};
 
+use crate::entries::NEAR;
 use crate::keep::{Keep, not_register};
 use crate::machine::{End, refused};
 use crate::near_slots::is_in;
-use crate::row::{NEAR, Row};
+use crate::row::Row;
 use crate::rule::{CfaRule, RegRule};
 use dw_num::{Code, Refusal, Size};
 use dw_op::ExprRef;

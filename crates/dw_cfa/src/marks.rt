@@ -3,8 +3,8 @@
 ghost use Rattle.std.specs.Prelude.{◌≡◌, ◌≤◌, ℕ, [], IsTrue, OnErr, OnOk};
 ghost use Rattle.dw_cfa.specs.Inner.Marks.{IsAdded, MarksMore, MarksSo, Unmarked, marked};
 
+use crate::entries::NEAR;
 use crate::near_slots::bit_of;
-use crate::row::NEAR;
 use crate::rule::RegRule;
 use crate::tree::set_in_tree;
 use std::alloc::{AllocError, Global};

@@ -1,16 +1,14 @@
 //! Slots of registers under a mask: a slot that the mask has not is never read.
 
-ghost use Rattle.std.specs.Prelude.{◌≡◌, ◌<◌, ◌≤◌, ◌↔◌, ◌*◌, ◌^◌, ◌%◌, [], ◌∷◌, ◌++◌, false, IsTrue, MatchOption, OnOk, length, nat_eq};
+ghost use Rattle.std.specs.Prelude.{◌≡◌, ◌<◌, ◌≤◌, ◌↔◌, ◌*◌, ◌^◌, ◌%◌, [], ◌∷◌, false, IsTrue, MatchOption, length, nat_eq};
 ghost use Rattle.std.specs.Iterator.{YieldsFirst, item_count};
 ghost use Rattle.std.specs.Int.{bit_at};
-ghost use Rattle.std.proofs.Math.ListN.{get_or, set};
 ghost use Rattle.dw_cfa.specs.Rows.{rule_in};
-ghost use Rattle.dw_cfa.specs.Inner.Entries.{FindsNear, FirstBit, FirstIn, HasRoom, Holds, no_slot, slot_rule};
+ghost use Rattle.dw_cfa.specs.Inner.Entries.{FindsNear, FirstBit, FirstIn, Holds, slot_rule};
 
-use crate::row::{LOW, NEAR};
+use crate::entries::NEAR;
 use crate::rule::RegRule;
-use crate::slot::{Kind, Slot, UNWRITTEN, rule_of};
-use std::alloc::AllocError;
+use crate::slot::{Kind, Slot, rule_of};
 use std::collections::BTreeMap;
 use std::marker::Model;
 
@@ -83,62 +81,23 @@ pub(crate) fn next_in(mask: u128, place: u32) -> Option<u32>
     }
 }
 
-/// The slot of a register. Those below 32 have one each.
-#[inline(always)]
-pub(crate) fn slot_at(low: &[Slot; 32], high: &Vec<Slot>, register: u16) -> Slot
-    requires low { length low.now ≡ 32 }
-    requires room { register < length (low.now ++ high.now.items) }
-    ensures { result ≡ get_or (low.now ++ high.now.items) register no_slot }
-{
-    if register < LOW {
-        return low[usize::from(register)];
-    }
-    high[usize::from(register - LOW)]
-}
-
-/// Writes the slot of a register.
-#[inline(always)]
-pub(crate) fn put_at(low: &mut [Slot; 32], high: &mut Vec<Slot>, register: u16, slot: Slot)
-    requires low { length low.old ≡ 32 }
-    requires room { register < length (low.old ++ high.old.items) }
-    ensures low { length low.new ≡ 32 }
-    ensures slots { low.new ++ high.new.items ≡ set (low.old ++ high.old.items) register slot }
-{
-    if register < LOW {
-        low[usize::from(register)] = slot;
-        return;
-    }
-    high[usize::from(register - LOW)] = slot;
-}
-
-/// Makes room for one slot more, and for those before it.
-#[inline(never)]
-pub(crate) fn add_room(high: &mut Vec<Slot>, at: u16) -> Result<(), AllocError>
-    requires room { length high.old.items ≤ at }
-    ensures ok { OnOk result (at < length high.new.items) }
-    ensures kept { HasRoom high.old.items high.new.items }
-{
-    high.resize(usize::from(at) + 1, UNWRITTEN)
-}
-
 /// The first register from a place on that the mask has, and its rule.
 #[inline(always)]
 pub(crate) fn next_near<'a>(
     at: u16,
-    low: &[Slot; 32],
-    high: &Vec<Slot>,
+    slots: &[Slot; 128],
     used: u128,
     expressions: &BTreeMap<u16, RegRule<'a>>,
 ) -> Option<(u16, RegRule<'a>)>
-    requires low { length low.now ≡ 32 }
-    requires holds { Holds used (low.now ++ high.now.items) expressions.now.entries }
-    ensures { FindsNear result at used (low.now ++ high.now.items) expressions.now.entries }
+    requires slots { length slots.now ≡ 128 }
+    requires holds { Holds used slots.now expressions.now.entries }
+    ensures { FindsNear result at used slots.now expressions.now.entries }
 {
     let Some(next) = next_in(used, u32::from(at)) else {
         return None;
     };
     let register = next as u16;
-    let slot = slot_at(low, high, register);
+    let slot = slots[usize::from(register)];
     Some((register, rule_of(slot, expressions, register)))
 }
 
@@ -185,22 +144,21 @@ pub(crate) fn same_slots(
 #[derive(Drop)]
 pub struct NearRules<'r, 'a> {
     pub(crate) at: u16,
-    pub(crate) low: &'r [Slot; 32],
-    pub(crate) high: &'r Vec<Slot>,
+    pub(crate) slots: &'r [Slot; 128],
     pub(crate) used: u128,
     pub(crate) expressions: &'r BTreeMap<u16, RegRule<'a>>,
 }
 
 impl<'r, 'a> Model for NearRules<'r, 'a> {
-    ghost use Rattle.std.specs.Prelude.{◌≡◌, ◌++◌, List, [], ℕ, length};
+    ghost use Rattle.std.specs.Prelude.{◌≡◌, List, [], ℕ, length};
     ghost use Rattle.dw_cfa.specs.declared.rule.RegRule.{RegRule as Rule};
     ghost use Rattle.dw_cfa.specs.Inner.Entries.{listed_near, Holds};
 
     ghost Value = { List (ℕ × Rule) };
 
-    ghost view = { λ s. listed_near s.at s.used (s.low.now ++ s.high.now.items) s.expressions.now.entries [] };
+    ghost view = { λ s. listed_near s.at s.used s.slots.now s.expressions.now.entries [] };
 
-    ghost invariant = { λ s. (length s.low.now ≡ 32) × Holds s.used (s.low.now ++ s.high.now.items) s.expressions.now.entries };
+    ghost invariant = { λ s. (length s.slots.now ≡ 128) × Holds s.used s.slots.now s.expressions.now.entries };
 }
 
 impl<'r, 'a> NearRules<'r, 'a> {
@@ -210,8 +168,7 @@ impl<'r, 'a> NearRules<'r, 'a> {
     {
         if let Some((register, rule)) = next_near(
             self.at,
-            self.low,
-            self.high,
+            self.slots,
             self.used,
             self.expressions,
         ) {

@@ -1,13 +1,11 @@
 //! Rows one at a time (6.4.3).
 
-ghost use Rattle.std.specs.Prelude.{◌≡◌, ◌<◌, Some, None, Ok, Err, List, [], ◌∷◌, IfOk, IfErr, IsTrue};
+ghost use Rattle.std.specs.Prelude.{◌≡◌, ◌<◌, Some, None, Ok, Err, [], IfOk, IfErr, OnOk};
 ghost use Rattle.dw_num.specs.Target.{address_limit};
 ghost use Rattle.dw_num.specs.Refusals.{Refuses};
-ghost use Rattle.dw_cfa.specs.declared.execution.LocatedRow.{LocatedRow};
-ghost use Rattle.dw_cfa.specs.Runs.{finished};
 ghost use Rattle.dw_cfa.specs.Inner.Runs.{RunsSo, GivesRow, placed, initial_row, run_rows};
 ghost use Rattle.dw_cfa.specs.Behind.{LeavesTo};
-ghost use Rattle.dw_cfa.specs.Gives.{Gives, RunsTo};
+ghost use Rattle.dw_cfa.specs.Gives.{RunsTo};
 ghost use Rattle.dw_cfa.specs.Rows.{blank};
 ghost use Rattle.dw_cfa.specs.RowSteps.{Advances, Answers, stepping, program_input};
 ghost use Rattle.dw_cfa.specs.Inner.RowSteps.{begun_rows, progress_after};
@@ -47,33 +45,47 @@ fn first_row<'a>(
     fde: &mut Cursor<'a>,
     factors: Factors,
     machine: &mut Machine<'a>,
-    known: bool,
 ) -> Result<(u128, bool), ReadError>
-    requires known { IsTrue known → (begun_rows factors cie.old fde.old machine.old).fault ≡ None }
     requires so { RunsSo machine.old fde.old }
     requires none { machine.old.states.stack ≡ [] }
     requires first { machine.old.states.first ≡ None }
     ensures { GivesRow (begun_rows factors cie.old fde.old machine.old) factors fde.new machine.new result }
 {
-    run_initial(cie, factors, &mut machine.states, known)?;
+    run_initial(cie, factors, &mut machine.states, false)?;
     machine.initial = machine.states.row().copied()?;
-    next_row(fde, factors, machine, known)
+    next_row(fde, factors, machine, false)
 }
 
-// The row that the run of a CIE's program leaves.
+// Runs a CIE's program on a row, which is blank before.
 fn run_cie<'a>(
-    alloc: Global,
+    row: &mut Row<'a>,
     cie_program: Program<'a>,
     factors: Factors,
     target: Target,
-) -> Result<Row<'a>, ReadError>
-    ensures ok { IfOk result (λ row. initial_row (placed factors (program_input cie_program.entry target)) blank ≡ Ok row) }
+) -> Result<(), ReadError>
+    ensures ok { OnOk result (initial_row (placed factors (program_input cie_program.entry target)) blank ≡ Ok row.new) }
     ensures err { IfErr result (Refuses (λ r. initial_row (placed factors (program_input cie_program.entry target)) blank ≡ Err r)) }
 {
-    let mut states = States::new(alloc, Row::blank(alloc), false);
+    row.clear();
     let mut cursor = Cursor::new(cie_program.bytes, cie_program.at, target);
-    run_initial(&mut cursor, factors, &mut states, false)?;
-    Ok(states.into_row())
+    run_initial(&mut cursor, factors, row, false)
+}
+
+impl<'a> Row<'a> {
+    /// Becomes the row that a CIE's program (`initial_instructions`, 6.4.1) leaves, or answers its first fault, or want of memory
+    /// (`OutOfMemory`). Refusals are those of `initial_row`. Behind an error it is some row.
+    pub fn become_initial(
+        &mut self,
+        cie_program: Program<'a>,
+        factors: Factors,
+        target: Target,
+    ) -> Result<(), ReadError>
+        ensures ok { OnOk result (LeavesTo factors (program_input cie_program.entry target) (Ok self.new)) }
+        ensures err { IfErr result (Refuses (λ r. LeavesTo factors (program_input cie_program.entry target) (Err r))) }
+    {
+        are_bytes(cie_program.bytes);
+        run_cie(self, cie_program, factors, target)
+    }
 }
 
 /// The row that a CIE's program leaves, or its first fault, or want of memory (`OutOfMemory`). A refusal is one of
@@ -87,8 +99,11 @@ pub fn initial_row<'a>(
     ensures ok { IfOk result (λ row. LeavesTo factors (program_input cie_program.entry target) (Ok row)) }
     ensures err { IfErr result (Refuses (λ r. LeavesTo factors (program_input cie_program.entry target) (Err r))) }
 {
-    are_bytes(cie_program.bytes);
-    run_cie(alloc, cie_program, factors, target)
+    let mut row = Row::blank(alloc);
+    match row.become_initial(cie_program, factors, target) {
+        Ok(()) => Ok(row),
+        Err(error) => Err(error),
+    }
 }
 
 /// The rows that a CIE's `initial_instructions` and an FDE's `instructions` give (6.4.3), one at a time: one before each
@@ -101,12 +116,9 @@ pub struct RowSteps<'a> {
     cie: Cursor<'a>,
     fde: Cursor<'a>,
     machine: Machine<'a>,
-    // No refusal comes.
-    known: bool,
 }
 
 impl<'a> Model for RowSteps<'a> {
-    ghost use Rattle.std.specs.Prelude.{◌≡◌, IsTrue, None};
     ghost use Rattle.dw_cfa.specs.RowSteps.{Stepping};
     ghost use Rattle.dw_cfa.specs.Inner.RowSteps.{left_of, StandsSo};
 
@@ -114,7 +126,7 @@ impl<'a> Model for RowSteps<'a> {
 
     ghost view = { λ s. left_of s.progress s.factors s.cie s.fde s.machine };
 
-    ghost invariant = { λ s. StandsSo s.progress s.fde s.machine × (IsTrue s.known → (left_of s.progress s.factors s.cie s.fde s.machine).outcome.fault ≡ None) };
+    ghost invariant = { λ s. StandsSo s.progress s.fde s.machine };
 }
 
 impl<'a> RowSteps<'a> {
@@ -141,26 +153,7 @@ impl<'a> RowSteps<'a> {
                 location: u128::from(begin),
                 limit: target.size.address_limit(),
             },
-            known: false,
         }
-    }
-
-    // The same of programs that are known to have no fault.
-    fn begun_known(
-        alloc: Global,
-        cie_program: Program<'a>,
-        fde_program: Program<'a>,
-        begin: u64,
-        factors: Factors,
-        target: Target,
-    ) -> RowSteps<'a>
-        requires begin { begin < address_limit target.size }
-        requires known { (run_rows factors (program_input cie_program target) (program_input fde_program target) begin).fault ≡ None }
-        ensures { result ≡ stepping blank (run_rows factors (program_input cie_program.entry target) (program_input fde_program.entry target) begin) }
-    {
-        let mut steps = RowSteps::begun(alloc, cie_program, fde_program, begin, factors, target);
-        steps.known = true;
-        steps
     }
 
     /// The rows of two programs, from an address `begin` of the target on. Takes no memory: the CIE's program
@@ -182,26 +175,6 @@ impl<'a> RowSteps<'a> {
         RowSteps::begun(alloc, cie_program, fde_program, begin, factors, target)
     }
 
-    /// The same of programs that are known to give rows to their end: their expressions are not judged again.
-    #[tactic(auto, using(crate::proofs::Lent::Given::faultless))]
-    pub(crate) fn known(
-        alloc: Global,
-        cie_program: Program<'a>,
-        fde_program: Program<'a>,
-        begin: u64,
-        factors: Factors,
-        target: Target,
-    ) -> RowSteps<'a>
-        requires begin { begin < address_limit target.size }
-        requires known { (rows : List LocatedRow) × Gives factors (program_input cie_program target) (program_input fde_program target) begin rows }
-        ensures steps { result ≡ stepping blank result.outcome }
-        ensures runs { RunsTo factors (program_input cie_program.entry target) (program_input fde_program.entry target) begin result.outcome }
-    {
-        are_bytes(cie_program.bytes);
-        are_bytes(fde_program.bytes);
-        RowSteps::begun_known(alloc, cie_program, fde_program, begin, factors, target)
-    }
-
     /// Goes on to the next row, which `row` lends then, and answers the location that it starts at, or none behind
     /// the last row. No row is copied. An error is a refusal or `OutOfMemory`, and is answered from then on. Refusals are those of
     /// `run`.
@@ -210,19 +183,11 @@ impl<'a> RowSteps<'a> {
         ensures again { (e : ReadError) → self.old.error ≡ Some e → result ≡ Err e }
     {
         let answer = match self.progress {
-            Progress::Begun => first_row(
-                &mut self.cie,
-                &mut self.fde,
-                self.factors,
-                &mut self.machine,
-                self.known,
-            ),
-            Progress::Running => next_row(
-                &mut self.fde,
-                self.factors,
-                &mut self.machine,
-                self.known,
-            ),
+            Progress::Begun => {
+                let (cie, fde) = (&mut self.cie, &mut self.fde);
+                first_row(cie, fde, self.factors, &mut self.machine)
+            }
+            Progress::Running => { next_row(&mut self.fde, self.factors, &mut self.machine, false) }
             Progress::Finished => return Ok(None),
             Progress::Failed(error) => return Err(error),
         };
@@ -235,19 +200,6 @@ impl<'a> RowSteps<'a> {
         ensures { result.now ≡ self.now.current }
     {
         self.machine.states.row()
-    }
-
-    /// The location that the next row starts at, which is where the row that is lent ends. None behind the last row, and
-    /// after an error. Where a refusal comes next it is some location.
-    pub(crate) fn next_start(&self) -> Option<u128>
-        ensures next { (row : LocatedRow) (rows : List LocatedRow) → self.now.outcome.rows ≡ row ∷ rows → result ≡ Some row.location }
-        ensures last { self.now.outcome ≡ finished → result ≡ None }
-        ensures none { result ≡ None → self.now.outcome ≡ finished }
-    {
-        match self.progress {
-            Progress::Begun | Progress::Running => Some(self.machine.location),
-            Progress::Finished | Progress::Failed(_) => None,
-        }
     }
 
     /// The next row, or none behind the last one. An error is a refusal or `OutOfMemory`, and is answered from then on. Refusals

@@ -5,23 +5,22 @@ ghost use Rattle.dw_cfa.specs.Difference.{FirstDifference};
 ghost use Rattle.dw_cfa.specs.Rows.{AreSpecified, rule_in};
 ghost use Rattle.dw_cfa.specs.Inner.Rows.{put};
 
-use crate::row::Specified;
 use crate::rule::RegRule;
 use std::alloc::{AllocError, Global};
 use std::collections::{BTreeMap, btree_map};
 
-/// A tree of ascending entries.
-#[tactic(auto, using(crate::proofs::WideRows::one_more))]
+/// A tree once more.
 pub(crate) fn tree_of<'a>(
-    entries: Specified<'_, 'a>,
+    entries: &BTreeMap<u16, RegRule<'a>>,
     alloc: Global,
 ) -> Result<BTreeMap<u16, RegRule<'a>>, AllocError>
-    requires { AreSpecified 0 entries }
-    ensures { IfOk result (λ tree. tree.entries ≡ entries.entry) }
+    requires { AreSpecified 0 entries.now.entries }
+    ensures { IfOk result (λ tree. tree.entries ≡ entries.now.entries) }
 {
     let mut tree = BTreeMap::new(alloc);
-    for (register, rule) in entries {
-        tree.insert(register, rule)?;
+    let mut rules = entries.iter();
+    'rules: while let Some((register, rule)) = rules.next() {
+        tree.insert(*register, rule.copied())?;
     }
     Ok(tree)
 }

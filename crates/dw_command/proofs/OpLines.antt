@@ -4,7 +4,7 @@ use Rattle.dw_op.specs.Expression.{bare}
 use Rattle.dw_op.specs.declared.op.Op.{Op}
 use Rattle.dw_op.specs.declared.op.Op.TheVariants.{Implicit}
 use Rattle.dw_command.specs.OpTexts.{op_text}
-use Rattle.dw_command.specs.RowTexts.{next_text, operations_text}
+use Rattle.dw_command.specs.RowTexts.{next_text}
 use Rattle.dw_command.specs.Texts.{line_end, lines, numbered}
 
 -- wherever its bytes lie
@@ -16,14 +16,6 @@ text_bare op = refl
 abbrev pub left_text : List ℕ → List Op → List ℕ
 left_text between [] = []
 left_text between (op ∷ ops) = between ++ op_text op ++ lines next_text ops
-
-pub left_first : (ops : List Op) → left_text [] ops ≡ operations_text ops
-left_first [] = refl
-left_first (op ∷ ops) = refl
-
-pub left_next : (ops : List Op) → left_text (codes "; ") ops ≡ lines next_text ops
-left_next [] = refl
-left_next (op ∷ ops) = refl
 
 -- a list of them, wherever their bytes lie
 pub numbered_bare : (index : ℕ) (ops : List Op) → numbered index (map bare ops) ≡ numbered index ops

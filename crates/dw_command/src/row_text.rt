@@ -146,6 +146,7 @@ pub fn put_none<W: Write>(listing: &mut Listing<W>, address: u64) -> Result<(), 
 }
 
 /// Puts the line of a row: the address from which it holds, the CFA's rule, and the specified registers' rules.
+#[inline(always)]
 pub fn put_row<W: Write>(
     listing: &mut Listing<W>,
     address: u128,

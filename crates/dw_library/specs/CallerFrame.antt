@@ -1,5 +1,5 @@
 -- What a caller in C is told of a frame.
-use Rattle.std.specs.Prelude.{◌≡◌, ◌⊎◌, ℕ, List, Result, map, length, Option, Some, None, Ok, Err, nat_eq, if◌then◌else◌}
+use Rattle.std.specs.Prelude.{◌≡◌, ◌⊎◌, ℕ, List, [], ◌∷◌, Result, map, length, Option, Some, None, Ok, Err, nat_eq, if◌then◌else◌}
 use Rattle.dw_num.specs.declared.refusal.Refusal.{Refusal}
 use Rattle.dw_num.specs.declared.target.Target.{Target}
 use Rattle.dw_eval.specs.declared.error.Kind.{Kind}
@@ -19,6 +19,7 @@ use Rattle.dw_library.specs.declared.answer.Refused.{Refused}
 use Rattle.dw_library.specs.declared.registers.Register.{Register}
 use Rattle.dw_library.specs.declared.caller.Fault.{Fault}
 use Rattle.dw_library.specs.declared.caller.Frame.{Frame}
+use Rattle.dw_library.specs.declared.caller.Held.{Held}
 use Rattle.dw_library.specs.declared.caller.Stop.{Stop}
 use Rattle.dw_library.specs.declared.windows.Window.{Window}
 use Rattle.dw_library.specs.Answers.{refused, out_of_memory, bad_argument, not_refused, told}
@@ -72,10 +73,10 @@ status_of (errors.Device column) = 9
 status_of errors.OutOfMemory = out_of_memory
 
 abbrev pub no_frame : Frame
-no_frame = record { cfa = 0; count = 0; return_register = 0 }
+no_frame = record { cfa = 0; count = 0; return_register = 0; reserved = 0 ∷ 0 ∷ 0 ∷ [] }
 
 abbrev pub told_frame : CallerFrame → Frame
-told_frame f = record { cfa = f.cfa; count = length f.registers; return_register = f.return_register }
+told_frame f = record { cfa = f.cfa; count = length f.registers; return_register = f.return_register; reserved = 0 ∷ 0 ∷ 0 ∷ [] }
 
 -- ---- the frame
 
@@ -84,6 +85,9 @@ pub record Machine : Type 0 where
   pub registers : List Register
   pub windows : List Window
   pub memory : List ℕ
+
+abbrev pub held_in : Held → Machine
+held_in h = record { registers = h.registers.now; windows = h.windows.now; memory = h.memory.now }
 
 -- a machine that holds this stopped where a section says so: its caller's frame, or the first fault
 pub record IsFrame (target : Target) (policy : Policy) (s : List ℕ) (stop : Stop) (m : Machine) (answer : Result CallerFrame UnwindError) : Type 0 where

@@ -47,7 +47,7 @@ AreBlocks place [] blocks bytes = (blocks ≡ []) × (bytes ≡ [])
 AreBlocks place (entry ∷ entries) blocks bytes =
     (block : List ℕ) × (others : List Block) × (rest : List ℕ)
     × LeastBlock entry.1.target entry.1.ops block
-    × (blocks ≡ record { column = entry.0; place = place; len = length block } ∷ others)
+    × (blocks ≡ record { column = entry.0; reserved = 0; place = place; len = length block } ∷ others)
     × (bytes ≡ block ++ rest)
     × AreBlocks (place + length block) entries others rest
 

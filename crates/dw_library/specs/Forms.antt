@@ -1,5 +1,5 @@
 -- What a caller in C is told of a normal form, and of two sections.
-use Rattle.std.specs.Prelude.{◌≡◌, ◌⊎◌, ◌<◌, ◌≤◌, ℕ, List, ◌++◌, length, drop, Option, Some, None}
+use Rattle.std.specs.Prelude.{◌≡◌, ◌⊎◌, ◌<◌, ◌≤◌, ℕ, List, ◌++◌, length, drop, Option, Some, None, nat_eq, if◌then◌else◌}
 use Rattle.dw_num.specs.declared.refusal.Refusal.{Refusal}
 use Rattle.dw_num.specs.declared.target.Target.{Target}
 use Rattle.dw_section.specs.Accepted.{Accepted}
@@ -10,7 +10,12 @@ use Rattle.dw_normal.specs.declared.error.SameError.TheVariants as same_error
 use Rattle.dw_normal.specs.declared.error.Which.{Which}
 use Rattle.dw_normal.specs.declared.error.Which.TheVariants.{First, Second}
 use Rattle.dw_library.specs.declared.answer.Refused.{Refused}
-use Rattle.dw_library.specs.Answers.{ok, refused, out_of_memory, bad_argument, too_short, not_refused, told}
+use Rattle.dw_library.specs.Answers.{ok, refused, out_of_memory, bad_argument, too_short, not_refused, target_of, told}
+
+-- the machine of two sections, where it is one
+abbrev pub target_of_both : ℕ → ℕ → ℕ → ℕ → Option Target
+target_of_both size order other_size other_order =
+    if nat_eq size other_size then (if nat_eq order other_order then target_of size order else None) else None
 
 -- bytes at the front of a buffer, where they fit; else the buffer stays
 abbrev pub IsPlaced : List ℕ → List ℕ → ℕ → List ℕ → Type 0

@@ -66,7 +66,7 @@ rule_offset (ValOffset n) = n
 rule_offset rule = pos 0
 
 abbrev pub rule_of : ℕ × RegRule → Rule
-rule_of entry = record { number = entry.0; kind = kind_of entry.1; other = other_of entry.1; offset = rule_offset entry.1 }
+rule_of entry = record { number = entry.0; kind = kind_of entry.1; other = other_of entry.1; reserved = 0; offset = rule_offset entry.1 }
 
 abbrev pub cfa_kind_of : CfaRule → ℕ
 cfa_kind_of cfa.Unset = 0

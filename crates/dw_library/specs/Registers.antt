@@ -18,8 +18,8 @@ given_in [] r = None
 given_in (g ∷ gs) r = first_of (value_in g r) (given_in gs r)
 
 abbrev pub told_register : ℕ × Option ℕ → Register
-told_register (r, Some v) = record { number = r; known = 1; value = v }
-told_register (r, None) = record { number = r; known = 0; value = 0 }
+told_register (r, Some v) = record { number = r; known = 1; reserved = 0; value = v }
+told_register (r, None) = record { number = r; known = 0; reserved = 0; value = 0 }
 
 -- registers at the front of a buffer, where they fit; else the buffer stays
 abbrev pub AreTold : List Register → List Register → ℕ → List Register → Type 0

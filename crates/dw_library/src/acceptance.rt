@@ -8,7 +8,8 @@ ghost use Rattle.dw_library.specs.Answers.{target_of};
 ghost use Rattle.dw_library.specs.Checked.{HasCounts, IsChecked};
 
 use crate::answer::{
-    BAD_ARGUMENT, Counts, OK, OUT_OF_MEMORY, REFUSED, Refused, not_refused, target_of, told,
+    BAD_ARGUMENT, Counts, OK, OUT_OF_MEMORY, REFUSED, Refused, Section, not_refused, target_of,
+    told,
 };
 use dw_num::{ReadError, Target};
 use dw_section::{Table, check};
@@ -19,8 +20,8 @@ fn counts_in(table: &Table<'_>) -> Counts
 {
     let counts = table.counts();
     Counts {
-        cies: counts.cies as u64,
-        fdes: counts.fdes as u64,
+        cies: counts.cies,
+        fdes: counts.fdes,
     }
 }
 
@@ -38,20 +39,18 @@ fn counted(alloc: Global, bytes: &[u8], target: Target) -> Result<Counts, ReadEr
 #[unsafe(no_mangle)]
 pub extern "C" fn dwframe_check(
     alloc: Global,
-    bytes: &[u8],
-    address_size: u8,
-    byte_order: u8,
+    section: &Section<'_>,
     counts: &mut Counts,
     refused: &mut Refused,
 ) -> u32
-    ensures { IsChecked (target_of address_size byte_order) bytes.now result counts.new refused.new }
+    ensures { IsChecked (target_of section.now.address_size section.now.byte_order) section.now.bytes.now result counts.new refused.new }
 {
     *counts = Counts { cies: 0, fdes: 0 };
     *refused = not_refused();
-    let Some(target) = target_of(address_size, byte_order) else {
+    let Some(target) = target_of(section.address_size, section.byte_order) else {
         return BAD_ARGUMENT;
     };
-    match counted(alloc, bytes, target) {
+    match counted(alloc, section.bytes, target) {
         Ok(found) => {
             *counts = found;
             OK

@@ -16,6 +16,18 @@ pub(crate) const BAD_ARGUMENT: u32 = 3;
 /// The room that was lent is too short; the call says how much it needs.
 pub(crate) const TOO_SHORT: u32 = 4;
 
+/// A section, and how its numbers are read.
+#[repr(C)]
+#[derive(Clone, Copy)]
+pub struct Section<'a> {
+    /// Its bytes.
+    pub bytes: &'a [u8],
+    /// The size of an address, 4 or 8, as `address_size` of a CIE (6.4.1).
+    pub address_size: u32,
+    /// 0 for little-endian and 1 for big-endian.
+    pub byte_order: u32,
+}
+
 /// Why a section is refused: the number of the code, which section (1, or 2 for the second of two), and the place of the
 /// first bad byte. All are 0 where none is refused.
 #[repr(C)]
@@ -26,7 +38,7 @@ pub struct Refused {
     /// Which section: 1, or 2 for the second of two.
     pub section: u32,
     /// The place of the first bad byte.
-    pub at: u64,
+    pub at: usize,
 }
 
 /// How many CIEs and FDEs a section has.
@@ -34,9 +46,9 @@ pub struct Refused {
 #[derive(Clone, Copy)]
 pub struct Counts {
     /// Common information entries, whose `CIE_id` is all ones (6.4.1).
-    pub cies: u64,
+    pub cies: usize,
     /// Frame description entries, each with a `CIE_pointer`.
-    pub fdes: u64,
+    pub fdes: usize,
 }
 
 pub(crate) fn not_refused() -> Refused
@@ -55,12 +67,12 @@ pub(crate) fn told(section: u32, refusal: Refusal) -> Refused
     Refused {
         code: u32::from(refusal.code.number()),
         section,
-        at: refusal.at,
+        at: refusal.at as usize,
     }
 }
 
 /// The machine with this address size, 4 or 8, and this byte order, 0 for little-endian and 1 for big-endian.
-pub(crate) fn target_of(address_size: u8, byte_order: u8) -> Option<Target>
+pub(crate) fn target_of(address_size: u32, byte_order: u32) -> Option<Target>
     ensures { result ≡ target_of address_size byte_order }
 {
     let size = match address_size {

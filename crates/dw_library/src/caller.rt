@@ -32,12 +32,10 @@ pub struct Stop {
     pub pc: u64,
     /// How many steps each expression may take.
     pub steps: u64,
-    /// The size of an address, 4 or 8, as `address_size` of a CIE (6.4.1).
-    pub address_size: u8,
-    /// 0 for little-endian and 1 for big-endian.
-    pub byte_order: u8,
     /// What an unset register is taken as: 0 for unchanged and 1 for undefined.
-    pub unset: u8,
+    pub unset: u32,
+    /// 0. It is not looked at.
+    pub reserved: u32,
 }
 
 /// The caller's frame: the CFA, how many registers there are, and the number of the one that holds the return address. All are
@@ -50,7 +48,9 @@ pub struct Frame {
     /// How many registers there are.
     pub count: usize,
     /// `return_address_register` of the CIE.
-    pub return_register: u32,
+    pub return_register: u16,
+    /// 0.
+    pub reserved: [u16; 3],
 }
 
 /// What is wrong in a column: a register's number or `COLUMN_CFA`, and of an expression its fault, 1 to 12, and the operation's index;
@@ -62,18 +62,18 @@ pub struct Fault {
     /// A register's number, or 65536 for the CFA.
     pub column: u32,
     /// Of an expression (2.5) its fault, 1 to 12.
-    pub kind: u32,
+    pub kind: u16,
+    /// Where a register is not given, its number.
+    pub wanted: u16,
     /// Of an expression the operation's index.
-    pub index: u64,
+    pub index: usize,
     /// Where a byte is missing, the first address of the read.
     pub address: u64,
     /// And how many bytes were read from there on.
-    pub len: u64,
-    /// Where a register is not given, its number.
-    pub wanted: u32,
+    pub len: usize,
 }
 
-pub(crate) fn policy_of(unset: u8) -> Option<Policy>
+pub(crate) fn policy_of(unset: u32) -> Option<Policy>
     ensures { result ≡ policy_of unset }
 {
     match unset {
@@ -117,46 +117,46 @@ pub(crate) fn no_fault() -> Fault
     Fault {
         column: 0,
         kind: 0,
+        wanted: 0,
         index: 0,
         address: 0,
         len: 0,
-        wanted: 0,
     }
 }
 
-fn fault_of_read(column: Column, kind: u32, index: u64, address: u64, len: u64) -> Fault
+fn fault_of_read(column: Column, kind: u16, index: usize, address: u64, len: usize) -> Fault
     ensures { result ≡ fault_of_read column kind index address len }
 {
     Fault {
         column: column_of(column),
         kind,
+        wanted: 0,
         index,
         address,
         len,
-        wanted: 0,
     }
 }
 
-fn fault_of_register(column: Column, kind: u32, index: u64, register: u16) -> Fault
+fn fault_of_register(column: Column, kind: u16, index: usize, register: u16) -> Fault
     ensures { result ≡ fault_of_register column kind index register }
 {
     Fault {
         column: column_of(column),
         kind,
+        wanted: register,
         index,
         address: 0,
         len: 0,
-        wanted: u32::from(register),
     }
 }
 
-pub(crate) fn fault_of_kind(kind: Kind, index: u64, column: Column) -> Fault
+pub(crate) fn fault_of_kind(kind: Kind, index: usize, column: Column) -> Fault
     ensures { result ≡ fault_of_kind kind index column }
 {
     match kind {
-        Kind::Unreadable { address, len } => fault_of_read(column, 4, index, address, len as u64),
+        Kind::Unreadable { address, len } => fault_of_read(column, 4, index, address, len),
         Kind::NoRegister { register } => fault_of_register(column, 3, index, register),
-        other => fault_of_register(column, u32::from(other.number()), index, 0),
+        other => fault_of_register(column, u16::from(other.number()), index, 0),
     }
 }
 
@@ -167,6 +167,7 @@ pub(crate) fn no_frame() -> Frame
         cfa: 0,
         count: 0,
         return_register: 0,
+        reserved: [0; 3],
     }
 }
 
@@ -178,12 +179,12 @@ pub(crate) fn told_fault(error: UnwindError) -> Fault
             kind,
             index,
             column,
-        } => fault_of_kind(kind, index as u64, column),
+        } => fault_of_kind(kind, index, column),
         UnwindError::Unreadable {
             column,
             address,
             len,
-        } => fault_of_read(column, 0, 0, address, len as u64),
+        } => fault_of_read(column, 0, 0, address, len),
         UnwindError::NoRegister { column, register } => fault_of_register(column, 0, 0, register),
         UnwindError::Device { column } => fault_in(column),
         UnwindError::NoFde | UnwindError::OutOfMemory => no_fault(),
@@ -196,16 +197,21 @@ fn told_frame(frame: &CallerFrame) -> Frame
     Frame {
         cfa: frame.cfa,
         count: frame.registers.values().len(),
-        return_register: u32::from(frame.return_register),
+        return_register: frame.return_register,
+        reserved: [0; 3],
     }
 }
 
-// What a machine held.
+/// What a machine held.
+#[repr(C)]
 #[derive(Clone, Copy)]
-pub(crate) struct Held<'a> {
-    pub(crate) registers: &'a [Register],
-    pub(crate) windows: &'a [Window],
-    pub(crate) memory: &'a [u8],
+pub struct Held<'a> {
+    /// Its registers.
+    pub registers: &'a [Register],
+    /// Which addresses of its memory are there.
+    pub windows: &'a [Window],
+    /// The buffer that the windows are over.
+    pub memory: &'a [u8],
 }
 
 // Writes a frame.

@@ -13,7 +13,8 @@ ghost use Rattle.dw_library.specs.Changes.{AreAllChanges, AreWritten, Fits, Tell
 ghost use Rattle.dw_library.specs.Inner.Changes.{IsLow};
 
 use crate::answer::{
-    BAD_ARGUMENT, OK, OUT_OF_MEMORY, REFUSED, Refused, TOO_SHORT, not_refused, target_of, told,
+    BAD_ARGUMENT, OK, OUT_OF_MEMORY, REFUSED, Refused, Section, TOO_SHORT, not_refused, target_of,
+    told,
 };
 use crate::index::{NO_FDE, Row, Rule, put_rules, told_row};
 use dw_cfa::Row as CfaRow;
@@ -37,9 +38,9 @@ pub struct Change {
 #[derive(Clone, Copy)]
 pub struct Totals {
     /// How many rows.
-    pub changes: u64,
+    pub changes: usize,
     /// How many rules of registers.
-    pub rules: u64,
+    pub rules: usize,
 }
 
 fn no_totals() -> Totals
@@ -62,23 +63,23 @@ fn fde_in(entry: &Ranged) -> Fde
 }
 
 // Writes a change to its place in a buffer, where it has one.
-fn put_at(out: &mut [Change], place: u64, change: Change)
+fn put_at(out: &mut [Change], place: usize, change: Change)
     ensures inside { place < length out.old → out.new ≡ slice_set out.old place change }
     ensures outside { length out.old ≤ place → out.new ≡ out.old }
     ensures few { length out.old < 2 ^ 64 }
 {
-    if place < out.len() as u64 {
-        out[place as usize] = change;
+    if place < out.len() {
+        out[place] = change;
     }
 }
 
 // Where the next rule goes in a buffer of this size, behind so many.
-fn place_behind(count: u64, size: usize) -> usize
+fn place_behind(count: usize, size: usize) -> usize
     ensures place { result ≡ min count size }
     ensures few { size < 2 ^ 64 }
 {
-    if count < size as u64 {
-        return count as usize;
+    if count < size {
+        return count;
     }
     size
 }
@@ -128,7 +129,7 @@ fn put_changes(
 fn fitting(totals: Totals, out: usize, rules: usize) -> u32
     ensures { Fits totals out rules result }
 {
-    if totals.changes <= out as u64 && totals.rules <= rules as u64 {
+    if totals.changes <= out && totals.rules <= rules {
         return OK;
     }
     TOO_SHORT
@@ -181,23 +182,21 @@ fn put_covering(
 #[unsafe(no_mangle)]
 pub extern "C" fn dwframe_changes(
     alloc: Global,
-    bytes: &[u8],
-    address_size: u8,
-    byte_order: u8,
+    section: &Section<'_>,
     address: u64,
     changes: &mut [Change],
     rules: &mut [Rule],
     needed: &mut Totals,
     refused: &mut Refused,
 ) -> u32
-    ensures { let told : Told = record { status = result; changes = changes.new; rules = rules.new; needed = needed.new } in AreAllChanges (target_of address_size byte_order) bytes.now address changes.old rules.old told refused.new }
+    ensures { let told : Told = record { status = result; changes = changes.new; rules = rules.new; needed = needed.new } in AreAllChanges (target_of section.now.address_size section.now.byte_order) section.now.bytes.now address changes.old rules.old told refused.new }
 {
     *needed = no_totals();
     *refused = not_refused();
-    let Some(target) = target_of(address_size, byte_order) else {
+    let Some(target) = target_of(section.address_size, section.byte_order) else {
         return BAD_ARGUMENT;
     };
-    match check(alloc, bytes, target) {
+    match check(alloc, section.bytes, target) {
         Ok(table) => put_covering(&table, address, changes, rules, needed),
         Err(ReadError::Refused(refusal)) => {
             *refused = told(1, refusal);

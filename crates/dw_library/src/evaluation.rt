@@ -3,7 +3,7 @@
 ghost use Rattle.std.specs.Prelude.{◌≡◌, ◌⊎◌, Err};
 ghost use Rattle.dw_eval.specs.declared.error.EvalError.TheVariants.{OutOfMemory};
 ghost use Rattle.dw_library.specs.Answers.{target_of};
-ghost use Rattle.dw_library.specs.CallerFrame.{Machine};
+ghost use Rattle.dw_library.specs.CallerFrame.{held_in};
 ghost use Rattle.dw_library.specs.Evaluation.{EvaluatesOf, IsEvaluated, Told, ValueOf, known_if};
 ghost use Rattle.dw_library.specs.Windows.{byte_among};
 
@@ -11,8 +11,8 @@ use crate::answer::{
     BAD_ARGUMENT, OK, OUT_OF_MEMORY, REFUSED, Refused, not_refused, target_of, told,
 };
 use crate::caller::{Fault, Held, NO_VALUE, fault_of_kind, no_fault};
-use crate::registers::{Register, give_all};
-use crate::windows::{Window, Windows};
+use crate::registers::give_all;
+use crate::windows::Windows;
 use dw_eval::{Env, EvalError, Registers, evaluate};
 use dw_num::ReadError;
 use dw_op::{OpList, Profile, decode};
@@ -35,9 +35,9 @@ pub struct Context {
     /// How many operations may be executed.
     pub steps: u64,
     /// The size of an address, 4 or 8.
-    pub address_size: u8,
+    pub address_size: u32,
     /// 0 for little-endian and 1 for big-endian.
-    pub byte_order: u8,
+    pub byte_order: u32,
     /// Not 0 where the stack begins with `start`.
     pub has_start: u8,
     /// Not 0 where the frame base is known.
@@ -46,8 +46,8 @@ pub struct Context {
     pub has_cfa: u8,
     /// Not 0 where the object's address is known.
     pub has_object: u8,
-    /// Names what lies behind. It is not looked at.
-    pub reserved: u16,
+    /// 0. It is not looked at.
+    pub reserved: u32,
 }
 
 fn known_if(has: u8, value: u64) -> Option<u64>
@@ -87,7 +87,7 @@ fn value_of(
     context: &Context,
     held: &Held<'_>,
 ) -> Result<u64, EvalError>
-    ensures { let machine : Machine = record { registers = held.now.registers.now; windows = held.now.windows.now; memory = held.now.memory.now } in (result ≡ Err OutOfMemory) ⊎ ValueOf list.now.target list.now.ops context.now machine result }
+    ensures { (result ≡ Err OutOfMemory) ⊎ ValueOf list.now.target list.now.ops context.now (held_in held.now) result }
 {
     let mut registers = Registers::new(alloc);
     match give_all(&mut registers, held.registers) {
@@ -108,14 +108,12 @@ pub extern "C" fn dwframe_evaluate(
     alloc: Global,
     block: &[u8],
     context: &Context,
-    registers: &[Register],
-    windows: &[Window],
-    memory: &[u8],
+    held: &Held<'_>,
     value: &mut u64,
     refused: &mut Refused,
     fault: &mut Fault,
 ) -> u32
-    ensures { let told : Told = record { status = result; value = value.new; refusal = refused.new; fault = fault.new } in let held : Machine = record { registers = registers.now; windows = windows.now; memory = memory.now } in IsEvaluated (target_of context.now.address_size context.now.byte_order) block.now context.now held told }
+    ensures { let told : Told = record { status = result; value = value.new; refusal = refused.new; fault = fault.new } in IsEvaluated (target_of context.now.address_size context.now.byte_order) block.now context.now (held_in held.now) told }
 {
     *value = 0;
     *refused = not_refused();
@@ -123,19 +121,14 @@ pub extern "C" fn dwframe_evaluate(
     let Some(target) = target_of(context.address_size, context.byte_order) else {
         return BAD_ARGUMENT;
     };
-    let held = Held {
-        registers,
-        windows,
-        memory,
-    };
     match decode(alloc, block, target, Profile::Location) {
-        Ok(list) => match value_of(alloc, &list, context, &held) {
+        Ok(list) => match value_of(alloc, &list, context, held) {
             Ok(found) => {
                 *value = found;
                 OK
             }
             Err(EvalError::Fault { kind, index }) => {
-                *fault = fault_of_kind(kind, index as u64, Column::Register(0));
+                *fault = fault_of_kind(kind, index, Column::Register(0));
                 NO_VALUE
             }
             Err(EvalError::OutOfMemory) => OUT_OF_MEMORY,

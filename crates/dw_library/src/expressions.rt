@@ -10,7 +10,8 @@ ghost use Rattle.dw_library.specs.Expressions.{AreAnyExpressions, AreBlocks, Are
 ghost use Rattle.dw_library.specs.Inner.Expressions.{Adds};
 
 use crate::answer::{
-    BAD_ARGUMENT, OK, OUT_OF_MEMORY, REFUSED, Refused, TOO_SHORT, not_refused, target_of, told,
+    BAD_ARGUMENT, OK, OUT_OF_MEMORY, REFUSED, Refused, Section, TOO_SHORT, not_refused, target_of,
+    told,
 };
 use crate::caller::COLUMN_CFA;
 use crate::index::{BAD_INDEX, NO_FDE};
@@ -27,6 +28,8 @@ use std::alloc::{AllocError, Global};
 pub struct Block {
     /// A register's number, or 65536 for the CFA.
     pub column: u32,
+    /// 0.
+    pub reserved: u32,
     /// Its first byte, counted from the buffer's first one.
     pub place: usize,
     /// How many bytes it has.
@@ -57,7 +60,12 @@ impl Gathered {
         let place = self.bytes.len();
         expression.put_least(&mut self.bytes)?;
         let len = self.bytes.len() - place;
-        self.blocks.push(Block { column, place, len })?;
+        self.blocks.push(Block {
+            column,
+            reserved: 0,
+            place,
+            len,
+        })?;
         Ok(())
     }
 
@@ -153,9 +161,7 @@ fn put_expressions(
 #[unsafe(no_mangle)]
 pub extern "C" fn dwframe_expressions_at(
     alloc: Global,
-    bytes: &[u8],
-    address_size: u8,
-    byte_order: u8,
+    section: &Section<'_>,
     index: &[Ranged],
     address: u64,
     expressions: &mut [u8],
@@ -164,18 +170,18 @@ pub extern "C" fn dwframe_expressions_at(
     refused: &mut Refused,
 ) -> u32
     // By the index of an accepted section they are those of the section's rules.
-    ensures own { let old : Buffers = record { blocks = blocks.old; bytes = expressions.old } in let told : Told = record { status = result; buffers = record { blocks = blocks.new; bytes = expressions.new }; all = all.new } in AreExpressions (target_of address_size byte_order) bytes.now index.now address old told refused.new }
+    ensures own { let old : Buffers = record { blocks = blocks.old; bytes = expressions.old } in let told : Told = record { status = result; buffers = record { blocks = blocks.new; bytes = expressions.new }; all = all.new } in AreExpressions (target_of section.now.address_size section.now.byte_order) section.now.bytes.now index.now address old told refused.new }
     // By any other they are those of the FDE that stands where an entry that covers the address leads, or none.
-    ensures any { let old : Buffers = record { blocks = blocks.old; bytes = expressions.old } in let told : Told = record { status = result; buffers = record { blocks = blocks.new; bytes = expressions.new }; all = all.new } in AreAnyExpressions (target_of address_size byte_order) bytes.now index.now address old told refused.new }
+    ensures any { let old : Buffers = record { blocks = blocks.old; bytes = expressions.old } in let told : Told = record { status = result; buffers = record { blocks = blocks.new; bytes = expressions.new }; all = all.new } in AreAnyExpressions (target_of section.now.address_size section.now.byte_order) section.now.bytes.now index.now address old told refused.new }
 {
     *all = no_blocks();
     *refused = not_refused();
-    let Some(target) = target_of(address_size, byte_order) else {
+    let Some(target) = target_of(section.address_size, section.byte_order) else {
         return BAD_ARGUMENT;
     };
     match put_expressions(
         alloc,
-        bytes,
+        section.bytes,
         target,
         index,
         address,

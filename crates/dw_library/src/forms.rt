@@ -5,10 +5,11 @@ ghost use Rattle.dw_num.specs.Refusals.{Refuses};
 ghost use Rattle.dw_canon.specs.Normal.{IsNormalForm};
 ghost use Rattle.dw_normal.specs.Answers.{NormalFault};
 ghost use Rattle.dw_library.specs.Answers.{target_of};
-ghost use Rattle.dw_library.specs.Forms.{IsCompared, IsNormalised, IsPlaced, section_of};
+ghost use Rattle.dw_library.specs.Forms.{IsCompared, IsNormalised, IsPlaced, section_of, target_of_both};
 
 use crate::answer::{
-    BAD_ARGUMENT, OK, OUT_OF_MEMORY, REFUSED, Refused, TOO_SHORT, not_refused, target_of, told,
+    BAD_ARGUMENT, OK, OUT_OF_MEMORY, REFUSED, Refused, Section, TOO_SHORT, not_refused, target_of,
+    told,
 };
 use dw_normal::{SameError, Which, normalise, same};
 use dw_num::{ReadError, Target};
@@ -50,21 +51,19 @@ fn put_normal(
 #[unsafe(no_mangle)]
 pub extern "C" fn dwframe_normalise(
     alloc: Global,
-    bytes: &[u8],
-    address_size: u8,
-    byte_order: u8,
+    section: &Section<'_>,
     out: &mut [u8],
     needed: &mut usize,
     refused: &mut Refused,
 ) -> u32
-    ensures { IsNormalised (target_of address_size byte_order) bytes.now result out.old out.new needed.new refused.new }
+    ensures { IsNormalised (target_of section.now.address_size section.now.byte_order) section.now.bytes.now result out.old out.new needed.new refused.new }
 {
     *needed = 0;
     *refused = not_refused();
-    let Some(target) = target_of(address_size, byte_order) else {
+    let Some(target) = target_of(section.address_size, section.byte_order) else {
         return BAD_ARGUMENT;
     };
-    match put_normal(alloc, bytes, target, out, needed) {
+    match put_normal(alloc, section.bytes, target, out, needed) {
         Ok(status) => status,
         Err(ReadError::Refused(refusal)) => {
             *refused = told(1, refusal);
@@ -83,25 +82,36 @@ fn section_of(which: Which) -> u32
     }
 }
 
+// The machine of two sections, where it is one.
+fn target_of_both(first: &Section<'_>, second: &Section<'_>) -> Option<Target>
+    ensures { result ≡ target_of_both first.now.address_size first.now.byte_order second.now.address_size second.now.byte_order }
+{
+    if first.address_size != second.address_size {
+        return None;
+    }
+    if first.byte_order != second.byte_order {
+        return None;
+    }
+    target_of(first.address_size, first.byte_order)
+}
+
 /// Whether two sections say the same: `alike` is 1 where they do, and else 0. A refusal says which of the two is refused.
 #[unsafe(no_mangle)]
 pub extern "C" fn dwframe_same(
     alloc: Global,
-    first: &[u8],
-    second: &[u8],
-    address_size: u8,
-    byte_order: u8,
+    first: &Section<'_>,
+    second: &Section<'_>,
     alike: &mut u32,
     refused: &mut Refused,
 ) -> u32
-    ensures { IsCompared (target_of address_size byte_order) first.now second.now result alike.new refused.new }
+    ensures { IsCompared (target_of_both first.now.address_size first.now.byte_order second.now.address_size second.now.byte_order) first.now.bytes.now second.now.bytes.now result alike.new refused.new }
 {
     *alike = 0;
     *refused = not_refused();
-    let Some(target) = target_of(address_size, byte_order) else {
+    let Some(target) = target_of_both(first, second) else {
         return BAD_ARGUMENT;
     };
-    match same(alloc, first, second, target) {
+    match same(alloc, first.bytes, second.bytes, target) {
         Ok(same) => {
             *alike = u32::from(same);
             OK

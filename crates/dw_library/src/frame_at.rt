@@ -1,28 +1,28 @@
 //! The frame of the caller, by an index that the caller keeps, or by one that is made.
 
-ghost use Rattle.std.specs.Prelude.{◌≡◌, ◌⊎◌, ℕ, map, OnErr, Ok, Err, IfErr, IfOk, MatchResult};
+ghost use Rattle.std.specs.Prelude.{◌≡◌, ◌⊎◌, map, OnErr, Ok, Err, MatchResult};
 ghost use Rattle.dw_section.specs.Ranges.{IsTable};
 ghost use Rattle.dw_unwind.specs.declared.by_index.UnwindAtError.TheVariants as TheUnwindAtError;
 ghost use Rattle.dw_unwind.specs.declared.frame.Frame.{Frame as TheCallerFrame};
-ghost use Rattle.dw_unwind.specs.declared.frame.UnwindError.{UnwindError as TheError};
 ghost use Rattle.dw_unwind.specs.declared.frame.UnwindError.TheVariants as TheUnwindError;
 ghost use Rattle.dw_unwind.specs.Unwound.{Unwound, stopped};
 ghost use Rattle.dw_unwind.specs.UnwoundAt.{UnwoundAt};
 ghost use Rattle.dw_library.specs.Answers.{target_of};
-ghost use Rattle.dw_library.specs.CallerFrame.{IsFrame, IsUnwound, Machine, Told, policy_of, told_frame};
+ghost use Rattle.dw_library.specs.CallerFrame.{IsFrame, IsUnwound, Told, held_in, policy_of, told_frame};
 ghost use Rattle.dw_library.specs.FrameAt.{IsAnyUnwound, IsFrameAt, IsOwnUnwound};
-ghost use Rattle.dw_library.specs.Inner.CallerFrame.{held_in};
 ghost use Rattle.dw_library.specs.Inner.FrameAt.{IsOwn, Why, WhyOwn};
 ghost use Rattle.dw_library.specs.Registers.{told_register, AreTold};
 ghost use Rattle.dw_library.specs.Windows.{byte_among};
 
-use crate::answer::{BAD_ARGUMENT, OUT_OF_MEMORY, REFUSED, Refused, not_refused, target_of, told};
+use crate::answer::{
+    BAD_ARGUMENT, OUT_OF_MEMORY, REFUSED, Refused, Section, not_refused, target_of, told,
+};
 use crate::caller::{
     Fault, Frame, Held, Stop, no_fault, no_frame, policy_of, put_frame, status_of, told_fault,
 };
 use crate::index::BAD_INDEX;
 use crate::registers::{Register, give_all};
-use crate::windows::{Window, Windows};
+use crate::windows::Windows;
 use dw_cfa::RowRoom;
 use dw_eval::{Policy, Registers};
 use dw_num::{ReadError, Target};
@@ -114,38 +114,39 @@ fn unwound_at(
 #[unsafe(no_mangle)]
 pub extern "C" fn dwframe_unwind_at(
     alloc: Global,
-    bytes: &[u8],
+    section: &Section<'_>,
     index: &[Ranged],
     stop: &Stop,
-    registers: &[Register],
-    windows: &[Window],
-    memory: &[u8],
+    held: &Held<'_>,
     out: &mut [Register],
     frame: &mut Frame,
     refused: &mut Refused,
     fault: &mut Fault,
 ) -> u32
     // By the index of an accepted section it tells what `dwframe_unwind` tells.
-    ensures own { let told : Told = record { status = result; registers = out.new; frame = frame.new; refusal = refused.new; fault = fault.new } in let held : Machine = record { registers = registers.now; windows = windows.now; memory = memory.now } in IsOwnUnwound (target_of stop.now.address_size stop.now.byte_order) (policy_of stop.now.unset) bytes.now index.now stop.now held out.old told }
+    ensures own { let told : Told = record { status = result; registers = out.new; frame = frame.new; refusal = refused.new; fault = fault.new } in IsOwnUnwound (target_of section.now.address_size section.now.byte_order) (policy_of stop.now.unset) section.now.bytes.now index.now stop.now (held_in held.now) out.old told }
     // By any other it tells the frame by the FDE that stands where the index leads, or why there is none.
-    ensures any { let told : Told = record { status = result; registers = out.new; frame = frame.new; refusal = refused.new; fault = fault.new } in let held : Machine = record { registers = registers.now; windows = windows.now; memory = memory.now } in IsAnyUnwound (target_of stop.now.address_size stop.now.byte_order) (policy_of stop.now.unset) bytes.now index.now stop.now held out.old told }
+    ensures any { let told : Told = record { status = result; registers = out.new; frame = frame.new; refusal = refused.new; fault = fault.new } in IsAnyUnwound (target_of section.now.address_size section.now.byte_order) (policy_of stop.now.unset) section.now.bytes.now index.now stop.now (held_in held.now) out.old told }
 {
     *frame = no_frame();
     *refused = not_refused();
     *fault = no_fault();
-    let Some(target) = target_of(stop.address_size, stop.byte_order) else {
+    let Some(target) = target_of(section.address_size, section.byte_order) else {
         return BAD_ARGUMENT;
     };
     let Some(default) = policy_of(stop.unset) else {
         return BAD_ARGUMENT;
     };
-    let held = Held {
-        registers,
-        windows,
-        memory,
-    };
     match unwound_at(
-        alloc, bytes, target, index, stop, default, &held, out, frame,
+        alloc,
+        section.bytes,
+        target,
+        index,
+        stop,
+        default,
+        held,
+        out,
+        frame,
     ) {
         Ok(status) => status,
         Err(UnwindAtError::BadIndex) => BAD_INDEX,
@@ -165,36 +166,32 @@ pub extern "C" fn dwframe_unwind_at(
 #[unsafe(no_mangle)]
 pub extern "C" fn dwframe_unwind(
     alloc: Global,
-    bytes: &[u8],
+    section: &Section<'_>,
     stop: &Stop,
-    registers: &[Register],
-    windows: &[Window],
-    memory: &[u8],
+    held: &Held<'_>,
     out: &mut [Register],
     frame: &mut Frame,
     refused: &mut Refused,
     fault: &mut Fault,
 ) -> u32
-    ensures { let told : Told = record { status = result; registers = out.new; frame = frame.new; refusal = refused.new; fault = fault.new } in let held : Machine = record { registers = registers.now; windows = windows.now; memory = memory.now } in IsUnwound (target_of stop.now.address_size stop.now.byte_order) (policy_of stop.now.unset) bytes.now stop.now held out.old told }
+    ensures { let told : Told = record { status = result; registers = out.new; frame = frame.new; refusal = refused.new; fault = fault.new } in IsUnwound (target_of section.now.address_size section.now.byte_order) (policy_of stop.now.unset) section.now.bytes.now stop.now (held_in held.now) out.old told }
 {
     *frame = no_frame();
     *refused = not_refused();
     *fault = no_fault();
-    let Some(target) = target_of(stop.address_size, stop.byte_order) else {
+    let Some(target) = target_of(section.address_size, section.byte_order) else {
         return BAD_ARGUMENT;
     };
     if policy_of(stop.unset).is_none() {
         return BAD_ARGUMENT;
     }
-    match check(alloc, bytes, target) {
+    match check(alloc, section.bytes, target) {
         Ok(table) => dwframe_unwind_at(
             alloc,
-            bytes,
+            section,
             table.index(),
             stop,
-            registers,
-            windows,
-            memory,
+            held,
             out,
             frame,
             refused,

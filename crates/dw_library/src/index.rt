@@ -13,7 +13,8 @@ ghost use Rattle.dw_library.specs.Answers.{target_of};
 ghost use Rattle.dw_library.specs.Index.{AreEntries, HasSize, IsAnyRow, IsIndexed, IsRow, IsTold, TellsFde, TellsRow, TellsRules, Told, cfa_kind_of, cfa_offset_of, cfa_register_of, no_row, over, row_of, rule_of};
 
 use crate::answer::{
-    BAD_ARGUMENT, OK, OUT_OF_MEMORY, REFUSED, Refused, TOO_SHORT, not_refused, target_of, told,
+    BAD_ARGUMENT, OK, OUT_OF_MEMORY, REFUSED, Refused, Section, TOO_SHORT, not_refused, target_of,
+    told,
 };
 use dw_cfa::{CfaRule, NearRules, RegRule, Row as CfaRow, RowRoom};
 use dw_num::{ReadError, Target};
@@ -35,7 +36,9 @@ pub struct Rule {
     /// 6 `DW_CFA_expression`, 7 `DW_CFA_val_expression`.
     pub kind: u16,
     /// The register of `DW_CFA_register`.
-    pub other: u32,
+    pub other: u16,
+    /// 0.
+    pub reserved: u16,
     /// The offset of `DW_CFA_offset` and `DW_CFA_val_offset`, in bytes.
     pub offset: i64,
 }
@@ -52,7 +55,7 @@ pub struct Row {
     /// The offset of `DW_CFA_def_cfa`, in bytes.
     pub cfa_offset: i64,
     /// How many registers have a rule.
-    pub count: u64,
+    pub count: usize,
     /// 1 `DW_CFA_def_cfa`, 2 `DW_CFA_def_cfa_expression`; 0 where there is no row, or where the row, of bytes that were not
     /// checked, has no rule for the CFA.
     pub cfa_kind: u32,
@@ -95,20 +98,18 @@ fn put_index(
 #[unsafe(no_mangle)]
 pub extern "C" fn dwframe_index_size(
     alloc: Global,
-    bytes: &[u8],
-    address_size: u8,
-    byte_order: u8,
+    section: &Section<'_>,
     size: &mut usize,
     refused: &mut Refused,
 ) -> u32
-    ensures { HasSize (target_of address_size byte_order) bytes.now result size.new refused.new }
+    ensures { HasSize (target_of section.now.address_size section.now.byte_order) section.now.bytes.now result size.new refused.new }
 {
     *size = 0;
     *refused = not_refused();
-    let Some(target) = target_of(address_size, byte_order) else {
+    let Some(target) = target_of(section.address_size, section.byte_order) else {
         return BAD_ARGUMENT;
     };
-    match size_of(alloc, bytes, target) {
+    match size_of(alloc, section.bytes, target) {
         Ok(found) => {
             *size = found;
             OK
@@ -135,21 +136,19 @@ fn size_of(alloc: Global, bytes: &[u8], target: Target) -> Result<usize, ReadErr
 #[unsafe(no_mangle)]
 pub extern "C" fn dwframe_index(
     alloc: Global,
-    bytes: &[u8],
-    address_size: u8,
-    byte_order: u8,
+    section: &Section<'_>,
     out: &mut [Ranged],
     written: &mut usize,
     refused: &mut Refused,
 ) -> u32
-    ensures { IsIndexed (target_of address_size byte_order) bytes.now result out.old out.new written.new refused.new }
+    ensures { IsIndexed (target_of section.now.address_size section.now.byte_order) section.now.bytes.now result out.old out.new written.new refused.new }
 {
     *written = 0;
     *refused = not_refused();
-    let Some(target) = target_of(address_size, byte_order) else {
+    let Some(target) = target_of(section.address_size, section.byte_order) else {
         return BAD_ARGUMENT;
     };
-    match put_index(alloc, bytes, target, out, written) {
+    match put_index(alloc, section.bytes, target, out, written) {
         Ok(status) => status,
         Err(ReadError::Refused(refusal)) => {
             *refused = told(1, refusal);
@@ -161,13 +160,14 @@ pub extern "C" fn dwframe_index(
 
 // The rule of a register whose rule has no more than a kind and what that names.
 #[inline(always)]
-fn told_rule(number: u16, kind: u16, other: u32, offset: i64) -> Rule
-    ensures { result ≡ record { number = number; kind = kind; other = other; offset = offset } }
+fn told_rule(number: u16, kind: u16, other: u16, offset: i64) -> Rule
+    ensures { result ≡ record { number = number; kind = kind; other = other; reserved = 0; offset = offset } }
 {
     Rule {
         number,
         kind,
         other,
+        reserved: 0,
         offset,
     }
 }
@@ -187,7 +187,7 @@ fn rule_of(number: u16, rule: &RegRule<'_>) -> Rule
         RegRule::SameValue => told_rule(number, 2, 0, 0),
         RegRule::Offset(offset) => told_rule(number, 3, 0, *offset),
         RegRule::ValOffset(offset) => told_rule(number, 4, 0, *offset),
-        RegRule::Register(register) => told_rule(number, 5, u32::from(*register), 0),
+        RegRule::Register(register) => told_rule(number, 5, *register, 0),
         RegRule::Expression(_) => told_rule(number, 6, 0, 0),
         RegRule::ValExpression(_) => told_rule(number, 7, 0, 0),
     }
@@ -195,22 +195,22 @@ fn rule_of(number: u16, rule: &RegRule<'_>) -> Rule
 
 // Writes a rule to its place in a buffer, where it has one.
 #[inline(always)]
-fn put_rule(out: &mut [Rule], place: u64, rule: Rule)
+fn put_rule(out: &mut [Rule], place: usize, rule: Rule)
     ensures inside { place < length out.old → out.new ≡ slice_set out.old place rule }
     ensures outside { length out.old ≤ place → out.new ≡ out.old }
 {
-    if place < out.len() as u64 {
-        out[place as usize] = rule;
+    if place < out.len() {
+        out[place] = rule;
     }
 }
 
 // Writes the rules of a row to the front of a buffer, as many as fit, and tells how many there are.
 #[inline(never)]
-fn put_all_rules(row: &CfaRow<'_>, out: &mut [Rule]) -> u64
+fn put_all_rules(row: &CfaRow<'_>, out: &mut [Rule]) -> usize
     ensures count { result ≡ length row.now.registers }
     ensures rules { out.new ≡ over (map rule_of row.now.registers) out.old }
 {
-    let mut count: u64 = 0;
+    let mut count: usize = 0;
     for (number, rule) in row.specified() {
         put_rule(out, count, rule_of(number, &rule));
         count += 1;
@@ -220,12 +220,12 @@ fn put_all_rules(row: &CfaRow<'_>, out: &mut [Rule]) -> u64
 
 // The same where each of the registers has a slot.
 #[inline(always)]
-fn put_near_rules(rules: NearRules<'_, '_>, out: &mut [Rule]) -> u64
+fn put_near_rules(rules: NearRules<'_, '_>, out: &mut [Rule]) -> usize
     requires { AreSpecified 0 rules }
     ensures count { result ≡ length rules.entry }
     ensures rules { out.new ≡ over (map rule_of rules.entry) out.old }
 {
-    let mut count: u64 = 0;
+    let mut count: usize = 0;
     for (number, rule) in rules {
         put_rule(out, count, rule_of(number, &rule));
         count += 1;
@@ -234,7 +234,7 @@ fn put_near_rules(rules: NearRules<'_, '_>, out: &mut [Rule]) -> u64
 }
 
 /// Writes the rules of a row to the front of a buffer, as many as fit, and tells how many there are.
-pub(crate) fn put_rules(row: &CfaRow<'_>, out: &mut [Rule]) -> u64
+pub(crate) fn put_rules(row: &CfaRow<'_>, out: &mut [Rule]) -> usize
     ensures count { result ≡ length row.now.registers }
     ensures rules { out.new ≡ over (map rule_of row.now.registers) out.old }
 {
@@ -289,7 +289,7 @@ fn cfa_offset_of(rule: &CfaRule<'_>) -> i64
 
 /// What is told of an FDE and of a row of it, which has rules for so many registers.
 #[inline(always)]
-pub(crate) fn told_row(fde: Fde, range: u64, rules: &CfaRow<'_>, count: u64) -> Row
+pub(crate) fn told_row(fde: Fde, range: u64, rules: &CfaRow<'_>, count: usize) -> Row
     requires range { fde.end ≡ fde.begin + range }
     requires count { count ≡ length rules.now.registers }
     ensures told { IsTold (record { fde = fde; row = rules.now }) result }
@@ -313,11 +313,7 @@ fn tell(found: &StandingFde, rules: &CfaRow<'_>, out: &mut [Rule], row: &mut Row
 {
     let count = put_rules(rules, out);
     *row = told_row(found.fde(), found.range(), rules, count);
-    if count <= out.len() as u64 {
-        OK
-    } else {
-        TOO_SHORT
-    }
+    if count <= out.len() { OK } else { TOO_SHORT }
 }
 
 // Writes the row of an address, or answers why there is none.
@@ -349,9 +345,7 @@ fn put_row(
 #[unsafe(no_mangle)]
 pub extern "C" fn dwframe_row_at(
     alloc: Global,
-    bytes: &[u8],
-    address_size: u8,
-    byte_order: u8,
+    section: &Section<'_>,
     index: &[Ranged],
     address: u64,
     rules: &mut [Rule],
@@ -359,16 +353,16 @@ pub extern "C" fn dwframe_row_at(
     refused: &mut Refused,
 ) -> u32
     // By the index of an accepted section it tells what the section says.
-    ensures own { let told : Told = record { status = result; row = row.new; rules = rules.new } in IsRow (target_of address_size byte_order) bytes.now index.now address rules.old told refused.new }
+    ensures own { let told : Told = record { status = result; row = row.new; rules = rules.new } in IsRow (target_of section.now.address_size section.now.byte_order) section.now.bytes.now index.now address rules.old told refused.new }
     // By any other it tells what the FDE says that stands where an entry that covers the address leads, or that no entry or no such FDE does.
-    ensures any { let told : Told = record { status = result; row = row.new; rules = rules.new } in IsAnyRow (target_of address_size byte_order) bytes.now index.now address rules.old told refused.new }
+    ensures any { let told : Told = record { status = result; row = row.new; rules = rules.new } in IsAnyRow (target_of section.now.address_size section.now.byte_order) section.now.bytes.now index.now address rules.old told refused.new }
 {
     *row = no_row();
     *refused = not_refused();
-    let Some(target) = target_of(address_size, byte_order) else {
+    let Some(target) = target_of(section.address_size, section.byte_order) else {
         return BAD_ARGUMENT;
     };
-    match put_row(alloc, bytes, target, index, address, rules, row) {
+    match put_row(alloc, section.bytes, target, index, address, rules, row) {
         Ok(status) => status,
         Err(LookUpError::Refused(refusal)) => {
             *refused = told(1, refusal);

@@ -8,7 +8,8 @@ ghost use Rattle.dw_library.specs.Looks.{AreLooks, IsLook, Look, TellsLooks, Tol
 ghost use Rattle.dw_library.specs.Inner.Looks.{IsLeft, status_of};
 
 use crate::answer::{
-    BAD_ARGUMENT, OK, OUT_OF_MEMORY, REFUSED, Refused, TOO_SHORT, not_refused, target_of, told,
+    BAD_ARGUMENT, OK, OUT_OF_MEMORY, REFUSED, Refused, Section, TOO_SHORT, not_refused, target_of,
+    told,
 };
 use crate::index::{Row, Rule, no_row, put_rules, told_row};
 use dw_num::{ReadError, Target};
@@ -23,14 +24,14 @@ struct Room {
 }
 
 // What is left of a room of so many rules behind so many more of them.
-fn behind(room: Room, count: u64, size: usize) -> Room
+fn behind(room: Room, count: usize, size: usize) -> Room
     requires { room.place ≤ size }
     ensures { (before own : List TheRule) → IsLeft size before room → count ≡ length own → IsLeft size (before ++ own) result }
 {
-    let left = (size - room.place) as u64;
+    let left = size - room.place;
     if count <= left {
         return Room {
-            place: room.place + count as usize,
+            place: room.place + count,
             short: room.short,
         };
     }
@@ -47,7 +48,7 @@ fn put_look(
     address: u64,
     row: &mut Row,
     rules: &mut [Rule],
-) -> Result<u64, AllocError>
+) -> Result<usize, AllocError>
     requires section { lookups.old.section ≡ table.now }
     ensures look { IfOk result (λ count. (l : Look) × IsLook table.now.target table.now.bytes address l × (row.new ≡ l.row) × (rules.new ≡ over l.rules rules.old) × (count ≡ length l.rules)) }
     ensures kept { OnErr result ((row.new ≡ row.old) × (rules.new ≡ rules.old)) }
@@ -137,26 +138,24 @@ fn status_of(short: Result<bool, AllocError>) -> u32
 #[unsafe(no_mangle)]
 pub extern "C" fn dwframe_rows_at(
     alloc: Global,
-    bytes: &[u8],
-    address_size: u8,
-    byte_order: u8,
+    section: &Section<'_>,
     addresses: &[u64],
     rows: &mut [Row],
     rules: &mut [Rule],
     done: &mut usize,
     refused: &mut Refused,
 ) -> u32
-    ensures { let told : ToldRows = record { status = result; done = done.new; rows = rows.new; rules = rules.new } in AreLooks (target_of address_size byte_order) bytes.now addresses.now rows.old rules.old told refused.new }
+    ensures { let told : ToldRows = record { status = result; done = done.new; rows = rows.new; rules = rules.new } in AreLooks (target_of section.now.address_size section.now.byte_order) section.now.bytes.now addresses.now rows.old rules.old told refused.new }
 {
     *done = 0;
     *refused = not_refused();
-    let Some(target) = target_of(address_size, byte_order) else {
+    let Some(target) = target_of(section.address_size, section.byte_order) else {
         return BAD_ARGUMENT;
     };
     if rows.len() < addresses.len() {
         return TOO_SHORT;
     }
-    match check(alloc, bytes, target) {
+    match check(alloc, section.bytes, target) {
         Ok(table) => status_of(put_looks(&table, addresses, rows, rules, done)),
         Err(ReadError::Refused(refusal)) => {
             *refused = told(1, refusal);

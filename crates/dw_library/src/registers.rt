@@ -16,6 +16,8 @@ pub struct Register {
     pub number: u16,
     /// Not 0 where the value is known.
     pub known: u16,
+    /// 0. It is not looked at.
+    pub reserved: u32,
     /// The value, taken modulo 2^N.
     pub value: u64,
 }
@@ -50,11 +52,13 @@ fn told_register(entry: (u16, Option<u64>)) -> Register
         (number, Some(value)) => Register {
             number,
             known: 1,
+            reserved: 0,
             value,
         },
         (number, None) => Register {
             number,
             known: 0,
+            reserved: 0,
             value: 0,
         },
     }

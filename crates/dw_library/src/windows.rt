@@ -1,10 +1,11 @@
 //! Memory that a caller lends: windows of addresses over one buffer.
 
-ghost use Rattle.std.specs.Prelude.{◌≡◌, ◌≤◌, true, Some, None, length};
+ghost use Rattle.std.specs.Prelude.{◌≡◌, ℕ, ◌+◌, ◌<◌, ◌≤◌, true, false, IfSome, Some, None, ⊤, length};
 ghost use Rattle.std.specs.Bool.{MatchBool};
 ghost use Rattle.dw_num.specs.Fixed.{fixed_number};
 ghost use Rattle.dw_eval.specs.Bytes.{bytes_from, number_in_memory};
 ghost use Rattle.dw_library.specs.Windows.{covers, byte_of, byte_among};
+ghost use Rattle.dw_library.specs.Inner.Windows.{Spells};
 
 use byteorder::{BigEndian, ByteOrder, LittleEndian};
 use dw_eval::{Memory, ReadFault};
@@ -17,9 +18,9 @@ pub struct Window {
     /// The first address.
     pub address: u64,
     /// Where its byte stands in the buffer.
-    pub place: u64,
+    pub place: usize,
     /// How many addresses.
-    pub len: u64,
+    pub len: usize,
 }
 
 /// The memory of windows over one buffer. Its device never fails.
@@ -33,7 +34,7 @@ fn covers(window: &Window, address: u128) -> bool
     ensures { result ≡ covers address window.now }
 {
     let begin = u128::from(window.address);
-    begin <= address && address < begin + u128::from(window.len)
+    begin <= address && address < begin + window.len as u128
 }
 
 // The byte that a window has at an address that it covers, where the buffer is long enough.
@@ -41,7 +42,7 @@ fn byte_of(window: &Window, bytes: &[u8], address: u128) -> Option<u8>
     requires covers { covers address window.now ≡ true }
     ensures { result ≡ byte_of bytes.now address window.now }
 {
-    let place = u128::from(window.place) + (address - u128::from(window.address));
+    let place = window.place as u128 + (address - u128::from(window.address));
     if place < bytes.len() as u128 {
         return Some(bytes[place as usize]);
     }
@@ -55,6 +56,51 @@ fn byte_at(windows: &[Window], bytes: &[u8], address: u128) -> Option<u8>
     'windows: for i in 0..windows.len() {
         if covers(&windows[i], address) {
             return byte_of(&windows[i], bytes, address);
+        }
+    }
+    None
+}
+
+// Whether a window has none of so many addresses.
+fn is_apart(window: &Window, address: u64, len: usize) -> bool
+    ensures { MatchBool result ((k : ℕ) → k < len → covers (address + k) window.now ≡ false) ⊤ }
+{
+    if address < window.address {
+        window.address - address >= len as u64
+    } else {
+        address - window.address >= window.len as u64
+    }
+}
+
+// The bytes from an address on, where one window has them all.
+fn bytes_of<'a>(window: &Window, bytes: &'a [u8], address: u64, len: usize) -> Option<&'a [u8]>
+    ensures len { IfSome result (λ found. length found.now ≡ len) }
+    ensures spelled { IfSome result (λ found. Spells window.now bytes.now address found.now) }
+{
+    if address < window.address {
+        return None;
+    }
+    let offset = address - window.address;
+    let left = window.len as u64;
+    if offset >= left || left - offset < len as u64 {
+        return None;
+    }
+    let place = window.place as u128 + u128::from(offset);
+    if place + len as u128 > bytes.len() as u128 {
+        return None;
+    }
+    let place = place as usize;
+    Some(&bytes[place..place + len])
+}
+
+// The bytes from an address on, where the first window that has one of them has them all.
+fn whole<'a>(windows: &[Window], bytes: &'a [u8], address: u64, len: usize) -> Option<&'a [u8]>
+    ensures len { IfSome result (λ found. length found.now ≡ len) }
+    ensures all { IfSome result (λ found. bytes_from (byte_among bytes.now windows.now) address len ≡ Some found.now) }
+{
+    'windows: for i in 0..windows.len() {
+        if !is_apart(&windows[i], address, len) {
+            return bytes_of(&windows[i], bytes, address, len);
         }
     }
     None
@@ -80,9 +126,14 @@ fn number_of(order: Order, bytes: &[u8]) -> u64
     requires most { length bytes.now ≤ 8 }
     ensures { result ≡ fixed_number order (length bytes.now) bytes.now }
 {
-    match order {
-        Order::Little => LittleEndian::read_uint(bytes, bytes.len()),
-        Order::Big => BigEndian::read_uint(bytes, bytes.len()),
+    // An address is read at once, where any number of bytes is copied first.
+    match (order, bytes.len()) {
+        (Order::Little, 8) => LittleEndian::read_u64(bytes),
+        (Order::Little, 4) => u64::from(LittleEndian::read_u32(bytes)),
+        (Order::Little, len) => LittleEndian::read_uint(bytes, len),
+        (Order::Big, 8) => BigEndian::read_u64(bytes),
+        (Order::Big, 4) => u64::from(BigEndian::read_u32(bytes)),
+        (Order::Big, len) => BigEndian::read_uint(bytes, len),
     }
 }
 
@@ -99,6 +150,9 @@ fn number_from(
     requires most { len ≤ 8 }
     ensures { result ≡ number_in_memory (byte_among bytes.now windows.now) order address len }
 {
+    if let Some(found) = whole(windows, bytes, address, len) {
+        return Some(number_of(order, found));
+    }
     let mut buffer = [0; 8];
     let spelled = &mut buffer[..len];
     if !fill(windows, bytes, address, spelled) {

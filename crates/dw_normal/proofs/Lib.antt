@@ -23,14 +23,5 @@ mod Filled
 mod Sited
 mod Entries
 mod Located
-mod PlainMembers
-mod PlainRuns
-mod SavedRules
-mod SavedDifferences
-mod PlainReads
-mod PlainFdes
-mod UntouchedRows
-mod PlainLogs
 mod NopsLeft
-mod PushedRows
 mod Apartness

@@ -12,9 +12,4 @@ pub mod Puts
 pub mod Places
 pub mod Listed
 pub mod Answers
-pub mod PlainInstruction
-pub mod PlainRows
-pub mod PlainLog
-pub mod PlainProgram
-pub mod PlainFde
 pub mod Twins

@@ -31,9 +31,9 @@ pub(crate) struct Begun<'r, 'a> {
     pub(crate) apart: Apart<'a>,
 }
 
-/// The initial row of a return address register, where that of another one is known, as it mostly is the same.
+// The initial row of a return address register, where that of another one is known, as it mostly is the same.
 #[inline(always)]
-pub(crate) fn shared_row<'r, 'a>(
+fn shared_row<'r, 'a>(
     rows: &'r BTreeMap<u16, Row<'a>>,
     register: u16,
     known: u16,

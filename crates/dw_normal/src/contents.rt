@@ -35,10 +35,10 @@ fn filled_len(len: usize, size: Size) -> usize
     }
 }
 
-/// Appends the nops that fill an entry up to a multiple of the address size: as many as there may be, of which what is not missing goes.
+// Appends the nops that fill an entry up to a multiple of the address size: as many as there may be, of which what is not missing goes.
 #[inline(always)]
 #[tactic(auto, using(crate::proofs::NopsLeft::nops_left))]
-pub(crate) fn push_nops(out: &mut Vec<u8>, size: Size) -> Result<(), AllocError>
+fn push_nops(out: &mut Vec<u8>, size: Size) -> Result<(), AllocError>
     ensures { OnOk result (out.new.items ≡ out.old.items ++ replicate (missing size (length out.old.items)) 0) }
 {
     let len = out.len();
@@ -142,9 +142,9 @@ fn wide_fields(order: Order, cie_at: u64, begin: u64, range: u64) -> [u8; 24]
     fields
 }
 
-/// Makes a buffer room for the length of an FDE, and what stands before its program, at once.
+// Makes a buffer room for the length of an FDE, and what stands before its program, at once.
 #[inline(always)]
-pub(crate) fn begin_fde_entry(
+fn begin_fde_entry(
     out: &mut Vec<u8>,
     cie_at: u64,
     begin: u64,

@@ -1,12 +1,11 @@
 //! The entries of a normal form, put into a sink one after another. One entry is held at a time.
 
-ghost use Rattle.std.specs.Prelude.{◌≡◌, ℕ, ◌+◌, ◌-◌, ◌<◌, ◌≤◌, ◌^◌, [], ◌++◌, List, length, drop, slice_index_or, Some, IfOk, IfSome, IsSome, IsTrue, OnOk};
+ghost use Rattle.std.specs.Prelude.{◌≡◌, ℕ, ◌+◌, ◌-◌, ◌<◌, ◌≤◌, ◌^◌, [], ◌++◌, List, length, drop, slice_index_or, Some, IsSome, OnOk};
 ghost use Rattle.std.specs.List.{AllByRecursion};
 ghost use Rattle.dw_num.specs.Fixed.{fixed_bytes};
 ghost use Rattle.dw_num.specs.declared.target.Form.TheVariants.{Dwarf32};
 ghost use Rattle.dw_cfa.specs.Rows.{Rules};
 ghost use Rattle.dw_section.specs.Cut.{entry, item_bytes};
-ghost use Rattle.dw_section.specs.Opening.{HasProgram, OpensBehind};
 ghost use Rattle.dw_canon.specs.Inner.Canon.{canon, cie_instrs};
 ghost use Rattle.dw_canon.specs.Inner.Fits.{InstrFits};
 ghost use Rattle.dw_canon.specs.Members.{Member, AreMembers};
@@ -15,18 +14,16 @@ ghost use Rattle.dw_normal.specs.Inner.Begun.{SharesIn};
 ghost use Rattle.dw_normal.specs.Inner.Writing.{StandsIn};
 ghost use Rattle.dw_normal.specs.Inner.Lengths.{cie_with, cies_bytes, fdes_bytes};
 ghost use Rattle.dw_normal.specs.Inner.Places.{place_in, RowsRise, fde_with};
-ghost use Rattle.dw_normal.specs.Inner.PlainFde.{FirstIs};
 ghost use Rattle.dw_normal.specs.Inner.Puts.{Puts, taken_by, after};
-ghost use Rattle.dw_normal.specs.Inner.Listed.{AreInitial, AreListed, ArePlaces, IsListed, IsSmall, OfFde, OfMembers};
+ghost use Rattle.dw_normal.specs.Inner.Listed.{AreInitial, AreListed, ArePlaces, IsListed, IsSmall, OfMembers};
 
-use crate::begun::{Begun, begin_fde, room_for, shared_row};
+use crate::begun::{Begun, begin_fde, room_for};
 use crate::contents::{fill_cie, fill_fde};
-use crate::plain_fde::{Opened, fill_plain, keep_first, known_first};
 use crate::sink::{Sink, put_all};
 use byteorder::{BigEndian, ByteOrder, LittleEndian};
 use dw_cfa::Row;
 use dw_num::{Order, Target};
-use dw_section::{CieRow, FdeRef, Opening, Table};
+use dw_section::{FdeRef, Table};
 use std::alloc::{AllocError, Global};
 use std::collections::BTreeMap;
 
@@ -141,12 +138,11 @@ fn write_cies<'a, S: Sink>(
     Ok(written)
 }
 
-/// The FDE that is written, where the CIE of its return address register stands, and a row that other FDEs may begin with.
+/// The FDE that is written, and where the CIE of its return address register stands.
 #[derive(Drop)]
 pub(crate) struct Writing<'r, 'a> {
     pub(crate) begun: Begun<'r, 'a>,
     pub(crate) cie_at: u64,
-    pub(crate) opened: Option<Opened<'a>>,
 }
 
 // The place of the CIE of a return address register, where that of another one is known, as it mostly is the same.
@@ -160,114 +156,6 @@ fn cie_of(places: &BTreeMap<u16, u64>, register: u16, known: u16, cie_at: u64) -
         return cie_at;
     }
     places[&register]
-}
-
-// Goes on to an FDE of a table: to the initial row of its group, and to the place of its CIE.
-#[inline(always)]
-fn turn_to<'r, 'a>(
-    writing: &mut Writing<'r, 'a>,
-    table: &Table<'a>,
-    rows: &'r BTreeMap<u16, Row<'a>>,
-    places: &BTreeMap<u16, u64>,
-    fde: FdeRef,
-)
-    requires place { IsListed table.now fde.place }
-    requires rows { AreInitial table.now rows.now.entries }
-    requires places { ArePlaces table.now.target rows.now.entries places.now.entries }
-    requires small { IsSmall table.now }
-    requires shares { SharesIn rows.now.entries writing.old.begun }
-    requires stands { StandsIn places.now.entries writing.old }
-    ensures fde { OfFde table.now fde.place (λ f. writing.new.begun.fde ≡ f) }
-    ensures shares { SharesIn rows.now.entries writing.new.begun }
-    ensures stands { StandsIn places.now.entries writing.new }
-    ensures same { (writing.new.begun.changes ≡ writing.old.begun.changes) × (writing.new.begun.apart ≡ writing.old.begun.apart) × (writing.new.opened ≡ writing.old.opened) }
-{
-    table.accepted();
-    let listed = table.fde(fde);
-    let (register, known) = (listed.return_register, writing.begun.fde.return_register);
-    writing.cie_at = cie_of(places, register, known, writing.cie_at);
-    writing.begun.shared = shared_row(rows, register, known, writing.begun.shared);
-    writing.begun.fde = listed;
-}
-
-// Makes a buffer an FDE of a table, with room for its length, where its program is plain and the row at its begin is known.
-#[inline(always)]
-fn fill_plain_at<'r, 'a>(
-    out: &mut Vec<u8>,
-    writing: &mut Writing<'r, 'a>,
-    table: &Table<'a>,
-    rows: &'r BTreeMap<u16, Row<'a>>,
-    places: &BTreeMap<u16, u64>,
-    fde: FdeRef,
-    opening: Opening<'a>,
-) -> Result<bool, AllocError>
-    requires place { IsListed table.now fde.place }
-    requires rows { AreInitial table.now rows.now.entries }
-    requires places { ArePlaces table.now.target rows.now.entries places.now.entries }
-    requires small { IsSmall table.now }
-    requires section { writing.old.begun.changes.section ≡ table.now }
-    requires shares { SharesIn rows.now.entries writing.old.begun }
-    requires stands { StandsIn places.now.entries writing.old }
-    requires opens { OfFde table.now fde.place (λ f. IfSome opening.row (OpensBehind table.now.target table.now.bytes f)) }
-    requires program { OfFde table.now fde.place (λ f. HasProgram table.now.target table.now.bytes f opening.factors opening.program.now) }
-    requires first { FirstIs table.now.target table.now.bytes writing.old.opened }
-    ensures contents { (ms : List Member) → AreMembers table.now.target table.now.bytes ms → (d : Member) → IfOk result (λ plain. IsTrue plain → (out.new.items ≡ fixed_bytes table.now.target.order 4 0 ++ contents table.now.target (fde_with table.now.target ms (slice_index_or ms fde.place d)))) }
-    ensures section { writing.new.begun.changes.section ≡ table.now }
-    ensures shares { SharesIn rows.now.entries writing.new.begun }
-    ensures stands { StandsIn places.now.entries writing.new }
-    ensures opened { writing.new.opened ≡ writing.old.opened }
-{
-    table.accepted();
-    turn_to(writing, table, rows, places, fde);
-    let (listed, shared) = (writing.begun.fde, writing.begun.shared);
-    let Some(opened) = known_first(&writing.opened, opening.row, listed.return_register) else {
-        return Ok(false);
-    };
-    fill_plain(
-        out,
-        writing.cie_at,
-        listed,
-        opening,
-        opened,
-        shared,
-        table.target(),
-    )
-}
-
-// Makes a buffer an FDE of a table, with room for its length, by its rows.
-fn fill_rows_at<'r, 'a>(
-    out: &mut Vec<u8>,
-    writing: &mut Writing<'r, 'a>,
-    table: &Table<'a>,
-    rows: &'r BTreeMap<u16, Row<'a>>,
-    places: &BTreeMap<u16, u64>,
-    fde: FdeRef,
-    row: Option<CieRow>,
-) -> Result<(), AllocError>
-    requires place { IsListed table.now fde.place }
-    requires rows { AreInitial table.now rows.now.entries }
-    requires places { ArePlaces table.now.target rows.now.entries places.now.entries }
-    requires small { IsSmall table.now }
-    requires section { writing.old.begun.changes.section ≡ table.now }
-    requires shares { SharesIn rows.now.entries writing.old.begun }
-    requires stands { StandsIn places.now.entries writing.old }
-    requires opens { OfFde table.now fde.place (λ f. IfSome row (OpensBehind table.now.target table.now.bytes f)) }
-    requires first { FirstIs table.now.target table.now.bytes writing.old.opened }
-    ensures contents { (ms : List Member) → AreMembers table.now.target table.now.bytes ms → (d : Member) → OnOk result (out.new.items ≡ fixed_bytes table.now.target.order 4 0 ++ contents table.now.target (fde_with table.now.target ms (slice_index_or ms fde.place d))) }
-    ensures section { writing.new.begun.changes.section ≡ table.now }
-    ensures shares { OnOk result (SharesIn rows.now.entries writing.new.begun) }
-    ensures stands { OnOk result (StandsIn places.now.entries writing.new) }
-    ensures first { OnOk result (FirstIs table.now.target table.now.bytes writing.new.opened) }
-{
-    table.accepted();
-    let known = writing.begun.fde.return_register;
-    begin_fde(&mut writing.begun, rows, table, fde)?;
-    let target = table.target();
-    let alloc = *out.allocator();
-    keep_first(alloc, &mut writing.opened, row, &writing.begun, target)?;
-    let register = writing.begun.fde.return_register;
-    writing.cie_at = cie_of(places, register, known, writing.cie_at);
-    fill_fde(out, writing.cie_at, &mut writing.begun, target)
 }
 
 // Makes a buffer an FDE of a table, with room for its length, where these are the initial rows and the places of CIEs.
@@ -286,18 +174,17 @@ fn fill_fde_at<'r, 'a>(
     requires section { writing.old.begun.changes.section ≡ table.now }
     requires shares { SharesIn rows.now.entries writing.old.begun }
     requires stands { StandsIn places.now.entries writing.old }
-    requires first { FirstIs table.now.target table.now.bytes writing.old.opened }
     ensures contents { (ms : List Member) → AreMembers table.now.target table.now.bytes ms → (d : Member) → OnOk result (out.new.items ≡ fixed_bytes table.now.target.order 4 0 ++ contents table.now.target (fde_with table.now.target ms (slice_index_or ms fde.place d))) }
     ensures section { writing.new.begun.changes.section ≡ table.now }
     ensures shares { OnOk result (SharesIn rows.now.entries writing.new.begun) }
     ensures stands { OnOk result (StandsIn places.now.entries writing.new) }
-    ensures first { OnOk result (FirstIs table.now.target table.now.bytes writing.new.opened) }
 {
-    let opening = table.opening(fde);
-    if fill_plain_at(out, writing, table, rows, places, fde, opening)? {
-        return Ok(());
-    }
-    fill_rows_at(out, writing, table, rows, places, fde, opening.row)
+    table.accepted();
+    let known = writing.begun.fde.return_register;
+    begin_fde(&mut writing.begun, rows, table, fde)?;
+    let register = writing.begun.fde.return_register;
+    writing.cie_at = cie_of(places, register, known, writing.cie_at);
+    fill_fde(out, writing.cie_at, &mut writing.begun, table.target())
 }
 
 // Puts an FDE of a table, where these are the initial rows and the places of CIEs.
@@ -318,12 +205,10 @@ fn write_fde<'r, 'a, S: Sink>(
     requires section { writing.old.begun.changes.section ≡ table.now }
     requires shares { SharesIn rows.now.entries writing.old.begun }
     requires stands { StandsIn places.now.entries writing.old }
-    requires first { FirstIs table.now.target table.now.bytes writing.old.opened }
     ensures puts { (ms : List Member) → AreMembers table.now.target table.now.bytes ms → (d : Member) → Puts (entry_bytes table.now.target (fde_with table.now.target ms (slice_index_or ms fde.place d))) result (S.failures sink.old) (S.failures sink.new) (S.taken sink.old) (S.taken sink.new) }
     ensures section { writing.new.begun.changes.section ≡ table.now }
     ensures shares { OnOk result (SharesIn rows.now.entries writing.new.begun) }
     ensures stands { OnOk result (StandsIn places.now.entries writing.new) }
-    ensures first { OnOk result (FirstIs table.now.target table.now.bytes writing.new.opened) }
 {
     table.accepted();
     if fill_fde_at(buffer, writing, table, rows, places, fde).is_err() {
@@ -350,7 +235,6 @@ fn write_all<'r, 'a, S: Sink>(
     requires section { writing.old.begun.changes.section ≡ table.now }
     requires shares { SharesIn rows.now.entries writing.old.begun }
     requires stands { StandsIn places.now.entries writing.old }
-    requires first { FirstIs table.now.target table.now.bytes writing.old.opened }
     ensures { OfMembers table.now (λ ms. Puts (fdes_bytes table.now.target ms ms) result (S.failures sink.old) (S.failures sink.new) (S.taken sink.old) (S.taken sink.new)) }
 {
     table.accepted();
@@ -384,11 +268,7 @@ fn write_fdes<'a, S: Sink>(
     }
     let begun = room_for(*buffer.allocator(), rows, table);
     let cie_at = places[&begun.fde.return_register];
-    let mut writing = Writing {
-        begun,
-        cie_at,
-        opened: None,
-    };
+    let mut writing = Writing { begun, cie_at };
     write_all(sink, buffer, &mut writing, table, rows, places, count)
 }
 

@@ -106,10 +106,10 @@ fn push_rule_of<'a>(
     }
 }
 
-/// Appends what gives a register its rule of a row: `Restore` where it is the initial one.
+// Appends what gives a register its rule of a row: `Restore` where it is the initial one.
 #[inline(always)]
 #[tactic(auto, unfolding(dw_canon::specs::Spelling::instr_bytes))]
-pub(crate) fn push_register<'a>(
+fn push_register<'a>(
     out: &mut Vec<u8>,
     shared: &Row<'a>,
     row: &Row<'a>,
@@ -166,15 +166,10 @@ pub(crate) fn push_difference<'a>(
     push_rules(out, shared, before, after, differences, target)
 }
 
-/// Appends what moves the location far.
+// Appends what moves the location far.
 #[inline(never)]
 #[tactic(auto, unfolding(dw_canon::specs::Spelling::instr_bytes))]
-pub(crate) fn push_far_move(
-    out: &mut Vec<u8>,
-    from: u128,
-    to: u128,
-    target: Target,
-) -> Result<(), AllocError>
+fn push_far_move(out: &mut Vec<u8>, from: u128, to: u128, target: Target) -> Result<(), AllocError>
     requires rises { from < to }
     requires in_space { to < address_limit target.size }
     ensures { OnOk result (out.new.items ≡ out.old.items ++ instr_bytes target (move from to)) }

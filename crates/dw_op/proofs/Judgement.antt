@@ -1,10 +1,10 @@
 -- Judging a block, and what an accepted one stands for.
-use Rattle.dw_op.proofs.Words.{◌≡◌, ℕ, ◌<◌, Bool, true, false, false≢true, List, [], ◌∷◌, ◌++◌, length, Option, Some, None, Result, Ok, Err, refl, sym, ap, subst, ◌∙◌, Refusal, Target, Input, AreBytes, done, Op, Frame, Step, Plain, Walker}
-use Rattle.dw_op.proofs.Words.{FrameBlock, Expression, bare, step_at, Walk, walk, index_in, op_of, put_first, resolve, unless, block_input, decode_at, block_of, WalkSo, Walked, WalkedBad, Walks, IsAccepted, ok_ops, ops_of, left_of, StepsSo}
+use Rattle.dw_op.proofs.Words.{◌≡◌, ℕ, ◌<◌, Bool, true, false, false≢true, List, [], ◌∷◌, ◌++◌, length, Option, Some, None, Result, Ok, Err, refl, sym, ap, subst, ◌∙◌, Refusal, Target, Input, AreBytes, done, Op, Frame, Step, Plain, Measure, Operations, Walker}
+use Rattle.dw_op.proofs.Words.{FrameBlock, Expression, bare, step_at, Walk, walk, sum_in, index_in, op_of, put_first, resolve, unless, block_input, decode_at, block_of, WalkSo, Walked, WalkedBad, Walks, IsAccepted, ok_ops, ops_of, left_of, StepsSo}
 use Rattle.dw_op.proofs.Splits.{walk_step, walk_stuck, walk_end, step_shorter}
 use Rattle.dw_op.proofs.Lent.Blocks.{block_found, block_only, answered, first_of_all, bad_branch, decoded_fault}
 use Rattle.dw_op.proofs.Lent.Lines.{expression_is}
-use Rattle.dw_op.proofs.Walkers.{same_block}
+use Rattle.dw_op.proofs.Walkers.{walked_block}
 use Rattle.dw_op.proofs.Decoded.{Within, within_more, OpsSo, ops_more, ops_bad, ops_all}
 
 -- a block without fault in its reading is decoded as its branches are resolved
@@ -56,21 +56,27 @@ read_stuck i j found r h some e = sym h.fault ∙ ap (λ (y : Walk). y.fault) (w
 
 pub record CheckSo (i : Input) (w : Walker) : Type 0 where
   pub so : WalkSo w
+  pub measure : w.measure ≡ Operations
   pub block : block_of w ≡ i
   pub far : SoFar i w.here
 
+-- an operation that is found by its sum of ones is found by its number
+numbered : (w : Walker) (at : ℕ) (step : Step) (o : Option Op) → w.measure ≡ Operations → op_of (sum_in w.measure Frame (block_of w)) at step ≡ o → op_of (index_in Frame (block_of w)) at step ≡ o
+numbered w at step o measure e = subst (λ (m : Measure). op_of (sum_in m Frame (block_of w)) at step ≡ o) measure e
+
 pub check_more : (i : Input) (w v : Walker) (op : Op) → CheckSo i w → Walked w v op → CheckSo i v
 check_more i w v op h s =
-    let is : op_of (index_in Frame i) w.here.at s.step ≡ Some op = subst (λ (j : Input). op_of (index_in Frame j) w.here.at s.step ≡ Some op) h.block s.is in
+    let is : op_of (index_in Frame i) w.here.at s.step ≡ Some op = subst (λ (j : Input). op_of (index_in Frame j) w.here.at s.step ≡ Some op) h.block (numbered w w.here.at s.step (Some op) h.measure s.is) in
     record {
       so = s.so;
-      block = same_block w s.step v.here h.so s.read v refl s.bytes ∙ h.block;
+      measure = s.measure ∙ h.measure;
+      block = walked_block w v op h.so s ∙ h.block;
       far = (h.far.0 ++ op ∷ [], ops_more Frame i w.here (index_in Frame i) h.far.0 (s.step, v.here) op h.far.1 s.read is);
     }
 
 pub check_bad : (i : Input) (w : Walker) (r : Refusal) → (walk Frame i).fault ≡ None → CheckSo i w → WalkedBad w r → decode_at Frame i ≡ Err r
 check_bad i w r read h s =
-    let none : op_of (index_in Frame i) w.here.at s.step ≡ None = subst (λ (j : Input). op_of (index_in Frame j) w.here.at s.step ≡ None) h.block s.bad in
+    let none : op_of (index_in Frame i) w.here.at s.step ≡ None = subst (λ (j : Input). op_of (index_in Frame j) w.here.at s.step ≡ None) h.block (numbered w w.here.at s.step None h.measure s.bad) in
     resolved_is i (Err r) read (ops_bad Frame i w.here (index_in Frame i) h.far.0 (s.step, s.behind) h.far.1 s.read none ∙ ap (λ (x : Refusal). Err x) (sym s.is))
 
 pub check_end : (t : Target) (bytes : List ℕ) (w : Walker) → (walk Frame (block_input t bytes)).fault ≡ None → CheckSo (block_input t bytes) w → w.here.bytes ≡ [] → IsAccepted t bytes
@@ -125,8 +131,8 @@ front_is t bytes w h here same =
     ∙ ap (λ (j : Input). resolve (index_in Frame i) (walk Frame j).items) here
     ∙ sym (resolved_is i (resolve (index_in Frame i) (walk Frame i).items) (accepted_read t bytes h) refl)
 
-pub steps_none : (t : Target) (bytes : List ℕ) (w : Walker) → IsAccepted t bytes → WalkSo w → w.here ≡ block_input t bytes → w.bytes.now ≡ bytes → StepsSo w
-steps_none t bytes w h so here same = record { so = so; ops = h.0; good = front_is t bytes w h here same ∙ h.1 }
+pub steps_none : (t : Target) (bytes : List ℕ) (w : Walker) → IsAccepted t bytes → WalkSo w → w.measure ≡ Operations → w.here ≡ block_input t bytes → w.bytes.now ≡ bytes → StepsSo w
+steps_none t bytes w h so measure here same = record { so = so; measure = measure; ops = h.0; good = front_is t bytes w h here same ∙ h.1 }
 
 pub steps_all : (t : Target) (bytes : List ℕ) (w : Walker) → IsAccepted t bytes → w.here ≡ block_input t bytes → w.bytes.now ≡ bytes → left_of w ≡ ops_of t bytes
 unfolding left_of ops_of
@@ -141,15 +147,16 @@ left_says : (w v : Walker) (op : Op) → StepsSo w → Walked w v op → (more :
 left_says w v op h s =
     let find = index_in Frame (block_of w) in
     let later = resolve find (walk Frame v.here).items in
-    let same = same_block w s.step v.here h.so s.read v refl s.bytes in
+    let same = walked_block w v op h.so s in
+    let is_op = numbered w w.here.at s.step (Some op) h.measure s.is in
     let here : resolve find (walk Frame w.here).items ≡ put_first (Some op) w.here.at later =
-    ap (λ (y : Walk). resolve find y.items) (walk_step Frame w.here (s.step, v.here) h.so.here.bytes s.read) ∙ ap (λ (o : Option Op). put_first o w.here.at later) s.is in
+    ap (λ (y : Walk). resolve find y.items) (walk_step Frame w.here (s.step, v.here) h.so.here.bytes s.read) ∙ ap (λ (o : Option Op). put_first o w.here.at later) is_op in
     let p = first_of_all w.here.at (Some op) later h.ops (sym here ∙ h.good) in
     let is : h.ops ≡ op ∷ p.more = cc in
     (p.more, ap (λ (i : Input). resolve (index_in Frame i) (walk Frame v.here).items) same ∙ p.rest, h.good ∙ ap answered is)
 
 pub left_more : (w v : Walker) (op : Op) → StepsSo w → Walked w v op → StepsSo v
-left_more w v op h s = let l = left_says w v op h s in record { so = s.so; ops = l.0; good = l.1 }
+left_more w v op h s = let l = left_says w v op h s in record { so = s.so; measure = s.measure ∙ h.measure; ops = l.0; good = l.1 }
 
 pub left_is : (w v : Walker) (op : Op) → StepsSo w → Walked w v op → left_of w ≡ op ∷ left_of v
 unfolding left_of
@@ -162,7 +169,7 @@ left_bad w r h s =
     let find = index_in Frame (block_of w) in
     let later = resolve find (walk Frame s.behind).items in
     let here : resolve find (walk Frame w.here).items ≡ put_first None w.here.at later =
-    ap (λ (y : Walk). resolve find y.items) (walk_step Frame w.here (s.step, s.behind) h.so.here.bytes s.read) ∙ ap (λ (o : Option Op). put_first o w.here.at later) s.bad in
+    ap (λ (y : Walk). resolve find y.items) (walk_step Frame w.here (s.step, s.behind) h.so.here.bytes s.read) ∙ ap (λ (o : Option Op). put_first o w.here.at later) (numbered w w.here.at s.step None h.measure s.bad) in
     let k : answered h.ops ≡ Err (bad_branch w.here.at) = sym h.good ∙ here in
     absurd cc
 

@@ -1,94 +1,163 @@
--- Least spellings one after another, with where the branches go.
-use Rattle.dw_op.proofs.Words.{◌≡◌, ℕ, zero, suc, ◌+◌, ◌<◌, ◌≤◌, ◌^◌, List, [], ◌∷◌, ◌++◌, length, take, drop, Option, Some, None, refl, sym, ap, subst, ◌∙◌, arith, pos, ◌-ℤ◌, FitsSigned, w16, take-length, drop-drop, Target, Places, Point}
-use Rattle.dw_op.proofs.Words.{Op, branch_target, start, bits_of, blank_parts, BranchFits, EachFits, least_len, least_bytes, least_lengths, lengths_at, total, together, AreSmall, ArePlaces, IsBranching, bits_at}
-use Rattle.dw_op.proofs.Lent.EncodeLaws.{IsGoing, going_none, going_more, front_more}
+-- Least spellings one after another, with where the branches go, and the least block of an accepted one.
+use Rattle.dw_op.proofs.Words.{◌≡◌, ℕ, suc, ◌+◌, ◌<◌, ◌^◌, List, [], ◌∷◌, ◌++◌, length, take, Option, Some, None, refl, sym, ap, subst, ◌∙◌, arith, take-length, Target, Input, AreBytes, Op, Frame, Measure, LeastBytes, Walker, walk, Walk}
+use Rattle.dw_op.proofs.Words.{branch_target, start, bits_of, blank_parts, BranchFits, EachFits, least_len, least_bytes, least_block, LeastBlock, IsAppended, weight, sum_in, step_length, IsNear, bits_to, index_in, op_of, StepSpells, put_first, resolve, end_of, block_input, block_of, WalkSo, Walked, IsAccepted, ops_of}
+use Rattle.dw_op.proofs.Lent.Blocks.{answered, same_ops, first_of_all}
+use Rattle.dw_op.proofs.Lent.EncodeLaws.{IsGoing, going_none, going_more, going_all, front_more}
+use Rattle.dw_op.proofs.Lent.LeastBlocks.{block_fits, least_block_exists}
+use Rattle.dw_op.proofs.Lent.LeastOne.{least_block_length, least_len_within}
+use Rattle.dw_op.proofs.Lent.ReadingLaws.{step_found}
+use Rattle.dw_op.proofs.Judgement.{accepted_block, accepted_ops, accepted_read, resolved_is}
+use Rattle.dw_op.proofs.Splits.{walk_step, walk_end}
+use Rattle.dw_op.proofs.Sums.{begins, Alike, alike, same_len, sums_are}
+use Rattle.dw_op.proofs.Walkers.{walked_block}
 
--- where a part begins is the lengths before it
-pub starts_are : (t : Target) (ops : List Op) (i : ℕ) → start (blank_parts t ops) i ≡ total i (least_lengths t ops)
-starts_are t ops zero = refl
-starts_are t [] (suc i) = refl
-starts_are t (op ∷ ops) (suc i) = ap (λ (n : ℕ). length (least_bytes t 0 op) + n) (starts_are t ops i)
+-- ---- the operations of an accepted block
 
-bits_are : (t : Target) (ops : List Op) (k : ℕ) (o : Option ℕ) → bits_at (least_lengths t ops) (k + 1) o ≡ bits_of (blank_parts t ops) k o
-bits_are t ops k None = refl
-bits_are t ops k (Some i) = rw (starts_are t ops i, starts_are t ops (k + 1)) refl
+abbrev pub HasLeast : Target → List Op → ℕ → Type 0
+HasLeast t ops len = (least : List ℕ) × LeastBlock t ops least × (len ≡ length least)
 
-drop_lengths : (t : Target) (ops : List Op) (k : ℕ) → drop k (least_lengths t ops) ≡ least_lengths t (drop k ops)
-drop_lengths t ops zero = refl
-drop_lengths t [] (suc k) = refl
-drop_lengths t (op ∷ ops) (suc k) = drop_lengths t ops k
+pub accepted_least : (t : Target) (bytes : List ℕ) (len : ℕ) → AreBytes bytes → IsAccepted t bytes → len ≡ least_len t (ops_of t bytes) → HasLeast t (ops_of t bytes) len
+accepted_least t bytes len are h e =
+    let ops = ops_of t bytes in
+    (least_block t ops, least_block_exists t ops bytes (accepted_block t bytes are h).0, e ∙ sym (least_block_length t ops))
 
--- what is written of all operations and what is left of them, at places that stand there
-pub record Putting (t : Target) (all : List Op) (old : List ℕ) (rest : List Op) (p : Places) (out : List ℕ) : Type 0 where
-  pub going : IsGoing t all old p.here.index rest out
-  pub left : rest ≡ drop p.here.index all
-  pub fits : EachFits (blank_parts t all) p.here.index rest
-  pub places : ArePlaces (least_lengths t all) p
+pub accepted_small : (t : Target) (bytes : List ℕ) → AreBytes bytes → IsAccepted t bytes → length bytes < 2 ^ 63 → least_len t (ops_of t bytes) < 2 ^ 63
+accepted_small t bytes are h small = omega (arith, least_len_within t (ops_of t bytes) bytes (accepted_block t bytes are h).0)
+
+pub accepted_appended : (t : Target) (bytes old new : List ℕ) → AreBytes bytes → IsAccepted t bytes → new ≡ old ++ least_block t (ops_of t bytes) → IsAppended (LeastBlock t (ops_of t bytes)) old new
+accepted_appended t bytes old new are h e = record { appended = least_block t (ops_of t bytes); is = least_block_exists t (ops_of t bytes) bytes (accepted_block t bytes are h).0; whole = e }
+
+-- all of them, by their numbers
+accepted_all : (t : Target) (bytes : List ℕ) → IsAccepted t bytes → let i = block_input t bytes in resolve (index_in Frame i) (walk Frame i).items ≡ answered (ops_of t bytes)
+accepted_all t bytes h =
+    let i = block_input t bytes in
+    sym (resolved_is i (resolve (index_in Frame i) (walk Frame i).items) (accepted_read t bytes h) refl) ∙ accepted_ops t bytes h
+
+-- where they begin
+accepted_sums : (t : Target) (bytes : List ℕ) → IsAccepted t bytes → (place : ℕ) → sum_in LeastBytes Frame (block_input t bytes) place ≡ begins (blank_parts t (ops_of t bytes)) (index_in Frame (block_input t bytes) place)
+accepted_sums t bytes h place =
+    let i = block_input t bytes in
+    sums_are t (index_in Frame i) (walk Frame i).items (ops_of t bytes) (end_of i) place (accepted_all t bytes h)
+
+-- ---- a walk that writes
+
+-- behind number operations of all those of a block, which are written
+pub record Putting (t : Target) (bytes old : List ℕ) (w : Walker) (out : List ℕ) : Type 0 where
+  pub so : WalkSo w
+  pub block : block_of w ≡ block_input t bytes
+  pub measure : w.measure ≡ LeastBytes
+  pub number : ℕ
+  pub rest : List Op
+  pub left : resolve (index_in Frame (block_input t bytes)) (walk Frame w.here).items ≡ answered rest
+  pub starts : (j : ℕ) → start (blank_parts t (ops_of t bytes)) (number + j) ≡ w.count + start (blank_parts t rest) j
+  pub going : IsGoing t (ops_of t bytes) old number rest out
+  pub fits : EachFits (blank_parts t (ops_of t bytes)) number rest
   pub front : take (length old) out ≡ old
 
-pub put_start : (t : Target) (all : List Op) (old lengths : List ℕ) (p : Places) → lengths ≡ least_lengths t all → ArePlaces lengths p → p.here.index ≡ 0 → EachFits (blank_parts t all) 0 all → Putting t all old all p old
-put_start t all old lengths p is places front fits = record {
-  going = subst (λ (k : ℕ). IsGoing t all old k all old) (sym front) (going_none t all old);
-  left = ap (λ (k : ℕ). drop k all) (sym front);
-  fits = subst (λ (k : ℕ). EachFits (blank_parts t all) k all) (sym front) fits;
-  places = subst (λ (l : List ℕ). ArePlaces l p) is places;
-  front = take-length old;
-}
-
--- the places are one operation further
-pub record Stepped (old new : Places) : Type 0 where
-  pub places : (lengths : List ℕ) → ArePlaces lengths old → ArePlaces lengths new
-  pub on : (len : ℕ) (rest : List ℕ) → lengths_at old.here.rest ≡ len ∷ rest → new.here.index ≡ old.here.index + 1
-
-stepped_on : (t : Target) (all : List Op) (old : List ℕ) (op : Op) (rest : List Op) (p q : Places) (out : List ℕ) → Putting t all old (op ∷ rest) p out → Stepped p q → q.here.index ≡ p.here.index + 1
-stepped_on t all old op rest p q out h s =
-    let left = h.places.here.rest ∙ drop_lengths t all p.here.index ∙ ap (λ (l : List Op). least_lengths t l) (sym h.left) in
-    s.on (length (least_bytes t 0 op)) (least_lengths t rest) left
-
-reached : (t : Target) (all : List Op) (k : ℕ) (p : Places) (o : Option ℕ) → ArePlaces (least_lengths t all) p → AreSmall (least_lengths t all) → p.here.index ≡ k + 1 → BranchFits (blank_parts t all) k o → IsBranching o p
-reached t all k p None places small at fits = (least_lengths t all, places, small)
-reached t all k p (Some i) places small at fits =
-    let here : FitsSigned w16 (pos (total i (least_lengths t all)) -ℤ pos (total (k + 1) (least_lengths t all))) = rw (← starts_are t all i, ← starts_are t all (k + 1)) fits in
-    (least_lengths t all, places, small, subst (λ (n : ℕ). FitsSigned w16 (pos (total i (least_lengths t all)) -ℤ pos (total n (least_lengths t all)))) (sym at) here)
-
-pub branching : (t : Target) (all : List Op) (old lengths : List ℕ) (op : Op) (rest : List Op) (p q : Places) (out : List ℕ) → lengths ≡ least_lengths t all → AreSmall lengths → Putting t all old (op ∷ rest) p out → Stepped p q → IsBranching (branch_target op) q
-branching t all old lengths op rest p q out is small h s =
-    reached t all p.here.index q (branch_target op) (s.places (least_lengths t all) h.places) (subst AreSmall is small) (stepped_on t all old op rest p q out h s) h.fits.0
-
-pub put_next : (t : Target) (all : List Op) (old : List ℕ) (op : Op) (rest : List Op) (p q r : Places) (bits : ℕ) (out : List ℕ) → Putting t all old (op ∷ rest) p out → Stepped p q
-    → ((lengths : List ℕ) → ArePlaces lengths q → bits ≡ bits_at lengths q.here.index (branch_target op))
-    → ((lengths : List ℕ) → ArePlaces lengths q → ArePlaces lengths r) → r.here ≡ q.here
-    → Putting t all old rest r (out ++ least_bytes t bits op)
-put_next t all old op rest p q r bits out h s said same here =
-    let k = p.here.index in
-    let lengths = least_lengths t all in
-    let one : k + 1 ≡ suc k = omega arith in
-    let on = stepped_on t all old op rest p q out h s in
-    let at : k + 1 ≡ r.here.index = sym (ap (λ (x : Point). x.index) here ∙ on) in
-    let places = s.places lengths h.places in
-    let is : bits ≡ bits_of (blank_parts t all) k (branch_target op) =
-    said lengths places ∙ ap (λ (n : ℕ). bits_at lengths n (branch_target op)) on ∙ bits_are t all k (branch_target op) in
+pub put_start : (t : Target) (bytes old : List ℕ) (w : Walker) → AreBytes bytes → IsAccepted t bytes → WalkSo w → w.here ≡ block_input t bytes → w.count ≡ 0 → w.bytes.now ≡ bytes → w.measure ≡ LeastBytes → Putting t bytes old w old
+put_start t bytes old w are h so here count same measure =
+    let i = block_input t bytes in
+    let ops = ops_of t bytes in
     record {
-      going = subst (λ (n : ℕ). IsGoing t all old n rest (out ++ least_bytes t bits op)) at (going_more t all old k bits op rest out h.going is);
-      left = ap (λ (l : List Op). drop 1 l) h.left ∙ drop-drop 1 k all ∙ ap (λ (n : ℕ). drop n all) at;
-      fits = subst (λ (n : ℕ). EachFits (blank_parts t all) n rest) (sym one ∙ at) h.fits.1;
-      places = same lengths places;
-      front = front_more old out (least_bytes t bits op) h.front;
+      so = so;
+      block = ap (λ (j : Input). block_input j.target w.bytes.now) here ∙ ap (λ (l : List ℕ). block_input t l) same;
+      measure = measure;
+      number = 0;
+      rest = ops;
+      left = ap (λ (j : Input). resolve (index_in Frame i) (walk Frame j).items) here ∙ accepted_all t bytes h;
+      starts = λ j. rw count (let z : 0 + j ≡ j = omega arith in let y : 0 + start (blank_parts t ops) j ≡ start (blank_parts t ops) j = omega arith in rw (z, y) refl);
+      going = going_none t ops old;
+      fits = block_fits t ops bytes (accepted_block t bytes are h).0;
+      front = take-length old;
     }
 
--- ---- lengths that fit
+bits_are : (parts : List (List ℕ)) (k end : ℕ) (o : Option ℕ) → end ≡ start parts (k + 1) → bits_to end (begins parts o) ≡ bits_of parts k o
+bits_are parts k end None e = refl
+bits_are parts k end (Some i) e = rw e refl
 
-together_is : (t : Target) (ops : List Op) → together (least_lengths t ops) ≡ least_len t ops
-together_is t [] = refl
-together_is t (op ∷ ops) = ap (λ (n : ℕ). length (least_bytes t 0 op) + n) (together_is t ops)
+near_is : (parts : List (List ℕ)) (k end : ℕ) (o : Option ℕ) → end ≡ start parts (k + 1) → BranchFits parts k o → IsNear end (begins parts o)
+near_is parts k end None e h = tt
+near_is parts k end (Some i) e h = rw e h
 
-some : (t : Target) (op : Op) → 1 ≤ length (least_bytes t 0 op)
-unfolding least_bytes
-some t op = omega arith
+-- an operation by its number, behind which a walk has the start of what it names
+pub record Passed (t : Target) (bytes old : List ℕ) (w v : Walker) (other : Op) (out : List ℕ) (h : Putting t bytes old w out) : Type 0 where
+  pub op : Op
+  pub more : List Op
+  pub is : h.rest ≡ op ∷ more
+  pub later : resolve (index_in Frame (block_input t bytes)) (walk Frame v.here).items ≡ answered more
+  pub target : branch_target other ≡ begins (blank_parts t (ops_of t bytes)) (branch_target op)
+  pub same : (bits : ℕ) → least_bytes t bits other ≡ least_bytes t bits op
+  pub block : block_of v ≡ block_input t bytes
+  pub count : v.count ≡ w.count + length (least_bytes t 0 op)
 
-count_within : (t : Target) (ops : List Op) → length (least_lengths t ops) ≤ least_len t ops
-count_within t [] = omega arith
-count_within t (op ∷ ops) = omega (arith, some t op, count_within t ops)
+module _ (t : Target) (bytes old : List ℕ) (w v : Walker) (other : Op) (out : List ℕ) (accepted : IsAccepted t bytes) (h : Putting t bytes old w out) (s : Walked w v other) where
+  passed_on : Passed t bytes old w v other out h
+  passed_on =
+      let i = block_input t bytes in
+      let parts = blank_parts t (ops_of t bytes) in
+      let find = index_in Frame i in
+      let target : w.here.target ≡ t = ap (λ (j : Input). j.target) h.block in
+      let found = step_found Frame w.here v.here s.step h.so.here.bytes s.read in
+      let advanced : v.count ≡ w.count + step_length t s.step =
+      subst (λ (x : Target). v.count ≡ w.count + step_length x s.step) target (subst (λ (m : Measure). v.count ≡ w.count + weight m w.here.target s.step) h.measure s.count) in
+      let later = resolve find (walk Frame v.here).items in
+      let here : put_first (op_of find w.here.at s.step) w.here.at later ≡ answered h.rest =
+      sym (ap (λ (y : Walk). resolve find y.items) (walk_step Frame w.here (s.step, v.here) h.so.here.bytes s.read)) ∙ h.left in
+      let first = first_of_all w.here.at (op_of find w.here.at s.step) later h.rest here in
+      let named : op_of (sum_in LeastBytes Frame i) w.here.at s.step ≡ Some other =
+      subst (λ (j : Input). op_of (sum_in LeastBytes Frame j) w.here.at s.step ≡ Some other) h.block (subst (λ (m : Measure). op_of (sum_in m Frame (block_of w)) w.here.at s.step ≡ Some other) h.measure s.is) in
+      let both : Alike t parts first.op other = alike t parts find (sum_in LeastBytes Frame i) w.here.at s.step found.part first.op other (accepted_sums t bytes accepted) (subst (λ (x : Target). StepSpells x s.step found.part) target found.spells) first.first named in
+      record {
+        op = first.op;
+        more = first.more;
+        is = first.is;
+        later = first.rest;
+        target = both.target;
+        same = both.bytes;
+        block = walked_block w v other h.so s ∙ h.block;
+        count = advanced ∙ ap (λ (n : ℕ). w.count + n) (same_len t find w.here.at s.step first.op first.first);
+      }
 
-pub small_lengths : (t : Target) (ops : List Op) → least_len t ops < 2 ^ 63 → AreSmall (least_lengths t ops)
-small_lengths t ops small = (omega (arith, together_is t ops), omega (arith, count_within t ops))
+  ends_at : v.count ≡ start (blank_parts t (ops_of t bytes)) (h.number + 1)
+  ends_at =
+      let p = passed_on in
+      let next = h.starts 1 in
+      let first = rw p.is at next in
+      omega (arith, p.count, first)
+
+  -- where the operation is a branch, it fits
+  pub put_near : IsNear v.count (branch_target other)
+  put_near =
+      let p = passed_on in
+      let fits = rw p.is at h.fits in
+      rw p.target (near_is (blank_parts t (ops_of t bytes)) h.number v.count (branch_target p.op) ends_at fits.0)
+
+  pub put_next : (bits : ℕ) → bits ≡ bits_to v.count (branch_target other) → Putting t bytes old v (out ++ least_bytes t bits other)
+  put_next bits e =
+      let p = passed_on in
+      let parts = blank_parts t (ops_of t bytes) in
+      let fits = rw p.is at h.fits in
+      let going = rw p.is at h.going in
+      let next : h.number + 1 ≡ suc h.number = omega arith in
+      let is : bits ≡ bits_of parts h.number (branch_target p.op) = e ∙ ap (λ (o : Option ℕ). bits_to v.count o) p.target ∙ bits_are parts h.number v.count (branch_target p.op) ends_at in
+      record {
+        so = s.so;
+        block = p.block;
+        measure = s.measure ∙ h.measure;
+        number = h.number + 1;
+        rest = p.more;
+        left = p.later;
+        starts = λ j.
+            let after : h.number + 1 + j ≡ h.number + suc j = omega arith in
+            let there = rw p.is at (h.starts (suc j)) in
+            rw after (omega (arith, p.count, there));
+        going = rw (p.same bits) (going_more t (ops_of t bytes) old h.number bits p.op p.more out going is);
+        fits = rw next fits.1;
+        front = front_more old out (least_bytes t bits other) h.front;
+      }
+
+pub put_end : (t : Target) (bytes old : List ℕ) (w : Walker) (out : List ℕ) → Putting t bytes old w out → w.here.bytes ≡ [] → out ≡ old ++ least_block t (ops_of t bytes)
+put_end t bytes old w out h e =
+    let find = index_in Frame (block_input t bytes) in
+    let none : answered [] ≡ answered h.rest = sym (ap (λ (y : Walk). resolve find y.items) (walk_end Frame w.here (ap length e))) ∙ h.left in
+    going_all t (ops_of t bytes) old h.number out (subst (λ (l : List Op). IsGoing t (ops_of t bytes) old h.number l out) (sym (same_ops [] h.rest none)) h.going)

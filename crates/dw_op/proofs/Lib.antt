@@ -16,8 +16,7 @@ pub mod WalkStarts
 pub mod Marked
 pub mod Walkers
 pub mod Judgement
-pub mod PlainBlocks
-pub mod Starts
+pub mod Sums
 pub mod LeastSpellings
 pub mod Worked
 pub mod Lent

@@ -68,7 +68,7 @@ branch_says find branch end number (Some place) (Some i) op goes found e = recor
 abbrev pub Placed : List (List ℕ) → ℕ → List ℕ → Type 0
 Placed all k part = start all (k + 1) ≡ start all k + length part
 
-jump_length : (t : Target) (branch : Branch) (n : ℕ) (part : List ℕ) → Code (branch_code branch) (Fixed t.order 2 n) part → length part ≡ 3
+pub jump_length : (t : Target) (branch : Branch) (n : ℕ) (part : List ℕ) → Code (branch_code branch) (Fixed t.order 2 n) part → length part ≡ 3
 jump_length t branch n part h = let two = length-two t.order n h.rest h.operands in ap length h.whole ∙ omega arith
 
 -- the displacement of a branch that is resolved

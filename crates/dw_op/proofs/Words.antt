@@ -1,5 +1,5 @@
 -- The words of specs and of std that the proofs cite, passed on from one place. Declares nothing.
-pub use Rattle.dw_num.proofs.Lent.FixedLaws.{address_found, byte_found, fixed_again, fixed_at_again, fixed_below, fixed_found, is_fixed, length-fixed, taken_bytes, took}
+pub use Rattle.dw_num.proofs.Lent.FixedLaws.{address_found, byte_found, fixed_again, fixed_at_again, fixed_below, fixed_found, is_fixed, length-fixed, taken_bytes}
 pub use Rattle.dw_num.proofs.Lent.LebLaws.{done, ok_is, register_again, register_found, uleb_again, uleb_found}
 pub use Rattle.dw_num.proofs.Lent.Refusals.{refuses_by}
 pub use Rattle.dw_num.proofs.Lent.Shortest.{groups_below, leb_some, shortest_sleb-least, shortest_sleb-most, shortest_sleb-only, shortest_sleb-spells, shortest_uleb-least, shortest_uleb-most, shortest_uleb-only, shortest_uleb-spells, turned_within}
@@ -33,10 +33,8 @@ unfoldable pub use Rattle.dw_op.specs.Inner.LeastBlock.{least_block}
 pub use Rattle.dw_op.specs.Inner.LeastBlock.{AreStarts, BranchFits, EachFits, bits_of, blank_parts, least_from, least_len}
 unfoldable pub use Rattle.dw_op.specs.Inner.LeastOf.{least_bytes, least_spelling}
 pub use Rattle.dw_op.specs.Inner.LeastOf.{address, operand_bytes, register_form, register_offset, spelling, spelling_bytes}
-unfoldable pub use Rattle.dw_op.specs.Inner.Lengths.{lengths_at}
-pub use Rattle.dw_op.specs.Inner.Lengths.{item_lengths, least_lengths, step_length, together, total}
-pub use Rattle.dw_op.specs.Inner.Points.{ArePlaces, AreSmall, AreStartMarks, InRoom, IsBranching, IsLater, IsPoint, IsStartMark, bits_at}
 pub use Rattle.dw_op.specs.Inner.Steps.{StepSpells, branch_code, step_allowed, step_in_frame}
+pub use Rattle.dw_op.specs.Inner.Sums.{IsNear, bits_to, step_length, sum_in, weight}
 unfoldable pub use Rattle.dw_op.specs.Inner.Walk.{decode_at, walk}
 pub use Rattle.dw_op.specs.Inner.Walk.{PlacedStep, Rises, Walk, block_input, branch_to, end_of, find_at, goes_to, index_at, index_in, item_of, one, op_of, passed, place_index, plus, put_first, resolve, starts_of, unless}
 pub use Rattle.dw_op.specs.Inner.Windows.{AreMarks, IsMark, Shifted, SoughtSo, WalkSo, Walked, WalkedBad, Walks, block_of}
@@ -47,8 +45,6 @@ unfoldable pub use Rattle.dw_op.specs.Operands.{form_of}
 pub use Rattle.dw_op.specs.Operands.{Field, FieldValue, OpForm, block, branch, constant, counted, field_at, fixed, form_at, implicit, in_range, look_up, modulo, natural, none, op_form_table, past, register, signed, size, sized, two, twos, unsigned}
 pub use Rattle.dw_op.specs.Profile.{InFrame, in_frame}
 pub use Rattle.dw_op.specs.Ranges.{AllInRange, FirstBadOperand, InRange, TargetWithin}
-pub use Rattle.dw_op.specs.declared.layout.Places.{Places}
-pub use Rattle.dw_op.specs.declared.layout.Point.{Point}
 pub use Rattle.dw_op.specs.declared.least.Spelling.{Spelling}
 pub use Rattle.dw_op.specs.declared.marks.Mark.{Mark}
 pub use Rattle.dw_op.specs.declared.op.Op.{Op}
@@ -61,6 +57,8 @@ pub use Rattle.dw_op.specs.declared.operation.Step.{Step}
 pub use Rattle.dw_op.specs.declared.operation.Step.TheVariants.{Jump, Plain}
 pub use Rattle.dw_op.specs.declared.profile.Profile.{Profile}
 pub use Rattle.dw_op.specs.declared.profile.Profile.TheVariants.{Frame, Location}
+pub use Rattle.dw_op.specs.declared.walk.Measure.{Measure}
+pub use Rattle.dw_op.specs.declared.walk.Measure.TheVariants.{LeastBytes, Operations}
 pub use Rattle.dw_op.specs.declared.walk.Walker.{Walker}
 pub use Rattle.std.proofs.Common.{Bool, Err, List, None, Ok, Option, Result, Some, [], ap, append_assoc, arith, below_more, drop, eqb, false, get_or, inl, inr, length, lit<, map, refl, rules, subst, suc, sym, take, true, zero, ℕ, ◌%◌, ◌*◌, ◌++◌, ◌+◌, ◌-◌, ◌/◌, ◌<◌, ◌^◌, ◌∙◌, ◌∷◌, ◌≡◌, ◌≤◌, ◌⊎◌}
 pub use Rattle.std.proofs.Math.ListN.{drop_of_length-le, get_or-map}
@@ -69,9 +67,9 @@ pub use Rattle.std.proofs.Math.Seq.{drop-append_seam, drop-cons, take-length}
 pub use Rattle.std.proofs.lemmas.Bool.{cases_Bool, cases_eq, cases_lt, eq-eqb, eqb-true, false≢true, le-leb, le-ltb, lt-ltb, ne_eqb}
 pub use Rattle.std.proofs.lemmas.Bool.Decides.{nat_tests}
 pub use Rattle.std.proofs.lemmas.Int.{ints}
-pub use Rattle.std.proofs.lemmas.List.{append-nil, drop-drop, get_or_append_left, get_or_push, length-append, length-map, length-take, length-take-le, length_push, map-append, nil_from_length, take-append-le}
+pub use Rattle.std.proofs.lemmas.List.{append-nil, get_or_append_left, get_or_push, length-append, length-map, length-take, length-take-le, length_push, map-append, nil_from_length, take-append-le}
 pub use Rattle.std.proofs.lemmas.Option.{slice_get-get_or, slice_get-map}
 pub use Rattle.std.proofs.lemmas.Result.{err_from_is_err_and}
 pub use Rattle.std.specs.Int.{Width, byte_len, cast_unsigned, w16, w32, w64, w8}
 pub use Rattle.std.specs.List.{AllByRecursion, fold}
-pub use Rattle.std.specs.Prelude.{FitsSigned, IsTrue, MatchResult, OnOk, if◌then◌else◌, is_some, nat_eq, nat_le, nat_lt, negsuc, pos, slice_get, ℤ, ◌&&◌, ◌-ℤ◌, ◌↔◌}
+pub use Rattle.std.specs.Prelude.{FitsSigned, IsTrue, MatchResult, OnOk, if◌then◌else◌, nat_eq, nat_le, nat_lt, negsuc, pos, slice_get, ℤ, ◌&&◌, ◌-ℤ◌, ◌↔◌}

@@ -7,8 +7,7 @@ pub mod Steps
 pub mod Windows
 pub mod Accepted
 pub mod EqualityLaws
-pub mod Lengths
-pub mod Points
+pub mod Sums
 pub mod Ranges
 pub mod LeastBlock
 pub mod Equality

@@ -14,12 +14,11 @@ ghost use Rattle.dw_op.specs.Inner.Accepted.{IsAccepted, ops_of};
 use crate::block::decode;
 use crate::equality::{feed_steps, feed_target, same_steps};
 use crate::judged_block::judge;
-use crate::layout::Lengths;
-use crate::least_expression::{put_plain, put_steps, steps_len};
+use crate::least_expression::{put_block, steps_len};
 use crate::list::OpList;
 use crate::op::Op;
 use crate::profile::Profile;
-use crate::walk::Walker;
+use crate::walk::{Measure, Walker};
 use dw_num::{Refusal, Target, are_bytes};
 use std::alloc::{AllocError, Global};
 use std::hash::{Hash, Hasher};
@@ -74,7 +73,7 @@ impl<'a> OpSteps<'a> {
         ensures { result ≡ ops_of target bytes.entry.now }
     {
         OpSteps {
-            walker: Walker::new(bytes, target),
+            walker: Walker::new(bytes, target, Measure::Operations),
         }
     }
 
@@ -186,7 +185,7 @@ impl<'a> ExprRef<'a> {
 
 impl<'a> ExprRef<'a> {
     /// The length of the block of the operations' least spellings (7.7.1). Takes no memory.
-    #[tactic(auto, using(crate::proofs::PlainBlocks::accepted_small))]
+    #[tactic(auto, using(crate::proofs::LeastSpellings::accepted_small))]
     pub fn least_len(&self) -> usize
         ensures { (least : List ℕ) × LeastBlock self.now.target self.now.ops least × (result ≡ length least) }
     {
@@ -194,18 +193,11 @@ impl<'a> ExprRef<'a> {
     }
 
     // Appends the block of least spellings, and may leave some of it where memory runs out.
-    #[tactic(auto, using(crate::proofs::Starts::lengths_all, crate::proofs::PlainBlocks::accepted_fits))]
     fn push_least(&self, out: &mut Vec<u8>) -> Result<(), AllocError>
         ensures ok { OnOk result (IsAppended (LeastBlock self.now.target self.now.ops) out.old.items out.new.items) }
         ensures front { take (length out.old.items) out.new.items ≡ out.old.items }
     {
-        let start = out.len();
-        if put_plain(self.steps(), self.target, out)? {
-            return Ok(());
-        }
-        out.truncate(start);
-        let lengths = Lengths::new(self.bytes, self.target);
-        put_steps(self.steps(), lengths, self.target, out)
+        put_block(self.bytes, self.target, out)
     }
 
     /// Appends the block of the operations' least spellings (7.7.1), or appends nothing where memory runs out. No

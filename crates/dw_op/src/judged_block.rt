@@ -7,7 +7,7 @@ ghost use Rattle.dw_op.specs.Inner.Accepted.{IsAccepted};
 
 use crate::operation::{Step, next_step};
 use crate::profile::Profile;
-use crate::walk::Walker;
+use crate::walk::{Measure, Walker};
 use dw_num::{Cursor, Refusal, Target, are_bytes};
 
 // Reads a block to its end, and says whether it has a branch.
@@ -37,7 +37,7 @@ fn check_branches(bytes: &[u8], target: Target) -> Result<(), Refusal>
     ensures first { IfErr result (λ r. decode_at Frame (block_input target bytes.now) ≡ Err r) }
 {
     are_bytes(bytes);
-    let mut walker = Walker::new(bytes, target);
+    let mut walker = Walker::new(bytes, target, Measure::Operations);
     'ops: while let Some(_) = walker.next_op()? {}
     Ok(())
 }

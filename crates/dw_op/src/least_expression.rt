@@ -1,18 +1,19 @@
 //! Expressions in their least spelling.
 
-ghost use Rattle.std.specs.Prelude.{◌≡◌, ℕ, ◌<◌, ◌^◌, ◌++◌, List, true, length, take, IfOk, OnOk, is_some};
+ghost use Rattle.std.specs.Prelude.{◌≡◌, ◌<◌, ◌^◌, ◌++◌, ◌-ℤ◌, length, take, pos, FitsSigned, OnOk};
+ghost use Rattle.std.specs.Int.{w16, cast_unsigned};
 ghost use Rattle.dw_op.specs.Block.{branch_target};
 ghost use Rattle.dw_op.specs.Expression.{bare};
-ghost use Rattle.dw_op.specs.Inner.LeastBlock.{blank_parts, least_block, EachFits, least_len};
-ghost use Rattle.dw_op.specs.Inner.Lengths.{least_lengths, lengths_at};
-ghost use Rattle.dw_op.specs.Inner.Points.{AreSmall, ArePlaces, IsBranching, bits_at};
+ghost use Rattle.dw_op.specs.Inner.Accepted.{IsAccepted, ops_of};
+ghost use Rattle.dw_op.specs.Inner.LeastBlock.{least_block, least_len};
+ghost use Rattle.dw_op.specs.Inner.Sums.{IsNear, bits_to};
 
 use crate::expression::OpSteps;
-use crate::layout::{Lengths, Places};
 use crate::least::{op_least_len, put_op};
 use crate::least_block::branch_target;
 use crate::op::Op;
-use dw_num::Target;
+use crate::walk::{Measure, Walker};
+use dw_num::{Target, are_bytes};
 use std::alloc::AllocError;
 
 /// How long the least spellings of the operations of a walk are together.
@@ -27,61 +28,44 @@ pub(crate) fn steps_len(mut steps: OpSteps<'_>, target: Target) -> usize
     total
 }
 
-fn is_branch(op: Op<'_>) -> bool
-    ensures { result ≡ is_some (branch_target (bare op.entry)) }
+// The sixteen bits of a displacement that fits them.
+fn bits_between(from: usize, to: usize) -> u16
+    requires { FitsSigned w16 (pos to -ℤ pos from) }
+    ensures { result ≡ cast_unsigned w16 (pos to -ℤ pos from) }
 {
-    matches!(op, Op::Bra(_) | Op::Skip(_))
-}
-
-/// Appends the least spellings of operations without branches, and says whether it came to their end.
-pub(crate) fn put_plain(
-    mut steps: OpSteps<'_>,
-    target: Target,
-    out: &mut Vec<u8>,
-) -> Result<bool, AllocError>
-    ensures all { IfOk result (λ b. b ≡ true → out.new.items ≡ out.old.items ++ least_block target steps.entry) }
-    ensures front { take (length out.old.items) out.new.items ≡ out.old.items }
-{
-    'ops: while let Some(op) = steps.step() {
-        if is_branch(op) {
-            return Ok(false);
-        }
-        put_op(out, &op, 0, target)?;
+    if from <= to {
+        (to - from) as u16
+    } else {
+        (0x1_0000 - (from - to)) as u16
     }
-    Ok(true)
 }
 
-// The sixteen bits of the displacement of a branch that ends here, 0 for another operation.
-fn branch_bits(places: &mut Places<'_>, op: &Op<'_>) -> u16
-    requires { IsBranching (branch_target (bare op.now)) places.old }
-    ensures bits { (lengths : List ℕ) → ArePlaces lengths places.old → result ≡ bits_at lengths places.old.here.index (branch_target (bare op.now)) }
-    ensures places { (lengths : List ℕ) → ArePlaces lengths places.old → ArePlaces lengths places.new }
-    ensures here { places.new.here ≡ places.old.here }
+// The sixteen bits of the displacement of a branch that ends here and has where it goes, 0 for another operation.
+fn branch_bits(end: usize, op: &Op<'_>) -> u16
+    requires { IsNear end (branch_target (bare op.now)) }
+    ensures { result ≡ bits_to end (branch_target (bare op.now)) }
 {
     match branch_target(op) {
-        Some(goal) => places.displacement(goal),
+        Some(start) => bits_between(end, start),
         None => 0,
     }
 }
 
-/// Appends the least spellings of operations, of which these are the lengths. It may leave some of them
-/// where memory runs out.
-pub(crate) fn put_steps<'a>(
-    mut steps: OpSteps<'a>,
-    lengths: Lengths<'a>,
-    target: Target,
-    out: &mut Vec<u8>,
-) -> Result<(), AllocError>
-    requires lengths { lengths_at lengths ≡ least_lengths target steps }
-    requires small { AreSmall (lengths_at lengths) }
-    requires fits { EachFits (blank_parts target steps) 0 steps }
-    ensures all { OnOk result (out.new.items ≡ out.old.items ++ least_block target steps.entry) }
+/// Appends the least spellings of the operations of a block. It may leave some of them where memory runs out.
+#[tactic(auto, using(crate::proofs::Judgement::accepted_read, crate::proofs::Judgement::check_shorter))]
+pub(crate) fn put_block(bytes: &[u8], target: Target, out: &mut Vec<u8>) -> Result<(), AllocError>
+    requires { IsAccepted target bytes.now }
+    ensures all { OnOk result (out.new.items ≡ out.old.items ++ least_block target (ops_of target bytes.now)) }
     ensures front { take (length out.old.items) out.new.items ≡ out.old.items }
 {
-    let mut places = Places::new(lengths);
-    'ops: while let Some(op) = steps.step() {
-        places.step();
-        put_op(out, &op, branch_bits(&mut places, &op), target)?;
+    are_bytes(bytes);
+    let mut walker = Walker::new(bytes, target, Measure::LeastBytes);
+    'ops: while let Ok(next) = walker.next_op() {
+        let Some(op) = next else {
+            return Ok(());
+        };
+        put_op(out, &op, branch_bits(walker.count, &op), target)?;
     }
-    Ok(())
+    // A branch that leads nowhere, which no accepted block has.
+    Err(AllocError)
 }

@@ -6,7 +6,6 @@ mod equality;
 mod expression;
 mod judged_block;
 mod laws;
-mod layout;
 mod least;
 mod least_block;
 mod least_expression;

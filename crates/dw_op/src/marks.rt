@@ -1,12 +1,13 @@
-//! Marks along a block: operations that a search can begin at, and how many are before each.
+//! Marks along a block: operations that a search can begin at, and the sum of those before each.
 
 ghost use Rattle.std.specs.Prelude.{◌≡◌, ◌<◌, ◌≤◌, ◌+◌, ◌++◌, ◌∷◌, [], Some, None, IfSome, length, slice_get};
 ghost use Rattle.dw_num.specs.Input.{AreBytes, behind};
 ghost use Rattle.dw_op.specs.declared.profile.Profile.TheVariants.{Frame};
-ghost use Rattle.dw_op.specs.Inner.Walk.{walk, end_of, index_at};
+ghost use Rattle.dw_op.specs.Inner.Sums.{sum_in};
+ghost use Rattle.dw_op.specs.Inner.Walk.{walk};
 ghost use Rattle.dw_op.specs.Inner.Windows.{AreMarks};
 
-use crate::walk::{advance, copied, index_from};
+use crate::walk::{Measure, advance, copied, sum_from};
 use dw_num::Cursor;
 use std::marker::Model;
 
@@ -15,7 +16,7 @@ pub(crate) const APART: u64 = 512;
 /// How many marks there are room for.
 pub(crate) const ROOM: u64 = 192;
 
-/// An operation, by how many bytes and operations are before it.
+/// An operation, by how many bytes are before it, and by what the operations there add.
 #[derive(Clone, Copy)]
 pub(crate) struct Mark {
     pub(crate) bytes: u32,
@@ -24,28 +25,29 @@ pub(crate) struct Mark {
 
 /// Up to 192 marks, which are kept in place.
 #[derive(Drop)]
-pub(crate) struct Marks<M: Copy> {
-    all: [M; 192],
+pub(crate) struct Marks {
+    all: [Mark; 192],
     len: usize,
 }
 
-impl<M: Copy> Model for Marks<M> {
+impl Model for Marks {
     ghost use Rattle.std.specs.Prelude.{List, take, length, ◌≤◌, ◌≡◌};
+    ghost use Rattle.dw_op.specs.declared.marks.Mark.{Mark};
 
-    ghost Value = { List M };
+    ghost Value = { List Mark };
 
     ghost view = { λ m. take m.len m.all };
 
     ghost invariant = { λ m. (m.len ≤ 192) × (length m.all ≡ 192) };
 }
 
-impl<M: Copy> Marks<M> {
-    /// None, where blank marks fill the room.
-    pub(crate) fn new(blank: M) -> Marks<M>
+impl Marks {
+    /// None.
+    pub(crate) fn new() -> Marks
         ensures { result ≡ [] }
     {
         Marks {
-            all: [blank; 192],
+            all: [Mark { bytes: 0, count: 0 }; 192],
             len: 0,
         }
     }
@@ -62,7 +64,7 @@ impl<M: Copy> Marks<M> {
         self.len = 0;
     }
 
-    pub(crate) fn push(&mut self, mark: M)
+    pub(crate) fn push(&mut self, mark: Mark)
         requires { length self.old < 192 }
         ensures { self.new ≡ self.old ++ mark ∷ [] }
     {
@@ -70,7 +72,7 @@ impl<M: Copy> Marks<M> {
         self.len += 1;
     }
 
-    pub(crate) fn at(&self, k: usize) -> M
+    pub(crate) fn at(&self, k: usize) -> Mark
         requires { k < length self.now }
         ensures { slice_get self.now k ≡ Some result }
     {
@@ -91,10 +93,10 @@ fn mark_at(bytes: usize, count: usize) -> Option<Mark>
 
 /// Marks what a cursor has left, as far as there is room.
 #[tactic(auto, using(crate::proofs::Marked::fill_none))]
-pub(crate) fn fill(window: &Cursor<'_>, marks: &mut Marks<Mark>)
+pub(crate) fn fill(window: &Cursor<'_>, measure: Measure, marks: &mut Marks)
     requires bytes { AreBytes window.now.bytes }
     requires read { (walk Frame window.now).fault ≡ None }
-    ensures { AreMarks window.now marks.new }
+    ensures { AreMarks measure window.now marks.new }
 {
     marks.clear();
     let left = window.left();
@@ -106,7 +108,7 @@ pub(crate) fn fill(window: &Cursor<'_>, marks: &mut Marks<Mark>)
         if end < low {
             return;
         }
-        count += advance(&mut cursor, low);
+        count += advance(&mut cursor, measure, low);
         match mark_at(left - cursor.left(), count) {
             Some(mark) => marks.push(mark),
             None => return,
@@ -124,21 +126,25 @@ pub(crate) fn cursor_behind<'a>(window: &Cursor<'a>, bytes: usize) -> Cursor<'a>
     Cursor::new(rest, window.at() + bytes as u64, window.target())
 }
 
-/// Which of the operations from the cursor on begins at the place, or how many there are for the end.
-#[tactic(auto, using(crate::proofs::Marked::mark_within))]
-pub(crate) fn index_by(window: &Cursor<'_>, marks: &Marks<Mark>, place: u64) -> Option<usize>
+/// What the operations from the cursor on add before the one that begins at the place, or before the end.
+pub(crate) fn sum_by(
+    window: &Cursor<'_>,
+    measure: Measure,
+    marks: &Marks,
+    place: u64,
+) -> Option<usize>
     requires bytes { AreBytes window.now.bytes }
     requires read { (walk Frame window.now).fault ≡ None }
-    requires marks { AreMarks window.now marks.now }
-    ensures exact { result ≡ index_at (walk Frame window.now).items (end_of window.now) place }
+    requires marks { AreMarks measure window.now marks.now }
+    ensures exact { result ≡ sum_in measure Frame window.now place }
     ensures few { IfSome result (λ i. i ≤ length window.now.bytes) }
 {
     let far = place.saturating_sub(window.at()) / APART;
     let k = marks.len().min(far as usize);
     if k == 0 {
-        return index_from(window, place);
+        return sum_from(window, measure, place);
     }
     let mark = marks.at(k - 1);
-    let index = index_from(&cursor_behind(window, mark.bytes as usize), place)?;
-    Some(mark.count as usize + index)
+    let more = sum_from(&cursor_behind(window, mark.bytes as usize), measure, place)?;
+    Some(mark.count as usize + more)
 }

@@ -3,11 +3,14 @@
 ghost use Rattle.std.specs.Prelude.{◌≡◌, ◌<◌, ◌≤◌, ◌+◌, ◌-◌, Some, None, IfSome, length};
 ghost use Rattle.dw_num.specs.Input.{AreBytes};
 ghost use Rattle.dw_op.specs.declared.profile.Profile.TheVariants.{Frame};
-ghost use Rattle.dw_op.specs.Inner.Walk.{walk, end_of, index_at, index_in, goes_to, find_at, block_input};
+ghost use Rattle.dw_op.specs.Inner.FrontOp.{bare_step};
+ghost use Rattle.dw_op.specs.Inner.Sums.{step_length, weight, sum_in};
+ghost use Rattle.dw_op.specs.Inner.Walk.{walk, end_of, goes_to, find_at, block_input};
 ghost use Rattle.dw_op.specs.Inner.Windows.{Shifted, block_of, WalkSo, SoughtSo, Walks};
 
 use crate::block::{goal, named};
-use crate::marks::{APART, Mark, Marks, ROOM, fill, index_by};
+use crate::least::op_least_len;
+use crate::marks::{APART, Marks, ROOM, fill, sum_by};
 use crate::op::Op;
 use crate::operation::{Step, next_step};
 use crate::profile::Profile;
@@ -16,17 +19,48 @@ use dw_num::{Code, Cursor, Refusal, Target, are_bytes};
 // How far back a branch leads.
 const REACH: u64 = 32768;
 
-/// A walk over a block of the frame profile: what is left, how many operations were passed, and a
+/// What a walk adds up of the operations that it passes.
+#[derive(Clone, Copy)]
+pub(crate) enum Measure {
+    /// One for each.
+    Operations,
+    /// The bytes of their least spellings.
+    LeastBytes,
+}
+
+// How many bytes the least spelling has: that of a branch, wherever it goes, a code and two bytes.
+fn step_len(step: Step<'_>, target: Target) -> usize
+    ensures { result ≡ step_length target (bare_step step.entry) }
+{
+    match step {
+        Step::Plain(op) => op_least_len(&op, target),
+        Step::Jump(_, _) => 3,
+    }
+}
+
+// What an operation adds.
+#[inline(always)]
+fn added(measure: Measure, step: Step<'_>, target: Target) -> usize
+    ensures { result ≡ weight measure target (bare_step step.entry) }
+{
+    match measure {
+        Measure::Operations => 1,
+        Measure::LeastBytes => step_len(step, target),
+    }
+}
+
+/// A walk over a block of the frame profile: what is left, the sum of the operations that were passed, and a
 /// window that begins at an operation not behind the first that a branch can still go back to, with marks for
 /// the goals below a limit.
 #[derive(Drop)]
 pub(crate) struct Walker<'a> {
+    pub(crate) measure: Measure,
     pub(crate) bytes: &'a [u8],
     pub(crate) here: Cursor<'a>,
     pub(crate) count: usize,
     pub(crate) window: Cursor<'a>,
     pub(crate) window_count: usize,
-    pub(crate) marks: Marks<Mark>,
+    pub(crate) marks: Marks,
     pub(crate) limit: u64,
 }
 
@@ -37,19 +71,20 @@ pub(crate) fn copied<'a>(cursor: &Cursor<'a>) -> Cursor<'a>
     Cursor::new(cursor.rest(), cursor.at(), cursor.target())
 }
 
-// Which of the operations from the cursor on begins at the place, or how many there are for the end.
+/// What the operations from the cursor on add before the one that begins at the place, or before the end.
 #[tactic(auto, using(crate::proofs::Splits::step_shorter))]
-pub(crate) fn index_from(cursor: &Cursor<'_>, place: u64) -> Option<usize>
+pub(crate) fn sum_from(cursor: &Cursor<'_>, measure: Measure, place: u64) -> Option<usize>
     requires bytes { AreBytes cursor.now.bytes }
     requires read { (walk Frame cursor.now).fault ≡ None }
-    ensures exact { result ≡ index_at (walk Frame cursor.now).items (end_of cursor.now) place }
+    ensures exact { result ≡ sum_in measure Frame cursor.now place }
     ensures few { IfSome result (λ i. i ≤ length cursor.now.bytes) }
 {
+    let target = cursor.target();
     let mut cursor = copied(cursor);
     let mut count = 0;
     'ops: while cursor.at() < place {
         match next_step(&mut cursor, Profile::Frame) {
-            Ok(_) => count += 1,
+            Ok(step) => count += added(measure, step, target),
             Err(_) => return None,
         }
     }
@@ -60,18 +95,19 @@ pub(crate) fn index_from(cursor: &Cursor<'_>, place: u64) -> Option<usize>
     }
 }
 
-// Goes on to the first operation that does not begin below the place, and says how many it passes.
+/// Goes on to the first operation that does not begin below the place, and says what those add that it passes.
 #[tactic(auto, using(crate::proofs::WalkStarts::never_stuck, crate::proofs::Splits::step_shorter))]
-pub(crate) fn advance(window: &mut Cursor<'_>, low: u64) -> usize
+pub(crate) fn advance(window: &mut Cursor<'_>, measure: Measure, low: u64) -> usize
     requires bytes { AreBytes window.old.bytes }
     requires read { (walk Frame window.old).fault ≡ None }
     requires low { low ≤ end_of window.old }
-    ensures { Shifted window.old low result window.new }
+    ensures { Shifted measure window.old low result window.new }
 {
+    let target = window.target();
     let mut count = 0;
     'ops: while window.at() < low {
         match next_step(window, Profile::Frame) {
-            Ok(_) => count += 1,
+            Ok(step) => count += added(measure, step, target),
             Err(_) => return count,
         }
     }
@@ -80,20 +116,23 @@ pub(crate) fn advance(window: &mut Cursor<'_>, low: u64) -> usize
 
 impl<'a> Walker<'a> {
     /// At the front of a block that can be read.
-    pub(crate) fn new(bytes: &'a [u8], target: Target) -> Walker<'a>
+    pub(crate) fn new(bytes: &'a [u8], target: Target, measure: Measure) -> Walker<'a>
         requires { (walk Frame (block_input target bytes.now)).fault ≡ None }
         ensures so { WalkSo result }
         ensures here { result.here ≡ block_input target bytes.entry.now }
+        ensures count { result.count ≡ 0 }
         ensures bytes { result.bytes.now ≡ bytes.entry.now }
+        ensures measure { result.measure ≡ measure }
     {
         are_bytes(bytes);
         Walker {
+            measure,
             bytes,
             here: Cursor::new(bytes, 0, target),
             count: 0,
             window: Cursor::new(bytes, 0, target),
             window_count: 0,
-            marks: Marks::new(Mark { bytes: 0, count: 0 }),
+            marks: Marks::new(),
             limit: APART,
         }
     }
@@ -105,36 +144,40 @@ impl<'a> Walker<'a> {
         ensures here { self.new.here ≡ self.old.here }
         ensures count { self.new.count ≡ self.old.count }
         ensures bytes { self.new.bytes.now ≡ self.old.bytes.now }
+        ensures measure { self.new.measure ≡ self.old.measure }
     {
         if place < self.limit {
             return;
         }
-        self.window_count += advance(&mut self.window, end.saturating_sub(REACH));
-        fill(&self.window, &mut self.marks);
+        let low = end.saturating_sub(REACH);
+        self.window_count += advance(&mut self.window, self.measure, low);
+        fill(&self.window, self.measure, &mut self.marks);
         self.limit = self.window.at() + APART * (ROOM + 1);
     }
 
-    // Which operation a branch names that ends here.
+    // What stands before the operation that a branch names that ends here.
     fn sought(&mut self, end: u64, number: u16) -> Option<usize>
         requires { SoughtSo end self.old }
-        ensures exact { result ≡ find_at (index_in Frame (block_of self.old)) (goes_to end number) }
+        ensures exact { result ≡ find_at (sum_in self.old.measure Frame (block_of self.old)) (goes_to end number) }
         ensures so { SoughtSo end self.new }
         ensures here { self.new.here ≡ self.old.here }
         ensures count { self.new.count ≡ self.old.count }
         ensures bytes { self.new.bytes.now ≡ self.old.bytes.now }
+        ensures measure { self.new.measure ≡ self.old.measure }
     {
         let place = goal(end, number)?;
         if end <= place && place - end < APART {
-            let index = index_from(&self.here, place)?;
-            return Some(self.count + index);
+            let more = sum_from(&self.here, self.measure, place)?;
+            return Some(self.count + more);
         }
         self.reach(end, place);
-        let index = index_by(&self.window, &self.marks, place)?;
-        Some(self.window_count + index)
+        let more = sum_by(&self.window, self.measure, &self.marks, place)?;
+        Some(self.window_count + more)
     }
 
-    /// The next operation, or the refusal of a branch that leads nowhere.
-    #[tactic(auto, using(crate::proofs::Walkers::to_seek, crate::proofs::Walkers::walked_plain, crate::proofs::WalkStarts::never_stuck))]
+    /// The next operation, or the refusal of a branch that leads nowhere. A branch has what stands before the
+    /// operation that it names.
+    #[tactic(auto, using(crate::proofs::Walkers::walked_plain, crate::proofs::WalkStarts::never_stuck))]
     pub(crate) fn next_op(&mut self) -> Result<Option<Op<'a>>, Refusal>
         requires { WalkSo self.old }
         ensures { Walks self.old self.new result }
@@ -143,12 +186,13 @@ impl<'a> Walker<'a> {
             return Ok(None);
         }
         let at = self.here.at();
+        let target = self.here.target();
         let step = next_step(&mut self.here, Profile::Frame)?;
-        self.count += 1;
+        self.count += added(self.measure, step, target);
         match step {
             Step::Plain(op) => Ok(Some(op)),
             Step::Jump(branch, number) => match self.sought(at + 3, number) {
-                Some(index) => Ok(Some(named(branch, index))),
+                Some(before) => Ok(Some(named(branch, before))),
                 None => Err(Refusal {
                     code: Code::BadBranch,
                     at,

@@ -1,5 +1,5 @@
 -- Entries that stand at their places in bytes.
-use Rattle.dw_section.proofs.Words.{◌≡◌, ℕ, ◌+◌, ◌-◌, ◌≤◌, true, false, List, [], ◌∷◌, ◌++◌, length, take, drop, Some, Err, refl, sym, ap, subst, ◌∙◌, append_assoc, arith, inl, inr, AllByRecursion, Form, Order, Target, Refusal, Input}
+use Rattle.dw_section.proofs.Words.{◌≡◌, ℕ, ◌+◌, ◌-◌, ◌≤◌, true, List, [], ◌∷◌, ◌++◌, length, take, drop, Some, Err, refl, sym, ap, subst, ◌∙◌, append_assoc, arith, inl, inr, AllByRecursion, Form, Order, Target, Refusal, Input}
 use Rattle.dw_section.proofs.Words.{Takes, Span, length_bytes, Kind, Item, gap, entry, IsItem, Piece, item_bytes, piece_of, pieces, is_cie, all_bytes, CieFields, FdeFields, FoundFde, item_at, address_limit, is_among, CieHead, FdeHead, Head}
 use Rattle.dw_section.proofs.Words.{Has, Headers, IsCie, IsFde, cie, fde, cie_head, cie_at, fde_at, IsFound, found_cie, found_head, Returns, Range, cie_places, IsAmong, StandsIn, AreJoined, FoundStands, StandsAt, Pieces, eq-eqb, eqb_tells}
 use Rattle.dw_section.proofs.Words.{length-append, drop_at, length-drop, length-take-le, take-append-drop, take_all, FdeEntry, FdeStands, Initial, entry_in, initial_in, some_is}

@@ -124,11 +124,10 @@ fn run_on<'a>(
     ensures found { IfOk result (λ lacking. (hs : List Head) × AreHeaders target bytes.now places.now hs × AreInitials target hs hs initials.now × AreJudged target hs hs lacking list.new.items) }
     ensures first { IfErr result (Refuses (RulesFault target bytes.now)) }
 {
-    let alloc = *list.allocator();
     let mut cursor = Cursor::new(bytes, 0, target);
     let mut lacking = None;
     'headers: while let Some(header) = next_header(&mut cursor, places) {
-        let lacks = judge(alloc, runner, &header, initials, target)?;
+        let lacks = judge(runner, &header, initials, target)?;
         lacking = or_place(lacking, lacks, entry_at(&header));
         keep_range(list, &header, initials)?;
     }

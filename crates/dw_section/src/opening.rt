@@ -1,17 +1,16 @@
 //! How an FDE's program begins.
 
-ghost use Rattle.std.specs.Prelude.{◌≡◌, ◌<◌, false, List, length, slice_index_or, None, IfSome};
+ghost use Rattle.std.specs.Prelude.{◌≡◌, ◌<◌, List, length, slice_index_or, IfSome};
 ghost use Rattle.std.specs.Option.{IsSome};
 ghost use Rattle.dw_cfa.specs.declared.instr.Instr.{Instr};
 ghost use Rattle.dw_cfa.specs.InstrSpells.{ProgramSpells};
 ghost use Rattle.dw_cfa.specs.Opening.{first_row};
 ghost use Rattle.dw_section.specs.declared.lookup.Fde.{Fde as TheFde};
-ghost use Rattle.dw_section.specs.Meaning.{AreFdes, ChangesOf, HasLengths};
+ghost use Rattle.dw_section.specs.Meaning.{AreFdes, HasLengths};
 ghost use Rattle.dw_section.specs.Opening.{HasProgram, OpensBehind};
 ghost use Rattle.dw_section.specs.declared.opening.CieRow.{CieRow as TheRow};
 ghost use Rattle.dw_section.specs.Inner.Opening.{row_behind};
 
-use crate::change::Changes;
 use crate::listed_fde::FoundFde;
 use crate::lookup::FdeRef;
 use crate::table::Table;
@@ -85,22 +84,5 @@ impl<'a> Table<'a> {
     {
         self.accepted();
         opening_in(self.found(fde), self.target)
-    }
-
-    /// Goes on to the changes of an FDE as `go_on` does, and answers what `opening` does.
-    pub fn go_on_opening(&self, changes: &mut Changes<'a>, fde: FdeRef) -> Opening<'a>
-        requires place { (fs : List TheFde) → AreFdes self.now.target self.now.bytes fs → fde.place < length fs }
-        requires section { changes.old.section ≡ self.now }
-        ensures begun { (changes.new.failed ≡ false) × (changes.new.shown ≡ None) }
-        ensures before { changes.new.before ≡ None }
-        ensures section { changes.new.section ≡ self.now }
-        ensures changes { (fs : List TheFde) → AreFdes self.now.target self.now.bytes fs → (d : TheFde) → ChangesOf self.now.target self.now.bytes (slice_index_or fs fde.place d) changes.new.to_come }
-        ensures lengths { (fs : List TheFde) → AreFdes self.now.target self.now.bytes fs → (d : TheFde) → HasLengths self.now.target self.now.bytes (slice_index_or fs fde.place d) (length result.program.now) result.initial }
-        ensures program { (fs : List TheFde) → AreFdes self.now.target self.now.bytes fs → (d : TheFde) → HasProgram self.now.target self.now.bytes (slice_index_or fs fde.place d) result.factors result.program.now }
-        ensures opens { (fs : List TheFde) → AreFdes self.now.target self.now.bytes fs → (d : TheFde) → IfSome result.row (OpensBehind self.now.target self.now.bytes (slice_index_or fs fde.place d)) }
-        ensures only { (fs : List TheFde) → AreFdes self.now.target self.now.bytes fs → (d : TheFde) (row : TheRow) → OpensBehind self.now.target self.now.bytes (slice_index_or fs fde.place d) row → IsSome result.row }
-    {
-        self.go_on(changes, fde);
-        self.opening(fde)
     }
 }

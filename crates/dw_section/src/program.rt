@@ -30,7 +30,7 @@ ghost use Rattle.dw_section.specs.Accepted.{RulesFault};
 
 use crate::entry::{Kind, Placed, next_piece};
 use crate::header::{Header, Initial, read_initial};
-use dw_cfa::{CieMachine, Factors, behind_laws, initial_row};
+use dw_cfa::{CieMachine, Factors, Row, behind_laws};
 use dw_num::{Cursor, Program, ReadError, Target, are_bytes};
 use std::alloc::{AllocError, Global};
 
@@ -53,18 +53,18 @@ pub(crate) struct Runner<'a> {
     long: Vec<Long<'a>>,
 }
 
-// Runs a CIE's program.
-fn run_cie(alloc: Global, cie: &Initial<'_>, target: Target) -> Result<(), ReadError>
+// Runs a CIE's program on a row.
+fn run_cie<'a>(row: &mut Row<'a>, cie: &Initial<'a>, target: Target) -> Result<(), ReadError>
     ensures runs { (form : TheForm) → IfOk result (λ _. CieRuns target (initial_in form cie.now)) }
     ensures found { (hs : List Head) (form : TheForm) → IsAmong (initial_in form cie.now) hs → IfOk result (λ _. IsInitial target hs cie.now) }
     ensures stuck { (form : TheForm) → IfErr result (Refuses (CieBroken target (initial_in form cie.now))) }
 {
-    let _row = initial_row(alloc, cie.program, cie.factors, target)?;
-    Ok(())
+    row.become_initial(cie.program, cie.factors, target)
 }
 
 // The same, and keeps what its FDEs begin with.
 fn keep_initial<'a>(
+    row: &mut Row<'a>,
     initials: &mut Vec<Initial<'a>>,
     cie: &Initial<'a>,
     target: Target,
@@ -72,14 +72,14 @@ fn keep_initial<'a>(
     ensures found { (hs front : List Head) (form : TheForm) → IsAmong (initial_in form cie.now) hs → AreInitials target hs front initials.old.items → OnOk result (AreInitials target hs (front ++ initial_in form cie.now ∷ []) initials.new.items) }
     ensures first { (form : TheForm) → IfErr result (Refuses (CieBroken target (initial_in form cie.now))) }
 {
-    let alloc = *initials.allocator();
-    run_cie(alloc, cie, target)?;
+    run_cie(row, cie, target)?;
     initials.push(*cie)?;
     Ok(())
 }
 
 // The same of a piece; an FDE's fields are not read.
 fn keep_piece<'a>(
+    row: &mut Row<'a>,
     initials: &mut Vec<Initial<'a>>,
     piece: &Placed<'a>,
     target: Target,
@@ -90,7 +90,7 @@ fn keep_piece<'a>(
 {
     match piece.kind {
         Kind::Cie => match read_initial(piece, target) {
-            Ok(cie) => keep_initial(initials, &cie, target),
+            Ok(cie) => keep_initial(row, initials, &cie, target),
             Err(_) => Ok(()),
         },
         Kind::Fde => Ok(()),
@@ -111,8 +111,9 @@ pub(crate) fn run_cies<'a>(
 {
     let mut cursor = Cursor::new(bytes, 0, target);
     let mut initials = Vec::with_capacity(alloc, places.len())?;
+    let mut row = Row::blank(alloc);
     'pieces: while let Some(piece) = next_piece(&mut cursor) {
-        keep_piece(&mut initials, &piece, target)?;
+        keep_piece(&mut row, &mut initials, &piece, target)?;
         // Often all CIEs stand before the FDEs.
         if initials.len() == places.len() {
             return Ok(initials);
@@ -237,11 +238,8 @@ impl<'a> Runner<'a> {
     }
 }
 
-// Runs the program of the CIE at a place on a new machine, which FDEs of another CIE than the one before need. Out of
-// line: room for the machine is cleared at each call.
-#[inline(never)]
+// Runs the program of the CIE at a place, which FDEs of another CIE than the one before need.
 fn go_behind<'a>(
-    alloc: Global,
     runner: &mut Runner<'a>,
     initials: &[Initial<'a>],
     place: u64,
@@ -251,14 +249,19 @@ fn go_behind<'a>(
     requires among { is_among place (map place_of initials.now) ≡ true }
     ensures { (hs : List Head) → AllByRecursion (IsInitial target hs) initials.now → IsRunner target hs runner.old → OnOk result ((runner.new.behind ≡ Some place) × IsRunner target hs runner.new) }
 {
-    runner.machine = machine_of(alloc, initial_at(initials, place), target)?;
-    runner.behind = Some(place);
-    Ok(())
+    let cie = initial_at(initials, place);
+    are_bytes(cie.program.bytes);
+    match runner.machine.go_to(cie.program, cie.factors, target) {
+        Ok(()) => {
+            runner.behind = Some(place);
+            Ok(())
+        }
+        Err(_) => Err(AllocError),
+    }
 }
 
 // Puts the machine that goes from CIE to CIE behind the program of the one at a place.
 fn follow<'a>(
-    alloc: Global,
     runner: &mut Runner<'a>,
     initials: &[Initial<'a>],
     place: u64,
@@ -273,7 +276,7 @@ fn follow<'a>(
     {
         return Ok(());
     }
-    go_behind(alloc, runner, initials, place, target)
+    go_behind(runner, initials, place, target)
 }
 
 // Where the machine of the CIE at a place stands, if one is kept for it.
@@ -311,7 +314,6 @@ fn run_long<'a>(
 // Runs an FDE's program behind the program of the CIE at a place, and says whether one of its addresses has no rule for
 // the CFA.
 fn run_behind<'a>(
-    alloc: Global,
     runner: &mut Runner<'a>,
     initials: &[Initial<'a>],
     place: u64,
@@ -330,13 +332,12 @@ fn run_behind<'a>(
     if let Some(index) = long_at(&runner.long, place) {
         return run_long(&mut runner.long, index, program, begin, range, target);
     }
-    follow(alloc, runner, initials, place, target)?;
+    follow(runner, initials, place, target)?;
     run_fde(&mut runner.machine, program, begin, range)
 }
 
 // Runs the program of an FDE, and says whether one of its addresses has no rule for the CFA.
 pub(crate) fn judge<'a>(
-    alloc: Global,
     runner: &mut Runner<'a>,
     header: &Header<'a>,
     initials: &[Initial<'a>],
@@ -356,8 +357,6 @@ pub(crate) fn judge<'a>(
             begin,
             range,
             program,
-        } => run_behind(
-            alloc, runner, initials, cie_at, program, begin, range, target,
-        ),
+        } => run_behind(runner, initials, cie_at, program, begin, range, target),
     }
 }

@@ -1,6 +1,6 @@
 //! FDEs that are read at their places in bytes that were not checked (6.4.1).
 
-ghost use Rattle.std.specs.Prelude.{◌≡◌, ◌+◌, ◌<◌, ◌≤◌, ℕ, true, false, List, length, map, slice_index_or, Some, None, IfOk, IfErr, IfSome, IsSome, OnOk, MatchOption, MatchResult};
+ghost use Rattle.std.specs.Prelude.{◌≡◌, ◌+◌, ◌<◌, ◌≤◌, ℕ, List, length, map, slice_index_or, Some, None, IfOk, IfErr, IfSome, IsSome, OnOk, MatchOption, MatchResult};
 ghost use Rattle.dw_cfa.specs.RuleAt.{last_at};
 ghost use Rattle.dw_cfa.specs.Faults.{FaultUpTo, NoFaultUpTo};
 ghost use Rattle.dw_cfa.specs.Runs.{Outcome};

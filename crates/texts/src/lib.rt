@@ -13,6 +13,8 @@ mod normal_forms;
 #[cfg(test)]
 mod notation;
 #[cfg(test)]
+mod outputs;
+#[cfg(test)]
 mod runs;
 #[cfg(test)]
 mod sections;

@@ -1,8 +1,7 @@
 //! The subcommand `at`: addresses of the words and of standard input.
 
-use crate::runs::{
-    Case, LEFTOVERS, PLAIN, SCRAMBLED, all_answer, answers_of_two, failing_output_is_told,
-};
+use crate::outputs::failing_output_is_told;
+use crate::runs::{Case, LEFTOVERS, PLAIN, SCRAMBLED, all_answer, answers_of_two};
 use std::alloc::Global;
 use std::test::Fail;
 

@@ -1,6 +1,7 @@
 //! The worked cases of normal forms: `normal`, `same` and `cost`.
 
-use crate::runs::{LEFTOVERS, PLAIN, answers, answers_in_bytes, status_over};
+use crate::outputs::status_over;
+use crate::runs::{LEFTOVERS, PLAIN, answers, answers_in_bytes};
 use std::test::Fail;
 
 // The plain section's normal form: the data factor is -1.

@@ -1,8 +1,8 @@
-//! Runs of the command over a file and outputs in memory: entries, words, and outputs that fail.
+//! Runs of the command over a file and outputs in memory: entries, words, and hints.
 
 use dw_command::{Hinted, Load, LoadError, engine};
 use std::alloc::{AllocError, Global};
-use std::io::{self, ErrorKind, Write};
+use std::io::Write;
 use std::test::Fail;
 
 // One CIE, and one FDE of four rows.
@@ -47,31 +47,6 @@ impl Load for Files<'_> {
     }
 }
 
-// An output that takes so many writes and so many flushes, and then fails.
-#[derive(Drop)]
-struct Failing {
-    writes: usize,
-    flushes: usize,
-}
-
-impl Write for Failing {
-    fn write(&mut self, bytes: &[u8]) -> io::Result<usize> {
-        if self.writes == 0 {
-            return Err(io::Error::from(ErrorKind::Other));
-        }
-        self.writes -= 1;
-        Ok(bytes.len())
-    }
-
-    fn flush(&mut self) -> io::Result<()> {
-        if self.flushes == 0 {
-            return Err(io::Error::from(ErrorKind::Other));
-        }
-        self.flushes -= 1;
-        Ok(())
-    }
-}
-
 // The words of a line, which are apart by spaces. Two quotes are an empty word.
 pub(crate) fn words_of(alloc: Global, line: &str) -> Result<Vec<String>, AllocError> {
     let mut list = Vec::new(alloc);
@@ -83,7 +58,7 @@ pub(crate) fn words_of(alloc: Global, line: &str) -> Result<Vec<String>, AllocEr
 }
 
 // The status of a run over two files. What it prints is appended to `out` and `err`.
-fn status_of<W: Write, E: Write>(
+pub(crate) fn status_of<W: Write, E: Write>(
     alloc: Global,
     line: &str,
     files: (&[u8], &[u8]),
@@ -171,9 +146,9 @@ fn beginnings_answer(alloc: Global, case: Case<'_>, first: usize, last: usize) -
     Ok(())
 }
 
-const ENTRIES: &str = "dwframe entries --size 8 --order little in";
+pub(crate) const ENTRIES: &str = "dwframe entries --size 8 --order little in";
 
-const CHECK: &str = "dwframe check --size 8 --order little in";
+pub(crate) const CHECK: &str = "dwframe check --size 8 --order little in";
 
 // Beginnings of sections by their lengths.
 const BEGINNINGS: [(usize, usize, Case<'static>); 18] = [
@@ -428,67 +403,6 @@ fn tells_wrong_words(rt: HostRuntime) -> Result<(), Fail> {
         "",
     )?;
     assert_eq!(rt; version, (0, true, true));
-    Ok(())
-}
-
-// The status of a run over an output that takes so many writes and flushes, and whether it tells that it failed.
-pub(crate) fn status_over(
-    alloc: Global,
-    line: &str,
-    writes: usize,
-    flushes: usize,
-) -> Result<(u8, bool), AllocError> {
-    let mut out = Failing { writes, flushes };
-    let mut err: Vec<u8> = Vec::new(alloc);
-    let status = status_of(alloc, line, (PLAIN, DUMP), &mut out, &mut err)?;
-    Ok((status, err.as_slice() == b"cannot write\n".as_slice()))
-}
-
-// Fails unless each write of a run is told where it fails, and the flush.
-pub(crate) fn failing_output_is_told(alloc: Global, line: &str) -> Result<(), Fail> {
-    if status_over(alloc, line, 1000, 0)? != (4, true) {
-        return Err(Fail::new(format_args!("{line}: the flush")));
-    }
-    for writes in 0..1000 {
-        let answer = status_over(alloc, line, writes, 1)?;
-        if answer == (0, false) && writes > 0 {
-            return Ok(());
-        }
-        if answer != (4, true) {
-            return Err(Fail::new(format_args!("{line}: after {writes} writes")));
-        }
-    }
-    Err(Fail::new(format_args!("{line}: no run wrote all")))
-}
-
-#[test]
-fn tells_outputs_that_fail(rt: HostRuntime) -> Result<(), Fail> {
-    let lines = [
-        ENTRIES,
-        CHECK,
-        "dwframe rows --size 8 --order little in",
-        "dwframe expr --size 8 --order little 9e02aabb",
-        "dwframe eval --size 8 --order little 31",
-        "dwframe unwind --size 8 --order little --default same in second",
-        "dwframe --help",
-    ];
-    for line in lines {
-        failing_output_is_told(rt.alloc(), line)?;
-    }
-    Ok(())
-}
-
-#[test]
-fn ignores_errors_that_cannot_be_told(rt: HostRuntime) -> Result<(), Fail> {
-    let mut out: Vec<u8> = Vec::new(rt.alloc());
-    let mut err = Failing {
-        writes: 0,
-        flushes: 0,
-    };
-    let reserved = b"\xf0\xff\xff\xff".as_slice();
-    let files = (reserved, b"".as_slice());
-    let status = status_of(rt.alloc(), ENTRIES, files, &mut out, &mut err)?;
-    assert_eq!(rt; status, 2);
     Ok(())
 }
 

@@ -271,7 +271,7 @@ impl Core {
         };
         let mut core = Core { machine: elf.machine, len: bytes.len(), ..Core::default() };
         for load in elf.segments(PT_LOAD) {
-            core.windows.push(Window { address: load.address, place: load.offset, len: load.file_len });
+            core.windows.push(Window { address: load.address, place: load.offset as usize, len: load.file_len as usize });
             core.loads.push(*load);
         }
         for segment in elf.segments(PT_NOTE) {
@@ -311,7 +311,7 @@ impl Core {
     }
 
     fn window_at(&self, address: u64) -> Option<usize> {
-        self.windows.iter().position(|window| address.wrapping_sub(window.address) < window.len)
+        self.windows.iter().position(|window| address.wrapping_sub(window.address) < window.len as u64)
     }
 
     /// The bytes from an address on, at most `len`, as many as one window has.
@@ -320,7 +320,7 @@ impl Core {
             return &[];
         };
         let before = address.wrapping_sub(window.address);
-        part(&self.memory, window.place.wrapping_add(before), len.min(window.len - before))
+        part(&self.memory, (window.place as u64).wrapping_add(before), len.min(window.len as u64 - before))
     }
 
     /// Puts the window that has an address before the others: the library looks through them in their order.
@@ -341,12 +341,12 @@ impl Core {
     }
 
     /// Adds a window of bytes that none has, from the file that was mapped there. Answers whether it has them.
-    pub fn fetch(&mut self, modules: &[Module], address: u64, len: u64) -> bool {
-        let found = module_at(modules, address).and_then(|module| module.constant_at(address, len));
+    pub fn fetch(&mut self, modules: &[Module], address: u64, len: usize) -> bool {
+        let found = module_at(modules, address).and_then(|module| module.constant_at(address, len as u64));
         let Some(found) = found.filter(|found| self.memory.len() + found.len() <= self.len + FETCHED) else {
             return false;
         };
-        self.windows.push(Window { address, place: self.memory.len() as u64, len });
+        self.windows.push(Window { address, place: self.memory.len(), len });
         self.memory.extend_from_slice(found);
         true
     }

@@ -2,7 +2,7 @@
 use Rattle.dw_cfa.proofs.Words.{◌≡◌, ◌⊎◌, ℕ, ◌+◌, ◌<◌, ◌≤◌, Bool, true, false, cond, List, [], ◌∷◌, ◌++◌, length, Option, Some, None, Result, Ok, Err, refl, sym, ap, ◌∙◌, subst, inl, inr, arith, IsTrue, not, nat_lt, count_by, ◌↔◌, take_all}
 use Rattle.dw_cfa.proofs.Words.{append-nil, lt-ltb, le-ltb, nat_tests, AreBytes, CfaRule, Code, Factors, Input, Instr, Outcome, Placed, Refusal, Rules, State, Target, address_limit, NotInCie, LocationBackwards, LocationTooLarge}
 use Rattle.dw_cfa.proofs.Words.{StateStackFull, CfaNotRegister, SetLoc, Advance, RememberState, RestoreState, ProgramSpells, taken_bytes, onto, cfa_after, is_remember, is_restore, in_cie, keeps_half, IsRegisterRule, CieKept, FdeKept, Leaves}
-use Rattle.dw_cfa.proofs.Words.{InitialLeaves, LeavesInitial, InitialRefused, BehindRefused, BreaksHalf, CieBreaks, FdeBreaks, FaultBehind, FdeFaultBehind, CieFault, FdeFault, RunFault, AreSpecified, blank, begun, written, after}
+use Rattle.dw_cfa.proofs.Words.{InitialLeaves, LeavesInitial, BreaksHalf, CieBreaks, FdeBreaks, FaultBehind, FdeFaultBehind, CieFault, FdeFault, RunFault, AreSpecified, blank, begun, written, after}
 use Rattle.dw_cfa.proofs.Words.{half_fault, cie_fault, fde_fault, Placing, placed, initial_row, on_initial, fde_rows, rows_behind, run_rows}
 use Rattle.dw_cfa.specs.declared.rule.CfaRule.TheVariants as cfa
 use Rattle.dw_cfa.proofs.Divided.{input, placing, divided, left_behind, placed_again, joined_at}
@@ -229,12 +229,6 @@ leaves_initial f cie instrs h program kept =
     let all = cie_runs items [] blank (begun_follows blank 0 tt) kept_read.allowed kept_read.halves in
     let run = cie_told items (placed f cie).fault blank None (refusal_end cie_fault written items (placed f cie).fault blank all ∙ read.1) in
     (ends written items blank, run, subst (λ (l : List Instr). Leaves f cie l (ends written items blank)) read.0 (leaves f cie (ends written items blank) h run))
-
-pub initial_refused : InitialRefused
-initial_refused f cie r h = (cie_fault_found f cie h r, cie_fault_only f cie h r)
-
-pub behind_refused : BehindRefused
-behind_refused f initial fde begin r h listed le = (fde_fault_found f initial fde begin h le listed r, fde_fault_only f initial fde begin h le listed r)
 
 module _ (f : Factors) (cie fde : Input) (begin : ℕ) (r : Refusal) (cb : AreBytes cie.bytes) (fb : AreBytes fde.bytes) (le : begin ≤ address_limit fde.target.size) where
   pub run_refused : (run_rows f cie fde begin).fault ≡ Some r → RunFault f cie fde begin r

@@ -291,17 +291,6 @@ pub rules_behind : (f : Factors) (initial : Rules) (fde : Input) (begin : ℕ) (
 rules_behind f initial fde begin o fb listed le runs none =
     behind_gives f initial fde begin o.rows fb listed le (sym (runs_behind f initial fde begin fb listed le o runs) ∙ one_outcome o o.rows None refl none)
 
--- a run that has no fault gives rows
-pub known_gives : (f : Factors) (cie fde : Input) (begin : ℕ) → AreBytes cie.bytes → AreBytes fde.bytes → begin ≤ address_limit fde.target.size → (run_rows f cie fde begin).fault ≡ None
-    → (rows : List LocatedRow) × Gives f cie fde begin rows
-known_gives f cie fde begin cb fb le none =
-    let o = run_rows f cie fde begin in
-    (o.rows, run_gives f cie fde begin cb fb le o.rows (one_outcome o o.rows None refl none))
-
-pub run_steps : (f : Factors) (cie fde : Input) (begin : ℕ) (row : Rules) (s : Stepping) → AreBytes cie.bytes → AreBytes fde.bytes → begin ≤ address_limit fde.target.size
-    → s ≡ stepping row s.outcome → RunsTo f cie fde begin s.outcome → s ≡ stepping row (run_rows f cie fde begin)
-run_steps f cie fde begin row s cb fb le e runs = e ∙ ap (stepping row) (runs_run f cie fde begin cb fb le s.outcome runs)
-
 -- ---- what the calls answer
 
 pub given_runs : (f : Factors) (cie fde : Input) (begin : ℕ) (row : Rules) (s : Stepping) → s ≡ stepping row (run_rows f cie fde begin) → AreBytes cie.bytes → AreBytes fde.bytes → begin < address_limit fde.target.size → RunsTo f cie fde begin s.outcome

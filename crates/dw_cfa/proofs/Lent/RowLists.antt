@@ -9,10 +9,6 @@ pub listed_is : (r : ℕ) (rule : RegRule) (rest : List Entry) → is_specified 
 listed_is r Unspecified rest e = absurd cc
 listed_is r rule rest e = refl
 
-pub not_listed : (r : ℕ) (rule : RegRule) (rest : List Entry) → is_specified rule ≡ false → listed r rule rest ≡ rest
-not_listed r Unspecified rest e = refl
-not_listed r rule rest e = absurd cc
-
 -- a register below all of the list has no rule
 pub unlisted : (r low : ℕ) (xs : List Entry) → AreSpecified low xs → r < low → rule_in xs r ≡ Unspecified
 unlisted r low [] up lt = refl

@@ -1,8 +1,8 @@
 -- Where the registers of a row lie: those below 128 in slots under a mask, with their expressions in a tree, and the others in another tree.
-use Rattle.std.specs.Prelude.{◌≡◌, ℕ, zero, suc, ◌<◌, ◌≤◌, ◌-◌, List, ◌∷◌, length, ◌++◌, Bool, Option, Some, None, ℤ, pos, IsTrue, nat_eq, nat_lt, if◌then◌else◌}
+use Rattle.std.specs.Prelude.{◌≡◌, ℕ, zero, suc, ◌<◌, ◌≤◌, ◌-◌, List, ◌∷◌, length, Bool, Option, Some, None, ℤ, pos, IsTrue, nat_eq, nat_lt, if◌then◌else◌}
 use Rattle.dw_cfa.specs.declared.rule.RegRule.{RegRule}
 use Rattle.dw_cfa.specs.declared.rule.RegRule.TheVariants as rules
-use Rattle.dw_cfa.specs.declared.row.Entries.{Entries}
+use Rattle.dw_cfa.specs.declared.entries.Entries.{Entries}
 use Rattle.dw_cfa.specs.declared.slot.Slot.{Slot}
 use Rattle.dw_cfa.specs.declared.slot.Kind.{Kind}
 use Rattle.dw_cfa.specs.declared.slot.Kind.TheVariants as kinds
@@ -51,22 +51,18 @@ listed_from k (suc n) rule far = listed k (rule k) (listed_from (suc k) n rule f
 abbrev pub listed_near : ℕ → ℕ → List Slot → List (ℕ × RegRule) → List (ℕ × RegRule) → List (ℕ × RegRule)
 listed_near k used near expressions far = listed_from k (128 - k) (near_rule used near expressions) far
 
--- the slots of all registers below 128: those below 32 have one each, and more follow as far as they were asked for
-abbrev pub slots_of : Entries → List Slot
-slots_of e = e.low ++ e.high.items
-
 -- the registers that are not Unspecified, ascending, with their rules
 abbrev pub entries_of : Entries → List (ℕ × RegRule)
-entries_of e = listed_near 0 e.used (slots_of e) e.expressions.entries e.far.entries
+entries_of e = listed_near 0 e.used e.slots e.expressions.entries e.far.entries
 
--- a register that the mask has has a slot and a rule
+-- a register that the mask has has a rule
 abbrev pub Holds : ℕ → List Slot → List (ℕ × RegRule) → Type 0
-Holds used near expressions = (q : ℕ) → bit_at used q ≡ 1 → (q < length near) × IsTrue (is_specified (near_rule used near expressions q))
+Holds used near expressions = (q : ℕ) → bit_at used q ≡ 1 → IsTrue (is_specified (near_rule used near expressions q))
 
 -- the trees ascend, and the slots are those below all that have none
 pub record EntriesSo (e : Entries) : Type 0 where
-  pub used : Holds e.used (slots_of e) e.expressions.entries
-  pub low : length e.low ≡ 32
+  pub used : Holds e.used e.slots e.expressions.entries
+  pub slots : length e.slots ≡ 128
   pub expressions : AreSpecified 0 e.expressions.entries
   pub far : AreSpecified 128 e.far.entries
 
@@ -97,8 +93,3 @@ LeavesAt test r old new = (q : ℕ) → rule_in new q ≡ (if nat_eq r q then le
 
 abbrev pub LeavesBelow : (ℕ × RegRule → Bool) → ℕ → List (ℕ × RegRule) → List (ℕ × RegRule) → Type 0
 LeavesBelow test n old new = (q : ℕ) → rule_in new q ≡ (if nat_lt q n then left test q (rule_in old q) else rule_in old q)
-
--- slots, of which the first are those that were there
-pub record HasRoom (old new : List Slot) : Type 0 where
-  pub longer : length old ≤ length new
-  pub kept : (q : ℕ) (d : Slot) → q < length old → get_or new q d ≡ get_or old q d

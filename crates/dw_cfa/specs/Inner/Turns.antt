@@ -16,10 +16,6 @@ use Rattle.dw_cfa.specs.Inner.Steps.{state_of, IsAfter}
 use Rattle.dw_cfa.specs.Runs.{fails}
 use Rattle.dw_cfa.specs.Inner.Runs.{initial_row, placed, rows_left, RanTo, WroteTo}
 
--- the machine with another row
-abbrev pub with_row : Rules → Machine → Machine
-with_row row m = record { initial = m.initial; states = record { row = row; stack = m.states.stack; first = m.states.first; kept = m.states.kept }; location = m.location; limit = m.limit }
-
 abbrev pub IsWithinLimit : Machine → Type 0
 IsWithinLimit m = m.location ≤ m.limit
 

@@ -1,6 +1,6 @@
 -- Numbers at the front of what is left: what a front spells is read, and LEB128 numbers of one byte and two.
 use Rattle.std.proofs.Common.{◌≡◌, ℕ, ◌+◌, ◌-◌, ◌*◌, ◌%◌, ◌<◌, ◌≤◌, List, [], ◌∷◌, ◌++◌, length, Ok, refl, ap, ◌∙◌, arith, ℤ, pos, ◌-ℤ◌}
-use Rattle.std.proofs.lemmas.Bool.{lt-ltb, le-ltb, le-leb, lt-leb}
+use Rattle.std.proofs.lemmas.Bool.{le-ltb, le-leb, lt-leb}
 use Rattle.std.proofs.lemmas.Int.{ints}
 use Rattle.std.proofs.lemmas.List.{drop_at, length-append}
 use Rattle.byteorder.specs.Endian.{big_number, little_number}
@@ -10,7 +10,7 @@ use Rattle.dw_num.specs.declared.target.Order.TheVariants.{Little, Big}
 use Rattle.dw_num.specs.Input.{Input, Takes}
 use Rattle.dw_num.specs.Fixed.{fixed_number}
 use Rattle.dw_num.specs.Leb.{Uleb, Sleb, groups}
-use Rattle.dw_num.specs.Front.{fixed_at, uleb_at, sleb_at, register_at}
+use Rattle.dw_num.specs.Front.{fixed_at, uleb_at, sleb_at}
 use Rattle.dw_num.proofs.Lent.LebLaws.{uleb_only}
 use Rattle.dw_num.proofs.Lent.SlebLaws.{sleb_only}
 use Rattle.dw_num.proofs.Lent.Steps.{Takes-then}
@@ -49,14 +49,6 @@ big_taken n i new b v t len order is = fixed_taken n i new b t len ∙ rw (order
 pub one_byte_spells : (b : ℕ) → b < 128 → Uleb b (b ∷ [])
 one_byte_spells b lt = record { shape = lt; value = omega arith; fits = omega arith }
 
-pub one_byte_read : (i j : Input) (b : ℕ) → Takes i (b ∷ []) j → b < 128 → uleb_at i ≡ Ok (b, j)
-one_byte_read i j b takes lt = uleb_taken i j (b ∷ []) b takes (one_byte_spells b lt)
-
--- the number of a register
-pub one_byte_register : (i j : Input) (b : ℕ) → Takes i (b ∷ []) j → b < 128 → register_at i ≡ Ok (b, j)
-unfolding register_at
-one_byte_register i j b takes lt = rw (one_byte_read i j b takes lt, lt-ltb b 65536 (omega arith)) refl
-
 pub one_byte_positive : (b : ℕ) → b < 64 → Sleb (pos b) (b ∷ [])
 one_byte_positive b lt = record {
   shape = omega arith;
@@ -70,12 +62,6 @@ one_byte_negative b le lt = record {
   value = rw (le-leb 64 (b % 128) (omega arith)) (ap (λ (n : ℕ). pos n -ℤ pos 128) (let is : b ≡ groups (b ∷ []) = omega arith in is));
   fits = omega (arith, ints);
 }
-
-pub positive_read : (i j : Input) (b : ℕ) (v : ℤ) → Takes i (b ∷ []) j → b < 64 → v ≡ pos b → sleb_at i ≡ Ok (v, j)
-positive_read i j b v takes lt is = rw is (sleb_taken i j (b ∷ []) (pos b) takes (one_byte_positive b lt))
-
-pub negative_read : (i j : Input) (b : ℕ) (v : ℤ) → Takes i (b ∷ []) j → 64 ≤ b → b < 128 → v ≡ pos b -ℤ pos 128 → sleb_at i ≡ Ok (v, j)
-negative_read i j b v takes le lt is = rw is (sleb_taken i j (b ∷ []) (pos b -ℤ pos 128) takes (one_byte_negative b le lt))
 
 -- ---- two bytes, one after the other
 

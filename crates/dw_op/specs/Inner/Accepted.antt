@@ -4,6 +4,7 @@ use Rattle.dw_num.specs.declared.refusal.Refusal.{Refusal}
 use Rattle.dw_num.specs.declared.target.Target.{Target}
 use Rattle.dw_op.specs.declared.op.Op.{Op}
 use Rattle.dw_op.specs.declared.profile.Profile.TheVariants.{Frame}
+use Rattle.dw_op.specs.declared.walk.Measure.TheVariants.{Operations}
 use Rattle.dw_op.specs.declared.walk.Walker.{Walker}
 use Rattle.dw_op.specs.Inner.Walk.{walk, index_in, resolve, block_input, decode_at}
 use Rattle.dw_op.specs.Inner.Windows.{block_of, WalkSo}
@@ -27,5 +28,6 @@ left_of w = ok_ops (resolve (index_in Frame (block_of w)) (walk Frame w.here).it
 -- a walker in a block whose branches lead to its operations
 pub record StepsSo (w : Walker) : Type 0 where
   pub so : WalkSo w
+  pub measure : w.measure ≡ Operations
   pub ops : List Op
   pub good : resolve (index_in Frame (block_of w)) (walk Frame w.here).items ≡ Ok ops

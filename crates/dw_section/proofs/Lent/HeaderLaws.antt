@@ -131,8 +131,3 @@ fdes_more target ps places p w is = record {
 pub cie_never : {X : Type 0} (view : X → Head) (target : Target) (p : Piece) (r : Result X Refusal) (Q : Refusal → Type 0) → CieHolds target p → p.kind ≡ kind.Cie → Answers view r (cie_at target p) → IfErr r Q
 cie_never view target p (Ok x) Q h is a = tt
 cie_never view target p (Err e) Q h is a = absurd (cie_apart target p e h (is, cie_faulty target p e a))
-
--- a refusal is the first fault of a piece's fields
-pub fde_stuck : {X : Type 0} (view : X → Head) (target : Target) (places : List ℕ) (p : Piece) (r : Result X Refusal) → p.kind ≡ kind.Fde → Answers view r (fde_at target places p) → IfErr r (FdeStuck target places p)
-fde_stuck view target places p (Ok x) is a = tt
-fde_stuck view target places p (Err e) is a = (is, fde_faulty target places p e a)

@@ -12,7 +12,7 @@ use Rattle.dw_section.specs.declared.header.FdeEntry.{FdeEntry}
 use Rattle.dw_section.specs.declared.header.Initial.{Initial}
 use Rattle.dw_section.specs.Cut.{Piece}
 use Rattle.dw_section.specs.Fields.{cie_fields, fde_fields}
-use Rattle.dw_section.specs.Headers.{CieHead, FdeHead, Head, cie, fde, cie_head, fde_head}
+use Rattle.dw_section.specs.Headers.{CieHead, Head, cie, fde, cie_head, fde_head}
 use Rattle.dw_section.specs.Inner.Fields.{fields_at}
 
 abbrev pub contents_of : Target → Piece → Input

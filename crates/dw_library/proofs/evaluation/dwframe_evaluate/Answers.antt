@@ -1,5 +1,6 @@
 use Rattle.std.proofs.Common.{◌≡◌, ◌∙◌, Some, Err, refl, sym}
 use Rattle.dw_library.specs.Answers.{target_of}
+use Rattle.dw_library.specs.CallerFrame.{held_in}
 use Rattle.dw_library.proofs.Evaluated.{fault_told}
 use Rattle.dw_library.proofs.evaluation.dwframe_evaluate.Goals as goal
 
@@ -8,5 +9,5 @@ returns-in-Err-Fault c =
     let a = c.args in
     let is_target : target_of a.context.now.address_size a.context.now.byte_order ≡ Some c.in-Some.target = sym c.target_of.ensures ∙ c.in-Some.is in
     let f = c.in-Err-Fault in
-    rw is_target (fault_told c.in-Some.target c.in-Ok.list.target a.block.now c.in-Ok.list.ops a.context.now (record { registers = a.registers.now; windows = a.windows.now; memory = a.memory.now }) _
+    rw is_target (fault_told c.in-Some.target c.in-Ok.list.target a.block.now c.in-Ok.list.ops a.context.now (held_in a.held.now) _
     f.kind f.index f.field-0 (Err f.field-0) c.in-Ok.ensures.found.0 c.in-Ok.ensures.found.1 f.field-0-is refl f.ensures (rw (c.fault_of_kind.ensures, c.not_refused.ensures) refl))

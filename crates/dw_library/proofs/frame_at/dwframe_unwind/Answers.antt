@@ -6,7 +6,7 @@ use Rattle.dw_section.specs.Accepted.{CheckFault}
 use Rattle.dw_library.specs.declared.caller.Stop.{Stop}
 use Rattle.dw_library.specs.declared.registers.Register.{Register}
 use Rattle.dw_library.specs.Answers.{target_of, refused, told}
-use Rattle.dw_library.specs.CallerFrame.{IsUnwound, Machine, Told, no_frame, no_fault}
+use Rattle.dw_library.specs.CallerFrame.{IsUnwound, Machine, Told, held_in, no_frame, no_fault}
 use Rattle.dw_library.proofs.frame_at.dwframe_unwind.Goals as goal
 
 -- a section is refused, whatever an unset register is taken as
@@ -18,7 +18,7 @@ refused_is target (Some policy) s stop m old t r some fault is = inr (inl (r, fa
 pub returns-in-Err-Refused : goal.returns-in-Err-Refused
 returns-in-Err-Refused c =
     let a = c.args in
-    let is_target : target_of a.stop.now.address_size a.stop.now.byte_order ≡ Some c.in-Some.target = sym c.target_of.ensures ∙ c.in-Some.is in
+    let is_target : target_of a.section.now.address_size a.section.now.byte_order ≡ Some c.in-Some.target = sym c.target_of.ensures ∙ c.in-Some.is in
     let is_told = rw c.in-Err-Refused.refusal-is at c.told.ensures in
-    rw (is_target, sym c.policy_of.ensures) (refused_is c.in-Some.target c.policy_of.result a.bytes.now a.stop.now (record { registers = a.registers.now; windows = a.windows.now; memory = a.memory.now }) a.out.now _ c.in-Err-Refused.refusal
+    rw (is_target, sym c.policy_of.ensures) (refused_is c.in-Some.target c.policy_of.result a.section.now.bytes.now a.stop.now (held_in a.held.now) a.out.now _ c.in-Err-Refused.refusal
     c.if-is_none.ensures (rw c.in-Err-Refused.field-0-is at c.in-Err-Refused.ensures.first) (rw (is_told, c.no_frame.ensures, c.no_fault.ensures) refl))

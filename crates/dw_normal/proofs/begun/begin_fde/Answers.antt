@@ -3,10 +3,9 @@ use Rattle.dw_section.specs.Table.{Section}
 use Rattle.dw_normal.specs.Inner.Apart.{StandsApart}
 use Rattle.dw_normal.specs.Inner.Known.{AreSame}
 use Rattle.dw_normal.proofs.Apartness.{known_behind, still_same}
-use Rattle.dw_normal.proofs.Filled.{on_ok}
+use Rattle.dw_normal.proofs.Filled.{on_ok, where_ok}
 use Rattle.dw_normal.proofs.Grouped.{no_member}
 use Rattle.dw_normal.proofs.Placed.{below, listed_row, listed_some, ready_at, same_row}
-use Rattle.dw_normal.proofs.PlainFdes.{where_ok}
 use Rattle.dw_normal.proofs.begun.begin_fde.Goals.{After-list_apart}
 use Rattle.dw_normal.proofs.begun.begin_fde.Goals as goal
 

@@ -18,7 +18,6 @@ fdes-preserved g c = record {
   fdes = fdes_next c.fdes.invariant.fdes c.requires.count c.fdes-test.true c.write_fde-put.result c.write_fde-put.new.sink c.write_fde-put.ensures.puts c.after.ensures c.in_ok-written.was;
   section = c.write_fde-put.ensures.section;
   shares = put_so c.fdes.written c.write_fde-put.result c.after.result _ c.write_fde-put.ensures.shares c.after.ensures c.in_ok-written.was;
-  first = put_so c.fdes.written c.write_fde-put.result c.after.result _ c.write_fde-put.ensures.first c.after.ensures c.in_ok-written.was;
   stands = put_so c.fdes.written c.write_fde-put.result c.after.result _ c.write_fde-put.ensures.stands c.after.ensures c.in_ok-written.was;
 }
 
@@ -29,6 +28,3 @@ returns-in_err-written g c =
 
 pub returns : goal.returns
 returns g c = fdes_end c.fdes.invariant.fdes c.requires.count c.fdes-test.false
-
-pub write_fde-put-requires-clause-first : goal.write_fde-put-requires-clause-first
-write_fde-put-requires-clause-first g c = c.fdes.invariant.first

@@ -1,5 +1,4 @@
 use Rattle.dw_normal.proofs.Words.{◌≡◌, SharesIn}
-use Rattle.dw_normal.specs.Inner.PlainFde.{FirstIs}
 use Rattle.dw_normal.specs.Inner.Writing.{StandsIn}
 use Rattle.dw_normal.proofs.Entries.{FdesPut}
 use Rattle.dw_normal.proofs.entry.write_all.Given as goal
@@ -9,6 +8,5 @@ invariant-fdes g l = record {
   fdes : FdesPut g.S.Sink.failures g.S.Sink.taken l.fn.table.target l.fn.table.bytes l.place l.written l.initial.sink l.sink;
   section : l.writing.begun.changes.section ≡ l.fn.table;
   shares : SharesIn l.fn.rows.entries l.writing.begun;
-  first : FirstIs l.fn.table.target l.fn.table.bytes l.writing.opened;
   stands : StandsIn l.fn.places.entries l.writing;
 }

@@ -3,7 +3,7 @@ use Rattle.dw_op.proofs.Marked.{FillSo}
 use Rattle.dw_op.proofs.marks.fill.Given as goal
 
 abbrev pub invariant-marks : goal.invariant-marks
-invariant-marks l = FillSo l.fn.window l.marks l.low l.count l.cursor
+invariant-marks l = FillSo l.measure l.fn.window l.marks l.low l.count l.cursor
 
 abbrev pub decreases-marks : goal.decreases-marks
 decreases-marks l = 192 - length l.marks

@@ -1,7 +1,9 @@
-use Rattle.dw_section.proofs.Words.{Some, ℕ, refl, subst, IsBehind}
+use Rattle.dw_section.proofs.Words.{refl, span_of, input_of, leaves_one}
 use Rattle.dw_section.proofs.program.go_behind.Goals as goal
 
-pub returns : goal.returns
-returns c = λ hs all runner.
-    let behind = c.in_ok-runner.ensures hs (c.initial_at.ensures.is c.args.target hs all) in
-    (refl, (subst (λ (n : ℕ). IsBehind c.args.target hs (Some n) c.in_ok-runner.field-0) c.initial_at.ensures.place behind, runner.1))
+pub returns-in-Ok : goal.returns-in-Ok
+returns-in-Ok c = λ hs all runner.
+    let cie = c.initial_at-cie.result.now in
+    let is = c.initial_at-cie.ensures.is c.args.target hs all in
+    let e = c.in-Ok.ensures.ok in
+    (refl, ((cie, c.initial_at-cie.ensures.place, is, leaves_one _ (input_of c.args.target (span_of cie.program)) _ _ _ _ c.are_bytes.ensures e.0.1 is.4, e.1, e.2), runner.1))

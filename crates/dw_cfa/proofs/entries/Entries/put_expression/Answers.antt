@@ -1,0 +1,19 @@
+use Rattle.dw_cfa.proofs.Words.{ℕ, ap, arith, length-set, set, ◌∙◌}
+use Rattle.dw_cfa.proofs.Slots.{expression_holds, expression_put, put_so}
+use Rattle.dw_cfa.proofs.entries.Entries.put_expression.Goals as goal
+
+pub returns-clause-ok : goal.returns-clause-ok
+returns-clause-ok c =
+    let e = c.args.self.now in
+    expression_put e c.requires.so c.args.register c.args.slot _ c.requires.near c.bit_of.result c.bit_of.ensures (ap (λ (n : ℕ). set e.slots n c.args.slot) c.from.ensures) c.args.rule c.set_in_tree.new.entries.entries
+    c.requires.kind c.in_ok-set_in_tree.ensures.ok
+
+pub returns-clause-so : goal.returns-clause-so
+returns-clause-so c =
+    let e = c.args.self.now in let so = c.requires.so in record {
+      used = expression_holds e so c.args.register c.args.slot _ c.requires.near c.bit_of.result c.bit_of.ensures (ap (λ (n : ℕ). set e.slots n c.args.slot) c.from.ensures) c.args.rule c.set_in_tree.new.entries.entries
+          c.requires.kind c.in_ok-set_in_tree.ensures.ok c.requires.specified;
+      slots = length-set e.slots c.from.result c.args.slot ∙ so.slots;
+      expressions = put_so c.args.register 0 c.args.rule e.expressions.entries c.set_in_tree.new.entries.entries c.in_ok-set_in_tree.ensures.ok so.expressions (omega arith);
+      far = so.far;
+    }

@@ -1,0 +1,460 @@
+//! The registers of a row with their rules (6.4.1).
+
+ghost use Rattle.std.specs.Prelude.{◌≡◌, ◌<◌, ℤ, [], None, IfOk, IfSome, OnOk, OnErr, MatchOption, IsTrue, ◌↔◌};
+ghost use Rattle.dw_cfa.specs.declared.rule.RegRule.TheVariants.{Offset, Unspecified};
+ghost use Rattle.dw_cfa.specs.declared.slot.Kind.TheVariants.{Expression};
+ghost use Rattle.dw_cfa.specs.Rows.{HasFar, rule_in, is_specified};
+ghost use Rattle.dw_cfa.specs.Inner.Rows.{put};
+ghost use Rattle.dw_cfa.specs.Inner.Agreement.{same_rule};
+ghost use Rattle.dw_cfa.specs.Inner.Entries.{entries_of, EntriesSo, IsSlotOf, slot_rule};
+ghost use Rattle.dw_cfa.specs.declared.rule.RegRule.{RegRule as TheRule};
+ghost use Rattle.dw_cfa.specs.Difference.{FirstDifference, place_behind};
+ghost use Rattle.dw_cfa.specs.Inner.Difference.{FirstBelow, SameUnset};
+
+use crate::behind::{place_behind, start_behind};
+use crate::near_slots::{NearRules, bit_of, is_in, next_in, same_slots};
+use crate::row::Specified;
+use crate::rule::RegRule;
+use crate::slot::{Kind, Slot, UNWRITTEN, offset_in, rule_of, slot_of};
+use crate::tree::{first_difference, rule_in_tree, set_in_tree, tree_of};
+use std::alloc::{AllocError, Global};
+use std::collections::BTreeMap;
+use std::ops::Bound;
+
+/// The registers below this have slots.
+pub(crate) const NEAR: u16 = 128;
+/// The registers that are not Unspecified, with their rules: those below 128 in slots under a mask, with the
+/// expressions of theirs in a tree, and all others in another tree.
+#[derive(Drop)]
+pub(crate) struct Entries<'a> {
+    pub(crate) slots: [Slot; 128],
+    pub(crate) used: u128,
+    pub(crate) expressions: BTreeMap<u16, RegRule<'a>>,
+    pub(crate) far: BTreeMap<u16, RegRule<'a>>,
+}
+
+impl<'a> Entries<'a> {
+    /// None.
+    #[inline(always)]
+    pub(crate) fn none(alloc: Global) -> Entries<'a>
+        ensures entries { entries_of result ≡ [] }
+        ensures so { EntriesSo result }
+    {
+        Entries {
+            slots: [UNWRITTEN; 128],
+            used: 0,
+            expressions: BTreeMap::new(alloc),
+            far: BTreeMap::new(alloc),
+        }
+    }
+
+    // The slot of a register that is specified.
+    #[inline(always)]
+    pub(crate) fn slot(&self, register: u16) -> Option<Slot>
+        requires so { EntriesSo self.now }
+        requires near { register < 128 }
+        ensures rule { MatchOption result (rule_in (entries_of self.now) register ≡ Unspecified) (λ slot. rule_in (entries_of self.now) register ≡ slot_rule slot (rule_in self.now.expressions.entries register)) }
+        ensures specified { IfSome result (λ slot. IsTrue (is_specified (rule_in (entries_of self.now) register))) }
+    {
+        if !is_in(self.used, register) {
+            return None;
+        }
+        Some(self.slots[usize::from(register)])
+    }
+
+    #[inline(always)]
+    #[tactic(auto, using(crate::proofs::Slots::behind_slots))]
+    pub(crate) fn rule(&self, register: u16) -> RegRule<'a>
+        requires { EntriesSo self.now }
+        ensures { result ≡ rule_in (entries_of self.now) register }
+    {
+        if register >= NEAR {
+            return rule_in_tree(&self.far, register);
+        }
+        match self.slot(register) {
+            Some(slot) => rule_of(slot, &self.expressions, register),
+            None => RegRule::Unspecified,
+        }
+    }
+
+    // The offset at which a register is saved. Read from its slot where it has one, since a rule is moved about.
+    #[inline(always)]
+    pub(crate) fn offset_of(&self, register: u16) -> Option<i64>
+        requires { EntriesSo self.now }
+        ensures { MatchOption result ((n : ℤ) → rule_in (entries_of self.now) register ≡ Offset n → ⊥) (λ n. rule_in (entries_of self.now) register ≡ Offset n) }
+    {
+        if register < NEAR {
+            if let Some(slot) = self.slot(register) {
+                let found = offset_in(slot);
+                if found.is_some() {
+                    return found;
+                }
+            }
+        }
+        match self.rule(register) {
+            RegRule::Offset(offset) => Some(offset),
+            _ => None,
+        }
+    }
+
+    // Whether others give a register that may have a slot the same rule.
+    #[inline(always)]
+    fn has_same_near(&self, others: &Entries<'_>, register: u16) -> bool
+        requires so { EntriesSo self.now }
+        requires others { EntriesSo others.now }
+        requires near { register < 128 }
+        ensures { IsTrue result ↔ (rule_in (entries_of self.now) register ≡ rule_in (entries_of others.now) register) }
+    {
+        match (self.slot(register), others.slot(register)) {
+            (Some(slot), Some(other)) => same_slots(
+                slot,
+                other,
+                &self.expressions,
+                &others.expressions,
+                register,
+            ),
+            (None, None) => true,
+            _ => false,
+        }
+    }
+
+    // Whether others give a register the same rule.
+    #[inline(always)]
+    pub(crate) fn has_same(&self, others: &Entries<'_>, register: u16) -> bool
+        requires so { EntriesSo self.now }
+        requires others { EntriesSo others.now }
+        ensures same { IsTrue result ↔ (rule_in (entries_of self.now) register ≡ rule_in (entries_of others.now) register) }
+        ensures test { result ≡ same_rule (rule_in (entries_of self.now) register) (rule_in (entries_of others.now) register) }
+    {
+        if register >= NEAR {
+            return self.rule(register).is_same(&others.rule(register));
+        }
+        self.has_same_near(others, register)
+    }
+
+    #[inline(always)]
+    pub(crate) fn all(&self) -> Specified<'_, 'a>
+        requires { EntriesSo self.now }
+        ensures { result ≡ entries_of self.now }
+    {
+        Specified {
+            at: 0,
+            slots: &self.slots,
+            used: self.used,
+            expressions: &self.expressions,
+            far: self.far.iter(),
+        }
+    }
+
+    // The same where every register has a slot.
+    #[inline(always)]
+    #[tactic(auto, using(crate::proofs::Slots::has_far))]
+    pub(crate) fn all_near(&self) -> Option<NearRules<'_, 'a>>
+        requires { EntriesSo self.now }
+        ensures near { IfSome result (λ near. near ≡ entries_of self.now) }
+        ensures none { result ≡ None → HasFar (entries_of self.now) }
+    {
+        if !self.far.is_empty() {
+            return None;
+        }
+        Some(NearRules {
+            at: 0,
+            slots: &self.slots,
+            used: self.used,
+            expressions: &self.expressions,
+        })
+    }
+
+    pub(crate) fn is_same(&self, others: &Entries<'_>) -> bool
+        requires before { EntriesSo self.now }
+        requires others { EntriesSo others.now }
+        ensures { IsTrue result ↔ (entries_of self.now ≡ entries_of others.now) }
+    {
+        self.next_difference(others, None).is_none()
+    }
+
+    // The first register from a place on that has a slot, is in a mask, and whose rule differs.
+    #[inline(always)]
+    #[tactic(auto, using(crate::proofs::Difference::up_to_next, crate::proofs::Difference::one_more))]
+    pub(crate) fn next_near_difference(
+        &self,
+        others: &Entries<'_>,
+        mask: u128,
+        from: u32,
+    ) -> Option<u16>
+        requires so { EntriesSo self.now }
+        requires others { EntriesSo others.now }
+        requires mask { SameUnset mask (entries_of self.now) (entries_of others.now) }
+        ensures { FirstBelow 128 from (entries_of self.now) (entries_of others.now) result }
+    {
+        let mut place = from;
+        'slots: while let Some(next) = next_in(mask, place) {
+            let register = next as u16;
+            if !self.has_same_near(others, register) {
+                return Some(register);
+            }
+            place = next + 1;
+        }
+        None
+    }
+
+    // The first register behind another one, or from the first one on, that has no slot and whose rule differs. Out
+    // of line: room for two walks is cleared at each call else.
+    #[inline(never)]
+    #[tactic(auto, using(crate::proofs::Difference::part_up, crate::proofs::Difference::first_from, crate::proofs::Difference::range_on))]
+    fn far_difference(&self, others: &Entries<'_>, behind: Option<u16>) -> Option<u16>
+        requires so { EntriesSo self.now }
+        requires others { EntriesSo others.now }
+        ensures { FirstDifference (place_behind behind) self.now.far.entries others.now.far.entries result }
+    {
+        let start = start_behind(behind);
+        first_difference(
+            self.far.range((start, Bound::Unbounded)),
+            others.far.range((start, Bound::Unbounded)),
+        )
+    }
+
+    // The same, where mostly none is without a slot.
+    #[tactic(auto, using(crate::proofs::Difference::part_up, crate::proofs::Difference::first_from, crate::proofs::Difference::range_on))]
+    fn next_far_difference(&self, others: &Entries<'_>, behind: Option<u16>) -> Option<u16>
+        requires so { EntriesSo self.now }
+        requires others { EntriesSo others.now }
+        ensures { FirstDifference (place_behind behind) self.now.far.entries others.now.far.entries result }
+    {
+        if self.far.is_empty() && others.far.is_empty() {
+            return None;
+        }
+        self.far_difference(others, behind)
+    }
+
+    // The first register behind another one, or from the first one on, whose rule differs.
+    #[tactic(auto, using(crate::proofs::Difference::first_of_all, crate::proofs::Difference::unused))]
+    pub(crate) fn next_difference(&self, others: &Entries<'_>, behind: Option<u16>) -> Option<u16>
+        requires so { EntriesSo self.now }
+        requires others { EntriesSo others.now }
+        ensures { FirstDifference (place_behind behind) (entries_of self.now) (entries_of others.now) result }
+    {
+        let mask = self.used | others.used;
+        if let Some(register) = self.next_near_difference(others, mask, place_behind(behind)) {
+            return Some(register);
+        }
+        self.next_far_difference(others, behind)
+    }
+
+    #[tactic(auto, using(crate::proofs::Lent::RowLists::lower))]
+    pub(crate) fn copied(&self, alloc: Global) -> Result<Entries<'a>, AllocError>
+        requires { EntriesSo self.now }
+        ensures { IfOk result (λ copy. (entries_of copy ≡ entries_of self.now) × EntriesSo copy) }
+    {
+        if self.is_narrow() {
+            return Ok(Entries {
+                slots: self.slots,
+                used: self.used,
+                expressions: BTreeMap::new(alloc),
+                far: BTreeMap::new(alloc),
+            });
+        }
+        let expressions = tree_of(&self.expressions, alloc)?;
+        let far = tree_of(&self.far, alloc)?;
+        Ok(Entries {
+            slots: self.slots,
+            used: self.used,
+            expressions,
+            far,
+        })
+    }
+
+    // Whether both trees are empty.
+    fn is_narrow(&self) -> bool
+        ensures { IsTrue result → (self.now.expressions.entries ≡ []) × (self.now.far.entries ≡ []) }
+    {
+        self.expressions.is_empty() && self.far.is_empty()
+    }
+
+    // Empties both trees.
+    #[inline(never)]
+    fn clear_trees(&mut self)
+        ensures expressions { self.new.expressions.entries ≡ [] }
+        ensures far { self.new.far.entries ≡ [] }
+        ensures near { (self.new.slots ≡ self.old.slots) × (self.new.used ≡ self.old.used) }
+    {
+        self.expressions.clear();
+        self.far.clear();
+    }
+
+    // Takes all registers out.
+    #[inline(always)]
+    #[tactic(auto, using(crate::proofs::Slots::none_listed, crate::proofs::Slots::none_hold))]
+    pub(crate) fn clear(&mut self)
+        requires { EntriesSo self.old }
+        ensures entries { entries_of self.new ≡ [] }
+        ensures so { EntriesSo self.new }
+        ensures used { self.new.used ≡ 0 }
+        ensures far { self.new.far.entries ≡ [] }
+    {
+        self.used = 0;
+        if self.is_narrow() {
+            return;
+        }
+        self.clear_trees();
+    }
+
+    // Gives a register that has a slot a rule that is no expression.
+    #[inline(always)]
+    fn put_plain(&mut self, register: u16, slot: Slot)
+        requires so { EntriesSo self.old }
+        requires near { register < 128 }
+        requires kind { slot.kind ≡ Expression → ⊥ }
+        ensures entries { (rule : TheRule) → IsSlotOf rule slot → entries_of self.new ≡ put register rule (entries_of self.old) }
+        ensures so { EntriesSo self.new }
+    {
+        self.slots[usize::from(register)] = slot;
+        self.used |= bit_of(register);
+    }
+
+    // Gives a register that has a slot a rule with an expression.
+    #[inline(never)]
+    fn put_expression(
+        &mut self,
+        register: u16,
+        slot: Slot,
+        rule: RegRule<'a>,
+    ) -> Result<(), AllocError>
+        requires so { EntriesSo self.old }
+        requires near { register < 128 }
+        requires kind { slot.kind ≡ Expression }
+        requires specified { IsTrue (is_specified rule) }
+        ensures ok { OnOk result (entries_of self.new ≡ put register rule.entry (entries_of self.old)) }
+        ensures so { EntriesSo self.new }
+        ensures err { OnErr result (entries_of self.new ≡ entries_of self.old) }
+    {
+        set_in_tree(&mut self.expressions, register, rule)?;
+        self.slots[usize::from(register)] = slot;
+        self.used |= bit_of(register);
+        Ok(())
+    }
+
+    // Gives a register that may have a slot a rule.
+    #[inline(always)]
+    fn set_near(&mut self, register: u16, rule: RegRule<'a>) -> Result<(), AllocError>
+        requires so { EntriesSo self.old }
+        requires near { register < 128 }
+        ensures ok { OnOk result (entries_of self.new ≡ put register rule.entry (entries_of self.old)) }
+        ensures so { EntriesSo self.new }
+        ensures err { OnErr result (entries_of self.new ≡ entries_of self.old) }
+    {
+        let Some(slot) = slot_of(&rule) else {
+            self.drop_near(register);
+            return Ok(());
+        };
+        if let Kind::Expression = slot.kind {
+            return self.put_expression(register, slot, rule);
+        }
+        self.put_plain(register, slot);
+        Ok(())
+    }
+
+    // Gives a register that may have a slot the rule that others give it.
+    #[inline(always)]
+    pub(crate) fn copy_near(
+        &mut self,
+        others: &Entries<'a>,
+        register: u16,
+    ) -> Result<(), AllocError>
+        requires so { EntriesSo self.old }
+        requires others { EntriesSo others.now }
+        requires near { register < 128 }
+        ensures ok { OnOk result (entries_of self.new ≡ put register (rule_in (entries_of others.now) register) (entries_of self.old)) }
+        ensures so { EntriesSo self.new }
+    {
+        let Some(slot) = others.slot(register) else {
+            self.drop_near(register);
+            return Ok(());
+        };
+        if let Kind::Expression = slot.kind {
+            return self.set_near(register, others.rule(register));
+        }
+        self.put_plain(register, slot);
+        Ok(())
+    }
+
+    // Takes all registers out but those from 128 on that others have.
+    #[inline(always)]
+    #[tactic(auto, using(crate::proofs::Lent::RowLists::lower))]
+    fn begin_copy(&mut self, others: &Entries<'a>, alloc: Global) -> Result<(), AllocError>
+        requires so { EntriesSo self.old }
+        requires others { EntriesSo others.now }
+        ensures near { self.new.used ≡ 0 }
+        ensures far { OnOk result (self.new.far.entries ≡ others.now.far.entries) }
+        ensures so { EntriesSo self.new }
+    {
+        self.clear();
+        if others.far.is_empty() {
+            return Ok(());
+        }
+        self.far = tree_of(&others.far, alloc)?;
+        Ok(())
+    }
+
+    // Gives the registers that may have slots the rules that others give them, where none has one yet.
+    #[inline(always)]
+    #[tactic(auto, using(crate::proofs::Copied::next_copied, crate::proofs::Copied::all_copied, crate::proofs::Copied::none_copied))]
+    fn copy_slots(&mut self, others: &Entries<'a>) -> Result<(), AllocError>
+        requires so { EntriesSo self.old }
+        requires others { EntriesSo others.now }
+        requires near { self.old.used ≡ 0 }
+        requires far { self.old.far.entries ≡ others.now.far.entries }
+        ensures ok { OnOk result (entries_of self.new ≡ entries_of others.now) }
+        ensures so { EntriesSo self.new }
+    {
+        let mut place = 0;
+        'slots: while let Some(register) = next_in(others.used, place) {
+            self.copy_near(others, register as u16)?;
+            place = register + 1;
+        }
+        Ok(())
+    }
+
+    // Makes them a copy of others.
+    #[inline(always)]
+    pub(crate) fn become_copy(
+        &mut self,
+        others: &Entries<'a>,
+        alloc: Global,
+    ) -> Result<(), AllocError>
+        requires before { EntriesSo self.old }
+        requires others { EntriesSo others.now }
+        ensures ok { OnOk result (entries_of self.new ≡ entries_of others.now) }
+        ensures so { EntriesSo self.new }
+    {
+        self.begin_copy(others, alloc)?;
+        self.copy_slots(others)
+    }
+
+    // Gives a register a rule.
+    #[inline(always)]
+    #[tactic(auto, using(crate::proofs::Slots::far_set, crate::proofs::Slots::put_so, crate::proofs::Lent::RowLists::lower))]
+    pub(crate) fn set(&mut self, register: u16, rule: RegRule<'a>) -> Result<(), AllocError>
+        requires { EntriesSo self.old }
+        ensures ok { OnOk result (entries_of self.new ≡ put register rule.entry (entries_of self.old)) }
+        ensures so { EntriesSo self.new }
+        ensures err { OnErr result (entries_of self.new ≡ entries_of self.old) }
+    {
+        if register < NEAR {
+            return self.set_near(register, rule);
+        }
+        set_in_tree(&mut self.far, register, rule)?;
+        Ok(())
+    }
+
+    // Takes a register out that may have a slot.
+    #[inline(always)]
+    pub(crate) fn drop_near(&mut self, register: u16)
+        requires so { EntriesSo self.old }
+        requires near { register < 128 }
+        ensures entries { entries_of self.new ≡ put register Unspecified (entries_of self.old) }
+        ensures so { EntriesSo self.new }
+    {
+        self.used &= !bit_of(register);
+    }
+}
