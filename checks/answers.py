@@ -207,7 +207,7 @@ def address_lines(section):
 def program_lines(call, fde, size, order):
     if call == "run":
         return [line for at, row in rows_of(fde) for line in row_lines(at, row, size, order)]
-    if call in ("initial_row", "copied"):
+    if call in ("become_initial", "copied"):
         return row_lines(0, Machine(fde.cie).row(), size, order)
     if call == "lacks_rule":
         return ["false", "false"]
@@ -259,7 +259,7 @@ NORMAL_ANSWERS = {
 
 # ---- of REQUESTS, over worked data
 
-PROGRAM_CALLS = ["run", "row_steps", "initial_row", "copied", "row_walk", "lacks_rule"]
+PROGRAM_CALLS = ["run", "row_steps", "become_initial", "copied", "row_walk", "lacks_rule"]
 EXPRESSION_CALLS = ["decode", "encode", "ops", "put_least"]
 CIE_PROGRAMS = ["0c07089001", "0c070880018101820183018401850186018701880189018a019001"]
 FDE_PROGRAM = "4180018101820183018401850186018701880189018a01440a0703420b43"

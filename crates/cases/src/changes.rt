@@ -69,25 +69,13 @@ pub fn narrowed(alloc: Global, changes: &mut Changes<'_>) -> Result<String, Fail
     row_text(alloc, &row)
 }
 
-// The changes of all FDEs, and the same in one room.
-fn put_changes<'a>(
-    alloc: Global,
-    text: &mut String,
-    table: &Table<'a>,
-    room: &mut Changes<'a>,
-) -> Result<(), Fail> {
-    for place in 0..table.fde_count() {
-        let fde = FdeRef { place };
-        table.go_to(room, fde);
-        text.push_str(&fde_text(alloc, table.changes(fde), room)?)?;
-    }
-    Ok(())
-}
-
 /// The changes of all FDEs.
 pub fn changes_text(alloc: Global, table: &Table<'_>) -> Result<String, Fail> {
     let mut text = String::new(alloc);
-    put_changes(alloc, &mut text, table, &mut table.no_changes())?;
+    for place in 0..table.fde_count() {
+        let fde = FdeRef { place };
+        text.push_str(&fde_text(alloc, table.changes(fde), &mut table.changes(fde))?)?;
+    }
     Ok(text)
 }
 
@@ -108,11 +96,7 @@ fn opening_text<'a>(
     table.go_on(changes, fde);
     let first = next_given(alloc, changes)?;
     let opening = table.opening(fde);
-    Ok(format!(in alloc;
-        "{first} {} behind {}",
-        opening.program.len(),
-        opening.initial
-    )?)
+    Ok(format!(in alloc; "{first} {} behind {}", opening.own, opening.initial)?)
 }
 
 fn agree<'a>(

@@ -4,13 +4,15 @@ use crate::lines::compare;
 use crate::programs::{CIE, Pair, pair_of, program};
 use crate::targets::{LITTLE, PLAIN};
 use crate::texts::located_text;
-use dw_cfa::{Row, initial_row, run};
+use dw_cfa::{Row, run};
 use std::alloc::Global;
 use std::test::Fail;
 
 /// The row that a CIE's program leaves.
 pub fn row_of(alloc: Global, cie: &[u8]) -> Result<Row<'_>, Fail> {
-    Ok(initial_row(alloc, program(cie, 0xf)?, PLAIN, LITTLE)?)
+    let mut row = Row::blank(alloc);
+    row.become_initial(program(cie, 0xf)?, PLAIN, LITTLE)?;
+    Ok(row)
 }
 
 // Whether a copy of a row is that row.

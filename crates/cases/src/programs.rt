@@ -407,7 +407,9 @@ const LACKS: [(&[u8], Option<bool>); 8] = [
 
 // The machine of a CIE's program.
 fn machine_of(alloc: Global, cie: &[u8]) -> Result<CieMachine<'_>, Fail> {
-    Ok(CieMachine::new(alloc, program(cie, 0xf)?, PLAIN, LITTLE)?)
+    let mut machine = CieMachine::new(alloc, LITTLE);
+    machine.go_to(program(cie, 0xf)?, PLAIN, LITTLE)?;
+    Ok(machine)
 }
 
 fn lacks_rule<'a>(machine: &mut CieMachine<'a>, fde: &'a [u8]) -> Result<Option<bool>, Fail> {

@@ -3,6 +3,7 @@ use Rattle.dw_cfa.proofs.Words.{◌≡◌, ◌⊎◌, ℕ, suc, ◌<◌, ◌||�
 use Rattle.dw_cfa.proofs.Words.{CfaRule, RegRule, Rules, Unset, Unspecified, AreSpecified, rule, rule_in, with_cfa, with_rule, InCommon, IsAgreed, is_agreed, same_rule, rule_tells, left, LeavesAmong, LeavesAt}
 use Rattle.dw_cfa.proofs.Words.{IsAdded, Marks, MarksSo, Registers, AgreesBeside, has, in_mask, in_tree, marked}
 use Rattle.std.proofs.lemmas.Nat.Bits.{bit_at-lt}
+use Rattle.std.proofs.lemmas.Result.{on_err_weaker, on_ok_weaker}
 use Rattle.dw_cfa.proofs.Lent.RowLists.{Entry, lower, unlisted}
 use Rattle.dw_cfa.proofs.Lent.Equal.{common_rule, test_of}
 use Rattle.dw_cfa.proofs.Lent.Narrowed.{leaves_none, none_left}
@@ -19,6 +20,11 @@ tree_next all xs rest q x was old new e up added h r =
     let here = subst (AreSpecified 128) e up in let given = here.1 in
     grind (arith, nat_tests, ap (λ (l : List Entry). rule_in l r) e, added r, h r, given)
 
+-- what is in is one of them, or was in
+pub none_else : (all rest : List Entry) (was old new : Registers) → new ≡ old → ((r : ℕ) → (in_tree rest r || has old r) ≡ (in_tree all r || has was r))
+    → (r : ℕ) → has new r ≡ true → (in_tree all r || has was r) ≡ true
+none_else all rest was old new same h r is = let still = subst (λ (s : Registers). has s r ≡ true) same is in grind (arith, nat_tests, h r, still)
+
 -- and none that was in is out
 pub more_added : (q : ℕ) (was old new : Registers) → IsAdded q old new → ((r : ℕ) → has was r ≡ true → has old r ≡ true) → (r : ℕ) → has was r ≡ true → has new r ≡ true
 more_added q was old new added h r is = let before = h r is in grind (arith, nat_tests, added r, before)
@@ -31,13 +37,20 @@ all_stay (Err x) m n old new one is = λ r before.
     let was = subst (λ (x : Registers). has x r ≡ true) (sym one) before in
     is r (grind (arith, nat_tests, was, bit_at_or m.near n.near r, bit_at-lt m.near r, bit_at-lt n.near r))
 
--- all of a mask and of a tree
-pub all_added : {X E : Type 0} (result : Result X E) (m n : Marks) (old other new : Registers) → marked m ≡ old → marked n ≡ other → MarksSo n
-    → OnOk result ((r : ℕ) → has new r ≡ (in_tree n.far.entries r || has (record { near = bit_or m.near n.near; far = m.far.entries }) r)) → OnOk result ((r : ℕ) → has new r ≡ (has other r || has old r))
-all_added (Ok x) m n old other new one two up is = λ r.
-    let low = λ (lt : r < 128). unlisted r 128 n.far.entries up lt in
-    rw (sym one, sym two) (grind (arith, nat_tests, is r, low, bit_at_or m.near n.near r, bit_at-lt m.near r, bit_at-lt n.near r))
-all_added (Err x) m n old other new one two up is = tt
+module _ {X E : Type 0} (result : Result X E) (m n : Marks) (old other new : Registers) (one : marked m ≡ old) (two : marked n ≡ other) (so : MarksSo n) where
+  both_in : (r : ℕ) → (in_tree n.far.entries r || has (record { near = bit_or m.near n.near; far = m.far.entries }) r) ≡ (has other r || has old r)
+  both_in r =
+      let low = λ (lt : r < 128). unlisted r 128 n.far.entries so lt in
+      rw (← one, ← two) (grind (arith, nat_tests, low, bit_at_or m.near n.near r, bit_at-lt m.near r, bit_at-lt n.near r))
+
+  -- all of a mask and of a tree
+  pub all_added : OnOk result ((r : ℕ) → has new r ≡ (in_tree n.far.entries r || has (record { near = bit_or m.near n.near; far = m.far.entries }) r)) → OnOk result ((r : ℕ) → has new r ≡ (has other r || has old r))
+  all_added = on_ok_weaker result (λ is r. is r ∙ both_in r)
+
+  -- and no others
+  pub no_others : OnErr result ((r : ℕ) → has new r ≡ true → (in_tree n.far.entries r || has (record { near = bit_or m.near n.near; far = m.far.entries }) r) ≡ true)
+      → OnErr result ((r : ℕ) → has new r ≡ true → (has other r || has old r) ≡ true)
+  no_others = on_err_weaker result (λ is r now. sym (both_in r) ∙ is r now)
 
 -- ---- registers that are dropped where another row gives them another rule
 

@@ -1,6 +1,6 @@
 -- One instruction of a program, in the rows still to come.
 use Rattle.dw_cfa.proofs.Words.{◌≡◌, ℕ, ◌<◌, List, [], length, Option, None, Some, Result, Ok, Err, IsOk, false, refl, sym, ap, ◌∙◌, subst, IsTrue, AreBytes, Code, Factors, Input, Instr, Machine, Outcome, Read, Refusal, RegRule, Rules, State}
-use Rattle.dw_cfa.proofs.Words.{address_limit, SetLoc, Advance, moves_location, instr_at, blank, begun_rows, begun_stop, written, after, cie_fault, fde_fault, Held, BeganWith, state_of, IsAfter, placed, cie_run, initial_row, on_initial}
+use Rattle.dw_cfa.proofs.Words.{address_limit, SetLoc, Advance, moves_location, instr_at, blank, written, after, cie_fault, fde_fault, BeganWith, IsLed, state_of, IsAfter, placed, cie_run, initial_row, on_initial}
 use Rattle.dw_cfa.proofs.Words.{here, row_if, fault_or, fde_rows, fde_stop, rows_left, rows_behind, run_rows, run_stop, stop_left, stop_or, RunsSo, RanTo, WroteTo, fails, finished, row_then}
 use Rattle.dw_cfa.specs.Inner.Machine.{program_fault}
 use Rattle.dw_cfa.proofs.Lent.RowsAt.{stays}
@@ -74,10 +74,13 @@ module _ (f : Factors) (i : Input) (row : Rules) (x : Instr × Input) (h : AreBy
 
 -- ---- a CIE's program, and then an FDE's
 
-pub begun_is_run : (f : Factors) (cie fde cie' fde' : Input) (m : Machine) (begin : ℕ) → cie ≡ cie' → fde ≡ fde' → m.states.row ≡ blank → m.location ≡ begin
-    → m.limit ≡ address_limit fde'.target.size → (begun_rows f cie fde m ≡ run_rows f cie' fde' begin) × (begun_stop f cie fde m ≡ run_stop f cie' fde' begin)
-unfolding begun_rows run_rows begun_stop run_stop
-begun_is_run f cie fde cie' fde' m begin a b i l n = (rw (a, b, i, l, n) refl, rw (a, b, i, l, n) refl)
+pub run_stuck : (f : Factors) (cie fde : Input) (begin : ℕ) (r : Refusal) → initial_row (placed f cie) blank ≡ Err r → (run_rows f cie fde begin ≡ fails r) × (run_stop f cie fde begin ≡ begin)
+unfolding run_rows run_stop
+run_stuck f cie fde begin r is = (rw is refl, rw is refl)
+
+pub run_ran : (f : Factors) (cie fde : Input) (old m : Machine) → RunsSo old fde → IsLed f cie old m → (rows_left f fde m ≡ run_rows f cie fde old.location) × (stop_left f fde m ≡ run_stop f cie fde old.location)
+unfolding run_rows rows_left run_stop stop_left
+run_ran f cie fde old m so led = (rw (led.initial, led.row, led.none, led.location, led.limit ∙ so.limit) refl, rw (led.initial, led.row, led.none, led.location, led.limit ∙ so.limit) refl)
 
 -- what is run to the end is read
 read_unless : (f : Factors) (i : Input) → ((r : Refusal) → instr_at f i ≡ Err r → ⊥) → IsOk (instr_at f i)
@@ -97,16 +100,6 @@ initial_read f i row some ok = read_unless f i (λ r e. let no = subst (λ (x : 
 pub initial_left : (r : Result Rules Refusal) (go : Rules → Outcome) → (on_initial r go).fault ≡ None → IsOk r
 initial_left (Ok row) go none = refl
 initial_left (Err r) go none = absurd cc
-
-pub begun_stuck : (f : Factors) (cie fde : Input) (m : Machine) (r : Refusal) → initial_row (placed f cie) m.states.row ≡ Err r → (begun_rows f cie fde m ≡ fails r) × (begun_stop f cie fde m ≡ m.location)
-unfolding begun_rows begun_stop
-begun_stuck f cie fde m r is = (rw is refl, rw is refl)
-
-pub begun_ran : (f : Factors) (cie fde : Input) (m : Machine) (initial : Rules) (states : Held) → initial_row (placed f cie) m.states.row ≡ Ok states.row → initial ≡ states.row → states.stack ≡ []
-    → (rows_left f fde (record { initial = initial; states = states; location = m.location; limit = m.limit }) ≡ begun_rows f cie fde m)
-    × (stop_left f fde (record { initial = initial; states = states; location = m.location; limit = m.limit }) ≡ begun_stop f cie fde m)
-unfolding begun_rows rows_left begun_stop stop_left
-begun_ran f cie fde m initial states is same none = (rw (is, same, none) refl, rw (is, same, none) refl)
 
 pub started : (f : Factors) (fde fde' : Input) (m : Machine) (initial : Rules) (begin : ℕ) → fde ≡ fde' → m.initial ≡ initial → m.states.row ≡ initial → m.states.stack ≡ [] → m.location ≡ begin
     → m.limit ≡ address_limit fde'.target.size → rows_left f fde m ≡ rows_behind f initial fde' begin

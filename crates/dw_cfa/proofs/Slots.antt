@@ -184,11 +184,6 @@ plain_given : (k : Kind) (r : ℕ) (n : ℤ) (block : RegRule) → (k ≡ kinds.
 plain_given kinds.Expression r n block not = absurd (not refl)
 plain_given k r n block not = refl
 
--- a slot is the slot of the rule that it holds
-own_rule : (k : Kind) (r : ℕ) (n : ℤ) (block : RegRule) → HoldsRule k r n (kind_rule k r n block)
-own_rule kinds.Expression r n block = tt
-own_rule k r n block = λ other. refl
-
 module _ (e : Entries) (so : EntriesSo e) (r : ℕ) (s : Slot) (new : List Slot) (lt : r < 128) (b : ℕ) (bit : b ≡ 1 * 2 ^ r % 2 ^ 128) (stored : new ≡ set e.slots r s) where
   room : r < length e.slots
   room = omega (arith, lt, so.slots)

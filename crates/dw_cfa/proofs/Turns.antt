@@ -1,11 +1,11 @@
 -- One turn of the loop, in the rows still to come.
-use Rattle.dw_cfa.proofs.Words.{◌≡◌, ℕ, ◌<◌, Bool, true, false, length, None, Ok, Err, refl, sym, ap, ◌∙◌, subst, AreBytes, End, Factors, Input, Instr, Machine, Read, Refusal, Rules, SetLoc, Advance, Restore, RememberState, RestoreState}
+use Rattle.dw_cfa.proofs.Words.{◌≡◌, ℕ, ◌<◌, ◌^◌, Bool, true, false, length, None, Ok, Err, refl, sym, ap, ◌∙◌, subst, AreBytes, End, Factors, Input, Instr, Machine, Read, Refusal, Rules, SetLoc, Advance, Restore, RememberState, RestoreState}
 use Rattle.dw_num.specs.declared.target.Size.{Size}
 use Rattle.dw_num.specs.declared.target.Size.TheVariants.{Four, Eight}
 use Rattle.dw_cfa.proofs.Words.{◌≤◌, arith, address_limit, moves_location, instr_at, fails, RunsSo, RanTo, WroteTo, IsAfter, State, after, written, cie_fault, state_of}
 use Rattle.dw_cfa.specs.declared.machine.End.TheVariants as ends
 use Rattle.dw_cfa.specs.Inner.Machine.{program_fault}
-use Rattle.dw_cfa.specs.Inner.Turns.{Does, RunsCie, Stays, Taken, Turned, Entered}
+use Rattle.dw_cfa.specs.Inner.Turns.{Did, Does, Entered, Stays, Taken, Turned, cie_machine}
 use Rattle.dw_cfa.proofs.RunSteps.{fde_is, rows_stuck, rows_fault, rows_ran, initial_stuck, initial_fault, initial_wrote}
 
 abbrev Takes : Type 0 → Type 1
@@ -38,9 +38,9 @@ module _ {K : Type 0} (machine : K → Machine) (takes : Takes K) (does : Does f
 
 -- ---- a CIE's program
 
-pub in_limit : (s : Size) (m : Machine) → RunsCie m → address_limit s ≤ m.limit
-in_limit Four m so = omega (arith, so.1)
-in_limit Eight m so = omega (arith, so.1)
+pub in_limit : (s : Size) → address_limit s ≤ 2 ^ 64
+in_limit Four = omega arith
+in_limit Eight = omega arith
 
 cie_is : (limit : ℕ) (i : Instr) (s : State) → program_fault true limit i s ≡ cie_fault i s.row
 cie_is limit (SetLoc a) s = refl
@@ -55,27 +55,25 @@ only_row limit initial RememberState s none = absurd cc
 only_row limit initial RestoreState s none = absurd cc
 only_row limit initial i s none = refl
 
-module _ (f : Factors) (i : Input) (m : Machine) (so : RunsCie m) (h : AreBytes i.bytes) (some : 0 < length i.bytes) where
-  wrote_on : (x : Instr × Input) → instr_at f i ≡ Ok x → (fault : Refusal) (j : Input) → x.1 ≡ j → (m' : Machine) → IsAfter true m x.0 m' → Entered f i m ends.On fault j m'
-  wrote_on x e fault j at m' behind =
+abbrev DoesCie : Takes Rules
+DoesCie row x at end fault row' = Did true x at (cie_machine row) end fault (cie_machine row')
+
+module _ (f : Factors) (i : Input) (row : Rules) (h : AreBytes i.bytes) (some : 0 < length i.bytes) where
+  wrote_on : (x : Instr × Input) → instr_at f i ≡ Ok x → (j : Input) → x.1 ≡ j → (row' : Rules) → IsAfter true (cie_machine row) x.0 (cie_machine row') → WroteTo f i row j row'
+  wrote_on x e j at row' behind =
+      let m = cie_machine row in
+      let none = sym (cie_is m.limit x.0 (state_of m)) ∙ behind.allowed in
       let same = behind.state ∙ only_row m.limit m.initial x.0 (state_of m) behind.allowed in
-      let none = sym (cie_is m.limit x.0 (state_of m)) ∙ behind.allowed in (
-        subst (λ (k : Input). WroteTo f i m.states.row k m'.states.row) at (initial_wrote f i m.states.row x h some e m'.states.row none (ap (λ (t : State). t.row) same)),
-        (behind.within, rw behind.limit so.1),
-        ap (λ (t : State). t.stack) same,
-        behind.first,
-      )
+      subst (λ (k : Input). WroteTo f i row k row') at (initial_wrote f i row x h some e row' none (ap (λ (t : State). t.row) same))
 
-module _ {K : Type 0} (machine : K → Machine) (takes : Takes K) (does : Does true machine takes) (f : Factors) (i : Input) (k : K) (so : RunsCie (machine k)) (h : AreBytes i.bytes) (some : 0 < length i.bytes) where
-  by_written : (r : Read Instr) → instr_at f i ≡ r → (end : End) (fault : Refusal) (j : Input) (k' : K) → Taken takes r i.at k end fault j k' → Entered f i (machine k) end fault j (machine k')
-  by_written r e ends.OutOfMemory fault j k' did = tt
-  by_written (Ok x) e ends.Refused fault j k' did =
-      let ran = (does k x.0 i.at ends.Refused fault k' did.1).0 in
-      initial_fault f i (machine k).states.row x h some e fault.code (sym (cie_is (machine k).limit x.0 (state_of (machine k))) ∙ ran.1) ∙ ap (λ (n : ℕ). Err (record { code = fault.code; at = n })) (sym ran.0)
-  by_written (Ok x) e ends.On fault j k' did = wrote_on f i (machine k) so h some x e fault j did.0 (machine k') (does k x.0 i.at ends.On fault k' did.1).0.1
-  by_written (Ok x) e ends.Moved fault j k' did = wrote_on f i (machine k) so h some x e fault j did.0 (machine k') (does k x.0 i.at ends.Moved fault k' did.1).0.1
-  by_written (Err r) e ends.Refused fault j k' did = initial_stuck f i (machine k).states.row r some e ∙ ap Err did.0
-  by_written (Err r) e end fault j k' did = absurd did
+  by_written : (r : Read Instr) → instr_at f i ≡ r → (end : End) (fault : Refusal) (j : Input) (row' : Rules) → Taken DoesCie r i.at row end fault j row' → Entered f i row end fault j row'
+  by_written r e ends.OutOfMemory fault j row' did = tt
+  by_written (Ok x) e ends.Refused fault j row' did =
+      initial_fault f i row x h some e fault.code (sym (cie_is (cie_machine row).limit x.0 (state_of (cie_machine row))) ∙ did.1.0.1) ∙ ap (λ (n : ℕ). Err (record { code = fault.code; at = n })) (sym did.1.0.0)
+  by_written (Ok x) e ends.On fault j row' did = wrote_on x e j did.0 row' did.1.0.1
+  by_written (Ok x) e ends.Moved fault j row' did = wrote_on x e j did.0 row' did.1.0.1
+  by_written (Err r) e ends.Refused fault j row' did = initial_stuck f i row r some e ∙ ap Err did.0
+  by_written (Err r) e end fault j row' did = absurd did
 
-  pub entered : (end : End) (fault : Refusal) (j : Input) (k' : K) → Taken takes (instr_at f i) i.at k end fault j k' → Entered f i (machine k) end fault j (machine k')
+  pub entered : (end : End) (fault : Refusal) (j : Input) (row' : Rules) → Taken DoesCie (instr_at f i) i.at row end fault j row' → Entered f i row end fault j row'
   entered = by_written (instr_at f i) refl

@@ -8,13 +8,9 @@ use Rattle.dw_cfa.proofs.Lent.FaultLaws.{initial_leaves}
 use Rattle.dw_cfa.proofs.Lent.Given.{leaves_to, to_leaves}
 use Rattle.dw_cfa.proofs.Lent.RunLaws.{left_from, next_from, run_from}
 use Rattle.dw_cfa.proofs.Lent.RowsAt.{RowsFrom}
-use Rattle.dw_cfa.proofs.RunSteps.{initial_left}
+use Rattle.dw_cfa.proofs.RunSteps.{initial_left, run_ran}
 
 -- ---- the CIE's half
-
-pub initial_is : (f : Factors) (i i' : Input) (row left initial : Rules) → i ≡ i' → row ≡ blank → initial ≡ left → initial_row (placed f i) row ≡ Ok left → initial_row (placed f i') blank ≡ Ok initial
-initial_is f i i' row left initial same none copy is =
-    subst (λ (r : Rules). initial_row (placed f i') blank ≡ Ok r) (sym copy) (subst (λ (r : Rules). initial_row (placed f i') r ≡ Ok left) none (subst (λ (j : Input). initial_row (placed f j) row ≡ Ok left) same is))
 
 -- of equal programs at other places the row is the same
 pub initial_elsewhere : (f : Factors) (i j : Input) (row : Rules) → AreBytes i.bytes → i.bytes ≡ j.bytes → i.target ≡ j.target → initial_row (placed f i) blank ≡ Ok row → initial_row (placed f j) blank ≡ Ok row
@@ -31,8 +27,7 @@ led_initial l fde begin none = initial_left (initial_row (placed l.factors (prog
 -- ---- the FDE's half
 
 pub led_ran : (l : Leading) (fde : Input) (old m : Machine) → RunsSo old fde → Readied l old m → rows_left l.factors fde m ≡ led_rows l fde old.location
-unfolding rows_left run_rows
-led_ran l fde old m so r = rw (r.initial, r.row, r.none, r.location, r.limit ∙ so.limit) refl
+led_ran l fde old m so r = (run_ran l.factors (program_input l.program l.target) fde old m so r).0
 
 -- ---- where the next row starts
 

@@ -10,25 +10,27 @@ pub use Rattle.dw_cfa.specs.Inner.Agreement.{agreed, is_agreed, same_cfa, same_r
 pub use Rattle.dw_cfa.specs.Inner.Coverage.{is_unset, lacks_from, leaves_one}
 pub use Rattle.dw_cfa.specs.Inner.Difference.{SameUnset, start_behind}
 unfoldable pub use Rattle.dw_cfa.specs.Inner.Entries.{listed_from}
-pub use Rattle.dw_cfa.specs.Inner.Entries.{EntriesSo, FirstBit, FirstIn, Holds, HoldsRule, IsSlotOf, LeavesAmong, LeavesAt, LeavesBelow, entries_of, kind_rule, left, listed_near, near_rule, no_slot, rule_if, slot_rule}
+pub use Rattle.dw_cfa.specs.Inner.Entries.{EntriesSo, FirstBit, FirstIn, Holds, HoldsRule, IsSlotOf, LeavesAmong, LeavesAt, LeavesBelow, entries_of, kind_rule, left, SameSlots, listed_near, near_rule, no_slot, rule_if, slot_rule}
 pub use Rattle.dw_cfa.specs.Inner.Exact.{BehindGives, BehindRefused, GivesRows, InitialLeaves, InitialRefused, LeavesInitial}
 unfoldable pub use Rattle.dw_cfa.specs.Inner.FrontInstr.{block_at, expression_in, instr_at}
 pub use Rattle.dw_cfa.specs.Inner.FrontInstr.{after_code, after_length, block_in, expression_of, form_at, judged, known_at, leaving, operand_at, then_operand, with_instr}
 pub use Rattle.dw_cfa.specs.Inner.Machine.{State, after, begun, changed, cie_fault, empty_fault, fde_fault, half_fault, moved, popped, written}
-pub use Rattle.dw_cfa.specs.Inner.Marks.{CopiedUpTo, IsAdded, MarksMore, MarksSo, SameUnlisted, SameUnmarked, Unmarked, WatchedSo, Watching, in_mask, in_tree, marked}
+pub use Rattle.dw_cfa.specs.Inner.Marks.{CopiedUpTo, IsAdded, MarksMore, MarksSo, SameUnlisted, SameUnmarked, Unmarked, WatchedSo, Watching, in_mask, in_tree, marked, watching}
 pub use Rattle.dw_cfa.specs.Inner.Opening.{GivesOffset, answers_move, answers_row}
 unfoldable pub use Rattle.dw_cfa.specs.Inner.Operands.{opcode_of}
 pub use Rattle.dw_cfa.specs.Inner.Operands.{form_of, opcode_table}
 pub use Rattle.dw_cfa.specs.Inner.RowEquality.{cfa_tells, rows_tell, rule_tells, same_rows}
-unfoldable pub use Rattle.dw_cfa.specs.Inner.RowSteps.{begun_rows, begun_stop, left_of}
+unfoldable pub use Rattle.dw_cfa.specs.Inner.RowSteps.{left_of}
 pub use Rattle.dw_cfa.specs.Inner.RowSteps.{gives, progress_after}
-pub use Rattle.dw_cfa.specs.Inner.RowWalk.{AllSpecify, AreLeft, HasInitial, RanUpTo, Readied, WalkKeeps, WalkedTo, WalksSo, initial_of, led_of, led_rows, walk_of}
+pub use Rattle.dw_cfa.specs.Inner.RowWalk.{AllSpecify, AreLeft, HasInitial, IsLed, RanUpTo, Readied, WalkKeeps, WalkedTo, WalksSo, initial_of, led_of, led_rows, walk_of}
 pub use Rattle.dw_cfa.specs.Inner.Rows.{listed, put, with_cfa, with_rule}
 pub use Rattle.dw_cfa.specs.Inner.RuleAt.{CountsFrom, FoundAt}
 unfoldable pub use Rattle.dw_cfa.specs.Inner.Runs.{cie_run, fde_rows, fde_stop, placed, rows_behind, rows_left, run_rows, run_stop, stop_left}
 pub use Rattle.dw_cfa.specs.Inner.Runs.{GivesRow, Placed, Placing, RanTo, RunsSo, WroteTo, at_end, fault_or, here, initial_row, on_initial, place_of, refused_at, row_if, stop_on, stop_or}
+unfoldable pub use Rattle.dw_cfa.specs.Inner.Saved.{put_all}
+pub use Rattle.dw_cfa.specs.Inner.Saved.{Saving, TakesAmong, TakesAt, merged, saved_row}
 unfoldable pub use Rattle.dw_cfa.specs.Inner.States.{count_remembered, rows_before}
-pub use Rattle.dw_cfa.specs.Inner.States.{BeganWith, Held, Restored, TakenBack, first_if, held, shown}
+pub use Rattle.dw_cfa.specs.Inner.States.{BeganWith, Held, Restored, StatesSo, TakenBack, first_if, held, saved_count, saved_if, shown}
 pub use Rattle.dw_cfa.specs.Inner.Steps.{InLimit, IsAfter, state_of}
 pub use Rattle.dw_cfa.specs.InstrSpells.{BlockSpells, InstrFormSpells, InstrSpells, IsOffset, OperandSpells, ProgramSpells}
 pub use Rattle.dw_cfa.specs.Kept.{CieKept, FdeKept, IsRegisterRule, in_cie, is_remember, is_restore, keeps_half, remembered, restored}

@@ -1,8 +1,10 @@
 -- FDEs' programs run one after another behind the initial row of their CIE.
+use Rattle.std.specs.Prelude.{pos}
 use Rattle.dw_num.specs.declared.target.Target.{Target}
 use Rattle.dw_cfa.specs.declared.instr.Factors.{Factors}
-use Rattle.dw_cfa.specs.Rows.{Rules}
-use Rattle.dw_cfa.specs.RowSteps.{Stepping}
+use Rattle.dw_cfa.specs.Rows.{Rules, blank}
+use Rattle.dw_cfa.specs.RowSteps.{Stepping, stepping}
+use Rattle.dw_cfa.specs.Runs.{finished}
 
 -- the initial row, what instructions are read with, and the rows of the FDE that is run
 pub record Following : Type 0 where
@@ -14,3 +16,7 @@ pub record Following : Type 0 where
 -- the same behind other rows
 abbrev pub with_steps : Following → Stepping → Following
 with_steps f steps = record { initial = f.initial; factors = f.factors; target = f.target; steps = steps }
+
+-- no CIE was named yet
+abbrev pub following_none : Target → Following
+following_none target = record { initial = blank; factors = record { code_factor = 0; data_factor = pos 0 }; target = target; steps = stepping blank finished }

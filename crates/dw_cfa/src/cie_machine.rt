@@ -4,7 +4,7 @@ ghost use Rattle.std.specs.Prelude.{◌≡◌, ◌<◌, None, Some, Ok, Err, fal
 ghost use Rattle.dw_num.specs.Target.{address_limit};
 ghost use Rattle.dw_num.specs.Refusals.{Refuses};
 ghost use Rattle.dw_num.specs.declared.error.ReadError.TheVariants.{OutOfMemory};
-ghost use Rattle.dw_cfa.specs.CieMachine.{Following, with_steps};
+ghost use Rattle.dw_cfa.specs.CieMachine.{Following, following_none, with_steps};
 ghost use Rattle.dw_cfa.specs.Coverage.{Lacks};
 ghost use Rattle.std.specs.Bool.{MatchBool};
 ghost use Rattle.dw_cfa.specs.Behind.{LeavesTo, RunsBehind};
@@ -17,8 +17,7 @@ use crate::coverage::lacks_rule;
 use crate::instr::Factors;
 use crate::machine::Machine;
 use crate::row::Row;
-use crate::states::States;
-use crate::steps::{Progress, initial_row};
+use crate::steps::Progress;
 use dw_num::{Cursor, Program, ReadError, Target, are_bytes};
 use std::alloc::{AllocError, Global};
 use std::marker::Model;
@@ -55,37 +54,27 @@ impl<'a> Model for CieMachine<'a> {
 }
 
 impl<'a> CieMachine<'a> {
-    /// Runs a CIE's program (`initial_instructions`, 6.4.1). No row is to come until an FDE's program begins. Otherwise the first
-    /// refusal, or want of memory (`OutOfMemory`). Refusals are those of `initial_row`.
-    pub fn new(
-        alloc: Global,
-        cie_program: Program<'a>,
-        factors: Factors,
-        target: Target,
-    ) -> Result<CieMachine<'a>, ReadError>
-        ensures ok { IfOk result (λ c. LeavesTo factors (program_input cie_program.entry target) (Ok c.initial) × (c.factors ≡ factors) × (c.target ≡ target) × (c.steps ≡ stepping c.initial finished)) }
-        ensures err { IfErr result (Refuses (λ r. LeavesTo factors (program_input cie_program.entry target) (Err r))) }
+    /// Behind no CIE's program yet: the initial row (6.4.1) is blank. No row is to come until an FDE's program begins. Takes no
+    /// memory.
+    pub fn new(alloc: Global, target: Target) -> CieMachine<'a>
+        ensures { result ≡ following_none target }
     {
-        let initial = initial_row(alloc, cie_program, factors, target)?;
-        let row = initial.copied()?;
-        let tracked = initial.is_wide();
-        Ok(CieMachine {
+        let factors = Factors {
+            code_factor: 0,
+            data_factor: 0,
+        };
+        CieMachine {
             progress: Progress::Finished,
             factors,
             target,
             fde: Cursor::new(&[], 0, target),
-            machine: Machine {
-                initial,
-                states: States::new(alloc, row, tracked),
-                location: 0,
-                limit: target.size.address_limit(),
-            },
-        })
+            machine: Machine::new(alloc, 0, target),
+        }
     }
 
-    /// Runs another CIE's program (`initial_instructions`, 6.4.1) in the same room. No row is to come until an FDE's program begins.
-    /// Otherwise the first refusal, or want of memory (`OutOfMemory`), behind which a CIE's program has to run before anything
-    /// else is asked. Refusals are those of `initial_row`.
+    /// Runs a CIE's program (`initial_instructions`, 6.4.1) in the room that is there. No row is to come until an FDE's program
+    /// begins. Otherwise the first refusal, or want of memory (`OutOfMemory`), behind which a CIE's program has to run before
+    /// anything else is asked. Refusals are those of `Row::become_initial`.
     pub fn go_to(
         &mut self,
         cie_program: Program<'a>,

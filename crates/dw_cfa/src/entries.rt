@@ -12,7 +12,7 @@ ghost use Rattle.dw_cfa.specs.Difference.{FirstDifference, place_behind};
 ghost use Rattle.dw_cfa.specs.Inner.Difference.{FirstBelow, SameUnset};
 
 use crate::behind::{place_behind, start_behind};
-use crate::near_slots::{NearRules, bit_of, is_in, next_in, same_slots};
+use crate::near_slots::{NearRules, bit_of, copy_slots, is_in, next_in, same_slots};
 use crate::row::Specified;
 use crate::rule::RegRule;
 use crate::slot::{Kind, Slot, UNWRITTEN, offset_in, rule_of, slot_of};
@@ -24,7 +24,7 @@ use std::ops::Bound;
 /// The registers below this have slots.
 pub(crate) const NEAR: u16 = 128;
 /// The registers that are not Unspecified, with their rules: those below 128 in slots under a mask, with the
-/// expressions of theirs in a tree, and all others in another tree.
+/// rules of theirs that no slot holds in a tree, and all others in another tree.
 #[derive(Drop)]
 pub(crate) struct Entries<'a> {
     pub(crate) slots: [Slot; 128],
@@ -265,6 +265,7 @@ impl<'a> Entries<'a> {
     }
 
     // Whether both trees are empty.
+    #[inline(always)]
     fn is_narrow(&self) -> bool
         ensures { IsTrue result → (self.now.expressions.entries ≡ []) × (self.now.far.entries ≡ []) }
     {
@@ -290,6 +291,7 @@ impl<'a> Entries<'a> {
         ensures entries { entries_of self.new ≡ [] }
         ensures so { EntriesSo self.new }
         ensures used { self.new.used ≡ 0 }
+        ensures expressions { self.new.expressions.entries ≡ [] }
         ensures far { self.new.far.entries ≡ [] }
     {
         self.used = 0;
@@ -366,6 +368,7 @@ impl<'a> Entries<'a> {
         requires near { register < 128 }
         ensures ok { OnOk result (entries_of self.new ≡ put register (rule_in (entries_of others.now) register) (entries_of self.old)) }
         ensures so { EntriesSo self.new }
+        ensures err { OnErr result (entries_of self.new ≡ entries_of self.old) }
     {
         let Some(slot) = others.slot(register) else {
             self.drop_near(register);
@@ -415,6 +418,32 @@ impl<'a> Entries<'a> {
         Ok(())
     }
 
+    // Makes them a copy of others, where both have the same trees.
+    #[inline(always)]
+    fn copy_narrow(&mut self, others: &Entries<'a>)
+        requires so { EntriesSo self.old }
+        requires others { EntriesSo others.now }
+        requires expressions { self.old.expressions.entries ≡ others.now.expressions.entries }
+        requires far { self.old.far.entries ≡ others.now.far.entries }
+        ensures entries { entries_of self.new ≡ entries_of others.now }
+        ensures so { EntriesSo self.new }
+    {
+        copy_slots(&mut self.slots, &others.slots, others.used);
+        self.used = others.used;
+    }
+
+    // Makes them a copy of others, register by register.
+    #[inline(never)]
+    fn copy_wide(&mut self, others: &Entries<'a>, alloc: Global) -> Result<(), AllocError>
+        requires before { EntriesSo self.old }
+        requires others { EntriesSo others.now }
+        ensures ok { OnOk result (entries_of self.new ≡ entries_of others.now) }
+        ensures so { EntriesSo self.new }
+    {
+        self.begin_copy(others, alloc)?;
+        self.copy_slots(others)
+    }
+
     // Makes them a copy of others.
     #[inline(always)]
     pub(crate) fn become_copy(
@@ -427,8 +456,12 @@ impl<'a> Entries<'a> {
         ensures ok { OnOk result (entries_of self.new ≡ entries_of others.now) }
         ensures so { EntriesSo self.new }
     {
-        self.begin_copy(others, alloc)?;
-        self.copy_slots(others)
+        if others.is_narrow() {
+            self.clear();
+            self.copy_narrow(others);
+            return Ok(());
+        }
+        self.copy_wide(others, alloc)
     }
 
     // Gives a register a rule.

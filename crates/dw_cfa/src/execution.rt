@@ -3,8 +3,9 @@
 ghost use Rattle.std.specs.Prelude.{◌≡◌, ◌<◌, ◌≤◌, None, Some, Ok, Err, length, OnOk, IfErr, IfOk, IsOk, IsTrue, true, false};
 ghost use Rattle.dw_num.specs.Refusals.{Refuses};
 ghost use Rattle.dw_cfa.specs.Inner.Runs.{RunsSo, GivesRow, StopsAbove, rows_left, stop_left, initial_row, placed};
-ghost use Rattle.dw_cfa.specs.Inner.RowWalk.{RanUpTo};
-ghost use Rattle.dw_cfa.specs.Inner.Turns.{Does, Entered, RunsCie, Stays};
+ghost use Rattle.dw_cfa.specs.Inner.RowWalk.{IsLed, RanUpTo};
+ghost use Rattle.dw_cfa.specs.Inner.Turns.{Does, Entered, Stays};
+ghost use Rattle.dw_cfa.specs.Rows.{blank};
 
 use crate::instr::Factors;
 use crate::keep::Keep;
@@ -91,48 +92,60 @@ pub(crate) fn run_to<'a, K: Keep<'a>>(
 
 // Runs an instruction of a CIE's program.
 #[inline(always)]
-fn write_one<'a, K: Keep<'a>>(
+fn write_one<'a>(
     cursor: &mut Cursor<'a>,
     factors: Factors,
-    keep: &mut K,
+    row: &mut Row<'a>,
     known: bool,
     fault: &mut Refusal,
 ) -> End
-    requires cie { Does true K.machine K.takes }
-    requires so { RunsCie (K.machine keep.old) }
     requires some { 0 < length cursor.old.bytes }
-    requires known { IsTrue known → IsOk (initial_row (placed factors cursor.old) (K.machine keep.old).states.row) }
-    ensures wrote { Entered factors cursor.old (K.machine keep.old) result fault.new cursor.new (K.machine keep.new) }
-    ensures same { Stays (K.machine keep.old) (K.machine keep.new) }
+    requires known { IsTrue known → IsOk (initial_row (placed factors cursor.old) row.old) }
+    ensures { Entered factors cursor.old row.old result fault.new cursor.new row.new }
 {
     are_bytes(cursor.rest());
-    execute(cursor, factors, keep, known, fault)
+    execute(cursor, factors, row, known, fault)
 }
 
-/// Runs a CIE's program on a row. Where it is known that it has no fault, no expression is judged again.
+/// Runs a CIE's program, whose row it is then. Where it is known that the program has no fault, no expression is judged again.
 #[tactic(auto, using(crate::proofs::RunSteps::initial_end))]
-pub(crate) fn run_initial<'a, K: Keep<'a>>(
+pub(crate) fn run_initial<'a>(
     cursor: &mut Cursor<'a>,
     factors: Factors,
-    keep: &mut K,
+    row: &mut Row<'a>,
     known: bool,
 ) -> Result<(), ReadError>
-    requires cie { Does true K.machine K.takes }
-    requires so { RunsCie (K.machine keep.old) }
-    requires known { IsTrue known → IsOk (initial_row (placed factors cursor.old) (K.machine keep.old).states.row) }
-    ensures ok { OnOk result (initial_row (placed factors cursor.old) (K.machine keep.old).states.row ≡ Ok (K.machine keep.new).states.row) }
-    ensures kept { (K.machine keep.new).states.kept ≡ (K.machine keep.old).states.kept }
-    ensures same { OnOk result (((K.machine keep.new).states.stack ≡ (K.machine keep.old).states.stack) × ((K.machine keep.new).states.first ≡ (K.machine keep.old).states.first)) }
-    ensures err { IfErr result (Refuses (λ r. initial_row (placed factors cursor.old) (K.machine keep.old).states.row ≡ Err r)) }
+    requires { IsTrue known → IsOk (initial_row (placed factors cursor.old) blank) }
+    ensures ok { OnOk result (initial_row (placed factors cursor.old) blank ≡ Ok row.new) }
+    ensures err { IfErr result (Refuses (λ r. initial_row (placed factors cursor.old) blank ≡ Err r)) }
 {
+    row.clear();
     let code = Code::Truncated;
     let mut fault = Refusal { code, at: 0 };
     'instrs: while cursor.left() > 0 {
-        match write_one(cursor, factors, keep, known, &mut fault) {
+        match write_one(cursor, factors, row, known, &mut fault) {
             End::On | End::Moved => {}
             End::Refused => return Err(ReadError::Refused(fault)),
             End::OutOfMemory => return Err(ReadError::OutOfMemory),
         }
     }
+    Ok(())
+}
+
+/// Runs a CIE's program in a machine. It goes on from the row that is left, remembers none, and tracks no changes.
+pub(crate) fn lead<'a>(
+    cie: &mut Cursor<'a>,
+    factors: Factors,
+    machine: &mut Machine<'a>,
+    known: bool,
+) -> Result<(), ReadError>
+    requires { IsTrue known → IsOk (initial_row (placed factors cie.old) blank) }
+    ensures ok { OnOk result (IsLed factors cie.old machine.old machine.new) }
+    ensures err { IfErr result (Refuses (λ r. initial_row (placed factors cie.old) blank ≡ Err r)) }
+    ensures kept { machine.new.states.kept ≡ machine.old.states.kept }
+{
+    machine.states.untrack();
+    run_initial(cie, factors, &mut machine.initial, known)?;
+    machine.states.rewind(&machine.initial)?;
     Ok(())
 }

@@ -7,12 +7,11 @@ ghost use Rattle.dw_cfa.specs.declared.instr.Instr.{Instr};
 ghost use Rattle.dw_cfa.specs.declared.instr.Instr.TheVariants.{Advance, DefCfa, DefCfaExpression, DefCfaOffset, DefCfaRegister, Nop, RememberState, Restore, RestoreState, Set, SetLoc};
 ghost use Rattle.dw_cfa.specs.declared.machine.End.{End};
 ghost use Rattle.dw_cfa.specs.declared.machine.Machine.{Machine};
-ghost use Rattle.dw_cfa.specs.Inner.Turns.{Did, IsWithinLimit, begun_with, cie_machine};
+ghost use Rattle.dw_cfa.specs.Inner.Turns.{Did, IsWithinLimit, cie_machine};
 
 use crate::machine::{End, Machine, refused};
 use crate::row::Row;
 use crate::rule::{CfaRule, RegRule};
-use crate::states::States;
 use dw_num::{Code, Refusal};
 use dw_op::ExprRef;
 
@@ -224,92 +223,10 @@ fn not_in_cie(at: u64, fault: &mut Refusal) -> End
 }
 
 /// A CIE's program gives rules to one row, and nothing else (6.4.1).
-impl<'a> Keep<'a> for States<'a> {
+impl<'a> Keep<'a> for Row<'a> {
     ghost machine = { cie_machine };
 
-    ghost takes = { λ s i at end fault s'. Did true i at (cie_machine s) end fault (cie_machine s') };
-
-    #[inline(always)]
-    fn nop(&mut self, _at: u64, _fault: &mut Refusal) -> End {
-        End::On
-    }
-
-    #[inline(always)]
-    fn def_cfa(&mut self, register: u16, offset: i64, _at: u64, _fault: &mut Refusal) -> End {
-        let rule = CfaRule::Register { register, offset };
-        self.set_cfa(rule);
-        End::On
-    }
-
-    #[inline(always)]
-    fn def_cfa_register(&mut self, register: u16, at: u64, fault: &mut Refusal) -> End {
-        let CfaRule::Register { offset, .. } = self.row().cfa() else {
-            return not_register(at, fault);
-        };
-        let rule = CfaRule::Register { register, offset };
-        self.set_cfa(rule);
-        End::On
-    }
-
-    #[inline(always)]
-    fn def_cfa_offset(&mut self, offset: i64, at: u64, fault: &mut Refusal) -> End {
-        let CfaRule::Register { register, .. } = self.row().cfa() else {
-            return not_register(at, fault);
-        };
-        let rule = CfaRule::Register { register, offset };
-        self.set_cfa(rule);
-        End::On
-    }
-
-    #[inline(always)]
-    fn def_cfa_expression(
-        &mut self,
-        expression: ExprRef<'a>,
-        _at: u64,
-        _fault: &mut Refusal,
-    ) -> End {
-        self.set_cfa(CfaRule::Expression(expression));
-        End::On
-    }
-
-    #[inline(always)]
-    fn set(&mut self, register: u16, rule: RegRule<'a>, _at: u64, _fault: &mut Refusal) -> End {
-        if States::set(self, register, rule).is_err() {
-            return End::OutOfMemory;
-        }
-        End::On
-    }
-
-    fn restore(&mut self, _register: u16, at: u64, fault: &mut Refusal) -> End {
-        not_in_cie(at, fault)
-    }
-
-    fn remember(&mut self, at: u64, fault: &mut Refusal) -> End {
-        not_in_cie(at, fault)
-    }
-
-    fn recall(&mut self, at: u64, fault: &mut Refusal) -> End {
-        not_in_cie(at, fault)
-    }
-
-    fn advance(&mut self, _distance: u128, at: u64, fault: &mut Refusal) -> End {
-        not_in_cie(at, fault)
-    }
-
-    fn go(&mut self, _address: u64, at: u64, fault: &mut Refusal) -> End {
-        not_in_cie(at, fault)
-    }
-
-    fn is_above(&self, _address: u64) -> bool {
-        false
-    }
-}
-
-/// A row alone is what a look-up keeps of a CIE's program.
-impl<'a> Keep<'a> for Row<'a> {
-    ghost machine = { λ row. cie_machine (begun_with row) };
-
-    ghost takes = { λ row i at end fault row'. Did true i at (cie_machine (begun_with row)) end fault (cie_machine (begun_with row')) };
+    ghost takes = { λ row i at end fault row'. Did true i at (cie_machine row) end fault (cie_machine row') };
 
     #[inline(always)]
     fn nop(&mut self, _at: u64, _fault: &mut Refusal) -> End {

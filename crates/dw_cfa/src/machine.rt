@@ -1,10 +1,14 @@
 //! The machine that runs call frame instructions (6.4.2), and how the run of one ends.
 
-ghost use Rattle.std.specs.Prelude.{◌≡◌};
+ghost use Rattle.std.specs.Prelude.{◌≡◌, None};
+ghost use Rattle.dw_num.specs.Target.{address_limit};
+ghost use Rattle.dw_cfa.specs.Rows.{blank};
+ghost use Rattle.dw_cfa.specs.Inner.LookUp.{look_up_at};
 
 use crate::row::Row;
 use crate::states::States;
-use dw_num::Refusal;
+use dw_num::{Refusal, Target};
+use std::alloc::Global;
 
 /// The state of the machine in an FDE's program: the initial row, the current one with the remembered ones, and
 /// the location, which is at most the limit.
@@ -14,6 +18,21 @@ pub(crate) struct Machine<'a> {
     pub(crate) states: States<'a>,
     pub(crate) location: u128,
     pub(crate) limit: u128,
+}
+
+impl<'a> Machine<'a> {
+    /// Before a CIE's program: its rows are blank.
+    #[inline(always)]
+    pub(crate) fn new(alloc: Global, location: u64, target: Target) -> Machine<'a>
+        ensures { result ≡ look_up_at blank (address_limit target.size) blank None location }
+    {
+        Machine {
+            initial: Row::blank(alloc),
+            states: States::new(alloc, Row::blank(alloc), false),
+            location: u128::from(location),
+            limit: target.size.address_limit(),
+        }
+    }
 }
 
 /// How the run of an instruction of an FDE's program ends.

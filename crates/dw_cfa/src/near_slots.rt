@@ -4,7 +4,7 @@ ghost use Rattle.std.specs.Prelude.{◌≡◌, ◌<◌, ◌≤◌, ◌↔◌, �
 ghost use Rattle.std.specs.Iterator.{YieldsFirst, item_count};
 ghost use Rattle.std.specs.Int.{bit_at};
 ghost use Rattle.dw_cfa.specs.Rows.{rule_in};
-ghost use Rattle.dw_cfa.specs.Inner.Entries.{FindsNear, FirstBit, FirstIn, Holds, slot_rule};
+ghost use Rattle.dw_cfa.specs.Inner.Entries.{FindsNear, FirstBit, FirstIn, Holds, SameSlots, slot_rule};
 
 use crate::entries::NEAR;
 use crate::rule::RegRule;
@@ -78,6 +78,21 @@ pub(crate) fn next_in(mask: u128, place: u32) -> Option<u32>
     match next_in_half((mask % HALF) as u64, place) {
         Some(bit) => Some(bit),
         None => next_high(mask, 64),
+    }
+}
+
+/// Copies the slots of the registers in a mask.
+#[inline(always)]
+pub(crate) fn copy_slots(slots: &mut [Slot; 128], others: &[Slot; 128], mask: u128)
+    requires slots { length slots.old ≡ 128 }
+    requires others { length others.now ≡ 128 }
+    ensures slots { length slots.new ≡ 128 }
+    ensures copied { SameSlots mask others.now slots.new }
+{
+    let mut place = 0;
+    'slots: while let Some(register) = next_in(mask, place) {
+        slots[register as usize] = others[register as usize];
+        place = register + 1;
     }
 }
 

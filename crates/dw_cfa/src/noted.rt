@@ -5,7 +5,7 @@ ghost use Rattle.dw_num.specs.Inner.Front.{Gives};
 ghost use Rattle.dw_cfa.specs.declared.machine.End.{End};
 ghost use Rattle.dw_cfa.specs.Rows.{blank};
 ghost use Rattle.dw_cfa.specs.Inner.FrontInstr.{instr_at};
-ghost use Rattle.dw_cfa.specs.Inner.Turns.{begun_with, cie_machine};
+ghost use Rattle.dw_cfa.specs.Inner.Turns.{cie_machine};
 
 use crate::instr::{Factors, Instr};
 use crate::keep::Keep;
@@ -22,7 +22,7 @@ struct Noted<'a> {
 }
 
 impl<'a> Keep<'a> for Noted<'a> {
-    ghost machine = { λ k. cie_machine (begun_with blank) };
+    ghost machine = { λ k. cie_machine blank };
 
     ghost takes = { λ k i at end fault k'. (end ≡ End.On) × (k'.instr ≡ i) };
 

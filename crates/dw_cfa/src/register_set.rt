@@ -62,11 +62,12 @@ impl<'a> RegisterSet<'a> {
         self.marks.mark(register)
     }
 
-    /// Puts the registers of another set in, or answers want of memory. Behind that some of them may be in, and no register that
-    /// was in is out.
+    /// Puts the registers of another set in, or answers want of memory. Behind that some of them may be in, no other register is
+    /// new, and none that was in is out.
     pub fn add_all(&mut self, other: &RegisterSet<'_>) -> Result<(), AllocError>
         ensures added { OnOk result ((r : ℕ) → has self.new r ≡ (has other.now r || has self.old r)) }
         ensures more { OnErr result ((r : ℕ) → has self.old r ≡ true → has self.new r ≡ true) }
+        ensures others { OnErr result ((r : ℕ) → has self.new r ≡ true → (has other.now r || has self.old r) ≡ true) }
     {
         self.marks.near |= other.marks.near;
         add_far(&mut self.marks, &other.marks.far)
@@ -82,6 +83,7 @@ fn add_far(marks: &mut Marks<'_>, far: &BTreeMap<u16, RegRule<'_>>) -> Result<()
     ensures watched { IsTrue marks.new.watched }
     ensures added { OnOk result ((r : ℕ) → has (marked marks.new) r ≡ (in_tree far.now.entries r || has (marked marks.old) r)) }
     ensures more { OnErr result ((r : ℕ) → has (marked marks.old) r ≡ true → has (marked marks.new) r ≡ true) }
+    ensures others { OnErr result ((r : ℕ) → has (marked marks.new) r ≡ true → (in_tree far.now.entries r || has (marked marks.old) r) ≡ true) }
 {
     let mut others = far.iter();
     'registers: while let Some((register, _)) = others.next() {

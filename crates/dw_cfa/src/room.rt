@@ -11,15 +11,12 @@ ghost use Rattle.dw_cfa.specs.Runs.{Outcome};
 ghost use Rattle.dw_cfa.specs.RowSteps.{program_input};
 ghost use Rattle.dw_cfa.specs.Inner.Runs.{RunsSo, run_rows, run_stop};
 ghost use Rattle.dw_cfa.specs.Inner.RuleAt.{FoundAt};
-ghost use Rattle.dw_cfa.specs.Inner.States.{IsFresh};
-ghost use Rattle.dw_cfa.specs.Inner.RowSteps.{begun_rows, begun_stop};
 
-use crate::execution::{run_initial, run_to};
+use crate::execution::{lead, run_initial, run_to};
 use crate::instr::Factors;
 use crate::look_up::LookUp;
 use crate::machine::Machine;
 use crate::row::Row;
-use crate::states::States;
 use dw_num::{Cursor, Program, ReadError, Target, are_bytes};
 use std::alloc::Global;
 use std::marker::Model;
@@ -34,12 +31,10 @@ fn run_both<'a>(
     address: u64,
 ) -> Result<(), ReadError>
     requires so { RunsSo machine.old fde.old }
-    requires fresh { IsFresh machine.old.states }
     requires start { machine.old.location ≤ address }
-    ensures { FoundAt address (begun_rows factors cie.old fde.old machine.old) (begun_stop factors cie.old fde.old machine.old) machine.new.states.row result }
+    ensures { FoundAt address (run_rows factors cie.old fde.old machine.old.location) (run_stop factors cie.old fde.old machine.old.location) machine.new.states.row result }
 {
-    run_initial(cie, factors, &mut machine.states, false)?;
-    machine.initial.become_copy(machine.states.row())?;
+    lead(cie, factors, machine, false)?;
     let _ = run_to(fde, factors, machine, address, false)?;
     Ok(())
 }
@@ -58,7 +53,6 @@ fn run_look_up<'a>(
     requires start { begin ≤ address }
     ensures { FoundAt address (run_rows factors cie.old fde.old begin) (run_stop factors cie.old fde.old begin) look.new.row result }
 {
-    look.row.clear();
     run_initial(cie, factors, &mut look.row, false)?;
     look.begin(begin, fde.target().size);
     let _ = run_to(fde, factors, look, address, false)?;
@@ -108,13 +102,7 @@ impl<'a> RowRoom<'a> {
         requires start { begin ≤ address }
         ensures { FoundAt address (run_rows factors (program_input cie_program.entry target) (program_input fde_program.entry target) begin) (run_stop factors (program_input cie_program.entry target) (program_input fde_program.entry target) begin) self.new result }
     {
-        let alloc = self.alloc;
-        let mut machine = Machine {
-            initial: Row::blank(alloc),
-            states: States::new(alloc, Row::blank(alloc), false),
-            location: u128::from(begin),
-            limit: target.size.address_limit(),
-        };
+        let mut machine = Machine::new(self.alloc, begin, target);
         let mut cie = Cursor::new(cie_program.bytes, cie_program.at, target);
         let mut fde = Cursor::new(fde_program.bytes, fde_program.at, target);
         let result = run_both(&mut cie, &mut fde, factors, &mut machine, address);

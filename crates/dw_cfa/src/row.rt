@@ -244,6 +244,18 @@ impl<'a> Row<'a> {
     pub(crate) fn copy_cfa(&mut self, other: &Row<'a>)
         ensures { self.new ≡ with_cfa other.now.cfa self.old }
     {
+        if let CfaRule::Register { register, offset } = other.cfa {
+            self.cfa = CfaRule::Register { register, offset };
+            return;
+        }
+        self.copy_other_cfa(other);
+    }
+
+    // The same of any rule. Out of line: room for a rule is cleared and moved at each row else.
+    #[inline(never)]
+    fn copy_other_cfa(&mut self, other: &Row<'a>)
+        ensures { self.new ≡ with_cfa other.now.cfa self.old }
+    {
         self.cfa = other.cfa.copied();
     }
 
@@ -260,9 +272,22 @@ impl<'a> Row<'a> {
     #[inline(always)]
     pub(crate) fn copy_rule(&mut self, other: &Row<'a>, register: u16) -> Result<(), AllocError>
         requires { register < 128 }
-        ensures { OnOk result (self.new ≡ with_rule register (rule_in other.now.registers register) self.old) }
+        ensures ok { OnOk result (self.new ≡ with_rule register (rule_in other.now.registers register) self.old) }
+        ensures err { OnErr result (self.new ≡ self.old) }
     {
         self.entries.copy_near(&other.entries, register)
+    }
+
+    // The same of any register.
+    #[inline(always)]
+    pub(crate) fn copy_any(&mut self, other: &Row<'a>, register: u16) -> Result<(), AllocError>
+        ensures ok { OnOk result (self.new ≡ with_rule register (rule_in other.now.registers register) self.old) }
+        ensures err { OnErr result (self.new ≡ self.old) }
+    {
+        if register < NEAR {
+            return self.copy_rule(other, register);
+        }
+        self.set(register, other.rule(register))
     }
 
     // Gives a register a rule and answers the one that it had, or want of memory.
@@ -286,7 +311,7 @@ impl<'a> Row<'a> {
         ensures { OnOk result (self.new ≡ other.now) }
     {
         self.entries.become_copy(&other.entries, self.alloc)?;
-        self.cfa = other.cfa.copied();
+        self.copy_cfa(other);
         Ok(())
     }
 

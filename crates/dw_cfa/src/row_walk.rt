@@ -17,12 +17,11 @@ ghost use Rattle.dw_cfa.specs.Behind.{LeavesTo};
 ghost use Rattle.dw_cfa.specs.RowWalk.{AllKeep, CieKeeps, StandsOn, unled};
 ghost use Rattle.dw_cfa.specs.Inner.RowWalk.{AreLeft, HasInitial, LeadsSame, Readied, WalkKeeps, WalkedTo, WalksSo, initial_of, led_rows, walk_of};
 
-use crate::execution::{next_row, run_initial, run_to};
+use crate::execution::{lead, next_row, run_to};
 use crate::instr::Factors;
 use crate::machine::Machine;
 use crate::next_row::go_on_row;
 use crate::row::Row;
-use crate::states::States;
 use crate::steps::{Progress, progress_after};
 use dw_num::{Cursor, Program, ReadError, Target, are_bytes};
 use std::alloc::{AllocError, Global};
@@ -62,11 +61,9 @@ fn run_cie<'a>(leading: Leading<'a>, machine: &mut Machine<'a>) -> Result<(), Re
     ensures err { IfErr result (λ e. e ≡ OutOfMemory) }
     ensures kept_row { machine.new.states.kept ≡ machine.old.states.kept }
 {
-    machine.states.restart();
     let program = leading.program;
     let mut cursor = Cursor::new(program.bytes, program.at, leading.target);
-    run_initial(&mut cursor, leading.factors, &mut machine.states, true)?;
-    machine.initial.become_copy(machine.states.row())?;
+    lead(&mut cursor, leading.factors, machine, true)?;
     machine.states.track(machine.initial.is_wide());
     Ok(())
 }
@@ -233,12 +230,7 @@ impl<'a> RowWalk<'a> {
                 target,
             },
             fde: Cursor::new(&[], 0, target),
-            machine: Machine {
-                initial: Row::blank(alloc),
-                states: States::new(alloc, Row::blank(alloc), false),
-                location: 0,
-                limit: target.size.address_limit(),
-            },
+            machine: Machine::new(alloc, 0, target),
         }
     }
 

@@ -4,13 +4,14 @@ ghost use Rattle.std.specs.Prelude.{◌≡◌, IfSome, IsTrue, MatchOption};
 ghost use Rattle.dw_cfa.specs.declared.rule.RegRule.{RegRule as TheRule};
 ghost use Rattle.dw_cfa.specs.declared.rule.RegRule.TheVariants.{Offset, Unspecified};
 ghost use Rattle.dw_cfa.specs.Rows.{is_specified, rule_in};
-ghost use Rattle.dw_cfa.specs.Inner.Entries.{slot_rule, IsSlotOf};
+ghost use Rattle.dw_cfa.specs.Inner.Entries.{HoldsRule, IsSlotOf, slot_rule};
 
 use crate::rule::RegRule;
 use crate::tree::rule_in_tree;
 use std::collections::BTreeMap;
 
-/// What kind of rule a slot holds. A rule with an expression is kept beside the slots.
+/// What kind of rule a slot holds. `Expression` says that the rule is kept beside the slots: one with an expression or a long
+/// offset.
 #[derive(Clone, Copy)]
 pub(crate) enum Kind {
     Undefined,
@@ -26,7 +27,7 @@ pub(crate) enum Kind {
 pub(crate) struct Slot {
     pub(crate) kind: Kind,
     pub(crate) register: u16,
-    pub(crate) offset: i64,
+    pub(crate) offset: i16,
 }
 
 /// What a slot holds that was never written. It is not read.
@@ -48,10 +49,26 @@ pub(crate) fn rule_of<'a>(
     match slot.kind {
         Kind::Undefined => RegRule::Undefined,
         Kind::SameValue => RegRule::SameValue,
-        Kind::Offset => RegRule::Offset(slot.offset),
-        Kind::ValOffset => RegRule::ValOffset(slot.offset),
+        Kind::Offset => RegRule::Offset(i64::from(slot.offset)),
+        Kind::ValOffset => RegRule::ValOffset(i64::from(slot.offset)),
         Kind::Register => RegRule::Register(slot.register),
         Kind::Expression => rule_in_tree(expressions, register),
+    }
+}
+
+// The slot of a rule, which is kept beside the slots where its offset is long.
+#[inline(always)]
+fn slot_with(kind: Kind, register: u16, offset: i64) -> Slot
+    ensures { (rule : TheRule) → HoldsRule kind register offset rule → IsSlotOf rule result }
+{
+    let (kind, offset) = match i16::try_from(offset) {
+        Ok(offset) => (kind, offset),
+        Err(_) => (Kind::Expression, 0),
+    };
+    Slot {
+        kind,
+        register,
+        offset,
     }
 }
 
@@ -71,11 +88,7 @@ pub(crate) fn slot_of(rule: &RegRule<'_>) -> Option<Slot>
         RegRule::Expression(_) => (Kind::Expression, 0, 0),
         RegRule::ValExpression(_) => (Kind::Expression, 0, 0),
     };
-    Some(Slot {
-        kind,
-        register,
-        offset,
-    })
+    Some(slot_with(kind, register, offset))
 }
 
 /// The offset that a slot holds of a register that is saved.
@@ -84,7 +97,7 @@ pub(crate) fn offset_in(slot: Slot) -> Option<i64>
     ensures { IfSome result (λ n. (block : TheRule) → slot_rule slot block ≡ Offset n) }
 {
     match slot.kind {
-        Kind::Offset => Some(slot.offset),
+        Kind::Offset => Some(i64::from(slot.offset)),
         _ => None,
     }
 }

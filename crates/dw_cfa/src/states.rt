@@ -4,10 +4,12 @@ ghost use Rattle.std.specs.Prelude.{◌≡◌, ◌+◌, ◌<◌, [], ◌∷◌, 
 ghost use Rattle.dw_cfa.specs.Difference.{FirstDifference, place_behind};
 ghost use Rattle.dw_cfa.specs.Rows.{AreSpecified, blank};
 ghost use Rattle.dw_cfa.specs.Inner.Rows.{with_cfa, with_rule};
-ghost use Rattle.dw_cfa.specs.Inner.States.{Held, first_if, BeganWith, Restored, TakenBack, count_remembered, rows_before};
+ghost use Rattle.dw_cfa.specs.Inner.States.{Held, first_if, saved_if, BeganWith, Restored, TakenBack, count_remembered, rows_before};
+ghost use Rattle.dw_cfa.specs.declared.rule.RegRule.{RegRule as TheRule};
 
 use crate::row::Row;
 use crate::rule::{CfaRule, RegRule};
+use crate::saved::Saved;
 use crate::watched::WatchedRow;
 use smallvec::SmallVec;
 use std::alloc::{AllocError, Global};
@@ -29,27 +31,31 @@ impl<'a> Default for Undo<'a> {
 }
 
 /// The current row and the remembered ones. A remembered row is not copied: what was changed since is kept, and
-/// taken back. So is what was changed since the beginning, where that is tracked.
+/// taken back. So is what was changed since the beginning, where that is tracked. Most programs remember one row at a
+/// time. Of that one the registers that were set since are saved, each once; any other has all changes in a list.
 #[derive(Drop)]
 pub(crate) struct States<'a> {
     rows: WatchedRow<'a>,
     undo: SmallVec<Undo<'a>, 4>,
+    saved: Saved<'a>,
+    is_saved: bool,
     depth: usize,
     tracked: bool,
+    is_listed: bool,
 }
 
 impl<'a> Model for States<'a> {
-    ghost use Rattle.std.specs.Prelude.{◌≡◌, reverse};
-    ghost use Rattle.dw_cfa.specs.Inner.States.{Held, held, count_remembered};
+    ghost use Rattle.dw_cfa.specs.Inner.States.{Held, StatesSo, held};
 
     ghost Value = { Held };
 
-    ghost view = { λ s. held s.tracked s.rows.row s.rows.kept s.undo.items };
+    ghost view = { λ s. held s.tracked s.is_saved s.saved s.rows.row s.rows.kept s.undo.items };
 
-    ghost invariant = { λ s. s.depth ≡ count_remembered (reverse s.undo.items) };
+    ghost invariant = { λ s. StatesSo s.tracked s.is_listed s.is_saved s.depth s.undo.items };
 }
 
 // Takes changes back up to the row that was remembered last, and answers the rule that the CFA had there.
+#[inline(never)]
 #[tactic(auto, using(crate::proofs::StatesLaws::change_behind, crate::proofs::StatesLaws::last_first, crate::proofs::StatesLaws::no_items))]
 fn take_back<'a>(
     rows: &mut WatchedRow<'a>,
@@ -109,17 +115,83 @@ fn first_again<'a>(
     Ok(())
 }
 
+// Empties the list, which is mostly empty.
+#[inline(always)]
+fn unlist(is_listed: bool, undo: &mut SmallVec<Undo<'_>, 4>)
+    requires { is_listed ≡ false → undo.old.items ≡ [] }
+    ensures { undo.new.items ≡ [] }
+{
+    if is_listed {
+        undo.clear();
+    }
+}
+
+// Whether changes are listed behind one of the rows.
+#[inline(always)]
+fn lists(tracked: bool, undo: &SmallVec<Undo<'_>, 4>) -> bool
+    ensures { result ≡ false → (tracked ≡ false) × (undo.now.items ≡ []) }
+{
+    tracked || !undo.is_empty()
+}
+
+// Whether there is something to go back to.
+#[inline(always)]
+#[tactic(auto, using(crate::proofs::StatesLaws::unrecorded))]
+fn is_recorded(tracked: bool, depth: usize) -> bool
+    ensures { result ≡ false → (tracked ≡ false) × (depth ≡ 0) }
+{
+    tracked || depth > 0
+}
+
+// The same, where mostly nothing is listed.
+#[inline(always)]
+fn take_listed<'a>(
+    is_listed: bool,
+    rows: &mut WatchedRow<'a>,
+    undo: &mut SmallVec<Undo<'a>, 4>,
+) -> Result<Option<CfaRule<'a>>, AllocError>
+    requires { is_listed ≡ false → undo.old.items ≡ [] }
+    ensures ok { IfOk result (λ found. TakenBack found rows.old.row (reverse undo.old.items) rows.new.row (reverse undo.new.items)) }
+    ensures err { OnErr result (count_remembered (reverse undo.new.items) ≡ count_remembered (reverse undo.old.items)) }
+    ensures listed { OnErr result (IsTrue is_listed) }
+    ensures kept { rows.new.kept ≡ rows.old.kept }
+{
+    if !is_listed {
+        return Ok(None);
+    }
+    take_back(rows, undo)
+}
+
+// Saves the rule of a register, where a row is saved.
+#[inline(always)]
+fn save_if<'a>(
+    is_saved: bool,
+    saved: &mut Saved<'a>,
+    row: &Row<'a>,
+    register: u16,
+) -> Result<(), AllocError>
+    ensures { OnOk result ((rule : TheRule) → saved_if is_saved saved.new (with_rule register rule row.now).registers ≡ saved_if is_saved saved.old row.now.registers) }
+{
+    if is_saved {
+        return saved.save(row, register);
+    }
+    Ok(())
+}
+
 impl<'a> States<'a> {
     /// The row alone. Where changes are tracked, `rewind` brings it back in as many steps as it was changed.
-    #[tactic(auto, using(crate::proofs::StatesLaws::begun_held, crate::proofs::StatesLaws::begun_count))]
+    #[tactic(auto, using(crate::proofs::StatesLaws::begun_held, crate::proofs::StatesLaws::begun_so))]
     pub(crate) fn new(alloc: Global, row: Row<'a>, tracked: bool) -> States<'a>
         ensures { result ≡ record { row = row.entry; stack = []; first = first_if tracked row.entry.registers; kept = blank } }
     {
         States {
             rows: WatchedRow::new(alloc, row),
             undo: SmallVec::new(alloc),
+            saved: Saved::none(alloc),
+            is_saved: false,
             depth: 0,
             tracked,
+            is_listed: tracked,
         }
     }
 
@@ -135,18 +207,6 @@ impl<'a> States<'a> {
         ensures { result ≡ self.entry.row }
     {
         self.rows.into_row()
-    }
-
-    /// Goes on with a blank row, remembers none, and tracks no changes. Takes no memory.
-    #[inline(always)]
-    #[tactic(auto, using(crate::proofs::StatesLaws::begun_count))]
-    pub(crate) fn restart(&mut self)
-        ensures { self.new ≡ record { row = blank; stack = []; first = None; kept = self.old.kept } }
-    {
-        self.rows.clear();
-        self.undo.clear();
-        self.depth = 0;
-        self.tracked = false;
     }
 
     /// The row that was kept, and before `keep` some row.
@@ -201,13 +261,15 @@ impl<'a> States<'a> {
     }
 
     /// Remembers no row, and says whether changes are tracked from the current one on.
-    #[tactic(auto, using(crate::proofs::StatesLaws::begun_held, crate::proofs::StatesLaws::begun_count))]
+    #[tactic(auto, using(crate::proofs::StatesLaws::begun_held, crate::proofs::StatesLaws::begun_so))]
     pub(crate) fn track(&mut self, tracked: bool)
         ensures { self.new ≡ record { row = self.old.row; stack = []; first = first_if tracked self.old.row.registers; kept = self.old.kept } }
     {
         self.undo.clear();
+        self.is_saved = false;
         self.depth = 0;
         self.tracked = tracked;
+        self.is_listed = tracked;
     }
 
     /// How many rows are remembered.
@@ -223,78 +285,102 @@ impl<'a> States<'a> {
         self.rows.set_cfa(cfa);
     }
 
-    // Gives a register a rule, and records the one that it had.
+    // Gives a register a rule, and lists the one that it had.
     #[inline(never)]
     #[tactic(auto, using(crate::proofs::StatesLaws::change_behind, crate::proofs::StatesLaws::change_count))]
     fn change(&mut self, register: u16, rule: RegRule<'a>) -> Result<(), AllocError>
         ensures kept { self.new.kept ≡ self.old.kept }
         ensures changed { OnOk result (self.new ≡ record { row = with_rule register rule.entry self.old.row; stack = self.old.stack; first = self.old.first; kept = self.old.kept }) }
     {
+        self.is_listed = true;
         let older = self.rows.exchange(register, rule)?;
         self.undo.push(Undo::Register(register, older))?;
         Ok(())
     }
 
-    // Whether changes have to be taken back later.
-    #[tactic(auto, using(crate::proofs::StatesLaws::unkept))]
-    fn is_recorded(&self) -> bool
-        ensures { result ≡ false → (self.now.stack ≡ []) × (self.now.first ≡ None) }
-    {
-        self.tracked || self.depth > 0
-    }
-
     /// Gives a register a rule, or answers want of memory.
     #[inline(always)]
-    #[tactic(auto, using(crate::proofs::StatesLaws::unkept_held))]
+    #[tactic(auto, using(crate::proofs::StatesLaws::unlisted_held))]
     pub(crate) fn set(&mut self, register: u16, rule: RegRule<'a>) -> Result<(), AllocError>
         ensures kept { self.new.kept ≡ self.old.kept }
         ensures set { OnOk result (self.new ≡ record { row = with_rule register rule.entry self.old.row; stack = self.old.stack; first = self.old.first; kept = self.old.kept }) }
     {
-        if self.is_recorded() {
+        if self.is_listed {
             return self.change(register, rule);
         }
+        save_if(self.is_saved, &mut self.saved, self.rows.row(), register)?;
         self.rows.set(register, rule)?;
         Ok(())
     }
 
-    /// Remembers the current row.
+    // Lists the current row as one that is remembered.
+    #[inline(never)]
     #[tactic(auto, using(crate::proofs::StatesLaws::mark_behind, crate::proofs::StatesLaws::mark_count))]
-    pub(crate) fn remember(&mut self) -> Result<(), AllocError>
+    fn list_row(&mut self) -> Result<(), AllocError>
         requires { length self.old.stack < 64 }
         ensures kept { self.new.kept ≡ self.old.kept }
         ensures remembered { OnOk result (self.new ≡ record { row = self.old.row; stack = self.old.row ∷ self.old.stack; first = self.old.first; kept = self.old.kept }) }
     {
         let cfa = self.rows.row().cfa();
+        self.is_listed = true;
         self.undo.push(Undo::Remembered(cfa))?;
         self.depth += 1;
         Ok(())
     }
 
+    /// Remembers the current row.
+    pub(crate) fn remember(&mut self) -> Result<(), AllocError>
+        requires { length self.old.stack < 64 }
+        ensures kept { self.new.kept ≡ self.old.kept }
+        ensures remembered { OnOk result (self.new ≡ record { row = self.old.row; stack = self.old.row ∷ self.old.stack; first = self.old.first; kept = self.old.kept }) }
+    {
+        if is_recorded(self.tracked, self.depth) {
+            return self.list_row();
+        }
+        unlist(self.is_listed, &mut self.undo);
+        self.is_listed = false;
+        self.saved.begin(self.rows.row());
+        self.is_saved = true;
+        self.depth = 1;
+        Ok(())
+    }
+
     /// Goes back to the row that was remembered last, and tells whether there was one.
-    #[tactic(auto, using(crate::proofs::StatesLaws::restored_count, crate::proofs::StatesLaws::restored_none, crate::proofs::StatesLaws::same_count))]
+    #[tactic(auto, using(crate::proofs::StatesLaws::restored_count, crate::proofs::StatesLaws::restored_none))]
     pub(crate) fn restore(&mut self) -> Result<bool, AllocError>
         ensures kept { self.new.kept ≡ self.old.kept }
         ensures restored { IfOk result (λ found. Restored found self.old self.new) }
     {
-        match take_back(&mut self.rows, &mut self.undo)? {
+        match take_listed(self.is_listed, &mut self.rows, &mut self.undo)? {
             Some(cfa) => {
                 self.rows.set_cfa(cfa);
                 self.depth -= 1;
+                self.is_listed = lists(self.tracked, &self.undo);
                 Ok(true)
             }
-            None => Ok(false),
+            None => {
+                if !self.is_saved {
+                    return Ok(false);
+                }
+                self.saved.take_back(&mut self.rows)?;
+                self.is_saved = false;
+                self.depth = 0;
+                Ok(true)
+            }
         }
     }
 
     /// Goes back to the initial row, which was the first, and remembers none.
     #[inline(always)]
-    #[tactic(auto, using(crate::proofs::StatesLaws::begun_count))]
+    #[tactic(auto, using(crate::proofs::StatesLaws::begun_so))]
     pub(crate) fn rewind(&mut self, initial: &Row<'a>) -> Result<(), AllocError>
         requires { BeganWith initial.now self.old.first }
         ensures kept { self.new.kept ≡ self.old.kept }
         ensures rewound { OnOk result ((self.new.row ≡ initial.now) × (self.new.stack ≡ []) × BeganWith initial.now self.new.first) }
     {
         let taken = first_again(self.tracked, &mut self.rows, &mut self.undo, initial);
+        self.is_saved = false;
+        self.is_listed = self.tracked;
         self.undo.clear();
         self.depth = 0;
         taken?;

@@ -1,6 +1,6 @@
 //! Rows one at a time (6.4.3).
 
-ghost use Rattle.std.specs.Prelude.{◌≡◌, ◌<◌, Some, None, Ok, Err, [], IfOk, IfErr, OnOk};
+ghost use Rattle.std.specs.Prelude.{◌≡◌, ◌<◌, Some, Ok, Err, IfErr, OnOk};
 ghost use Rattle.dw_num.specs.Target.{address_limit};
 ghost use Rattle.dw_num.specs.Refusals.{Refuses};
 ghost use Rattle.dw_cfa.specs.Inner.Runs.{RunsSo, GivesRow, placed, initial_row, run_rows};
@@ -8,13 +8,12 @@ ghost use Rattle.dw_cfa.specs.Behind.{LeavesTo};
 ghost use Rattle.dw_cfa.specs.Gives.{RunsTo};
 ghost use Rattle.dw_cfa.specs.Rows.{blank};
 ghost use Rattle.dw_cfa.specs.RowSteps.{Advances, Answers, stepping, program_input};
-ghost use Rattle.dw_cfa.specs.Inner.RowSteps.{begun_rows, progress_after};
+ghost use Rattle.dw_cfa.specs.Inner.RowSteps.{progress_after};
 
-use crate::execution::{LocatedRow, next_row, run_initial};
+use crate::execution::{LocatedRow, lead, next_row, run_initial};
 use crate::instr::Factors;
 use crate::machine::Machine;
 use crate::row::Row;
-use crate::states::States;
 use dw_num::{Cursor, Program, ReadError, Target, are_bytes};
 use std::alloc::Global;
 use std::marker::Model;
@@ -46,17 +45,14 @@ fn first_row<'a>(
     factors: Factors,
     machine: &mut Machine<'a>,
 ) -> Result<(u128, bool), ReadError>
-    requires so { RunsSo machine.old fde.old }
-    requires none { machine.old.states.stack ≡ [] }
-    requires first { machine.old.states.first ≡ None }
-    ensures { GivesRow (begun_rows factors cie.old fde.old machine.old) factors fde.new machine.new result }
+    requires { RunsSo machine.old fde.old }
+    ensures { GivesRow (run_rows factors cie.old fde.old machine.old.location) factors fde.new machine.new result }
 {
-    run_initial(cie, factors, &mut machine.states, false)?;
-    machine.initial = machine.states.row().copied()?;
+    lead(cie, factors, machine, false)?;
     next_row(fde, factors, machine, false)
 }
 
-// Runs a CIE's program on a row, which is blank before.
+// Runs a CIE's program on a row.
 fn run_cie<'a>(
     row: &mut Row<'a>,
     cie_program: Program<'a>,
@@ -66,14 +62,14 @@ fn run_cie<'a>(
     ensures ok { OnOk result (initial_row (placed factors (program_input cie_program.entry target)) blank ≡ Ok row.new) }
     ensures err { IfErr result (Refuses (λ r. initial_row (placed factors (program_input cie_program.entry target)) blank ≡ Err r)) }
 {
-    row.clear();
     let mut cursor = Cursor::new(cie_program.bytes, cie_program.at, target);
     run_initial(&mut cursor, factors, row, false)
 }
 
 impl<'a> Row<'a> {
     /// Becomes the row that a CIE's program (`initial_instructions`, 6.4.1) leaves, or answers its first fault, or want of memory
-    /// (`OutOfMemory`). Refusals are those of `initial_row`. Behind an error it is some row.
+    /// (`OutOfMemory`). A refusal is one of `Instructions`, or `NotInCie` (13) or `CfaNotRegister` (18) at the opcode. Its place
+    /// counts from the program's `at`. Behind an error it is some row.
     pub fn become_initial(
         &mut self,
         cie_program: Program<'a>,
@@ -85,24 +81,6 @@ impl<'a> Row<'a> {
     {
         are_bytes(cie_program.bytes);
         run_cie(self, cie_program, factors, target)
-    }
-}
-
-/// The row that a CIE's program leaves, or its first fault, or want of memory (`OutOfMemory`). A refusal is one of
-/// `Instructions`, or `NotInCie` (13) or `CfaNotRegister` (18) at the opcode. Its place counts from the program's `at`.
-pub fn initial_row<'a>(
-    alloc: Global,
-    cie_program: Program<'a>,
-    factors: Factors,
-    target: Target,
-) -> Result<Row<'a>, ReadError>
-    ensures ok { IfOk result (λ row. LeavesTo factors (program_input cie_program.entry target) (Ok row)) }
-    ensures err { IfErr result (Refuses (λ r. LeavesTo factors (program_input cie_program.entry target) (Err r))) }
-{
-    let mut row = Row::blank(alloc);
-    match row.become_initial(cie_program, factors, target) {
-        Ok(()) => Ok(row),
-        Err(error) => Err(error),
     }
 }
 
@@ -147,12 +125,7 @@ impl<'a> RowSteps<'a> {
             factors,
             cie: Cursor::new(cie_program.bytes, cie_program.at, target),
             fde: Cursor::new(fde_program.bytes, fde_program.at, target),
-            machine: Machine {
-                initial: Row::blank(alloc),
-                states: States::new(alloc, Row::blank(alloc), false),
-                location: u128::from(begin),
-                limit: target.size.address_limit(),
-            },
+            machine: Machine::new(alloc, begin, target),
         }
     }
 

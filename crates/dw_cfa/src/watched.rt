@@ -1,10 +1,11 @@
 //! The current row beside one that was kept (6.4.1).
 
-ghost use Rattle.std.specs.Prelude.{◌≡◌, ℕ, ◌↔◌, IfOk, IsTrue, OnErr, OnOk};
+ghost use Rattle.std.specs.Prelude.{◌≡◌, ◌<◌, ℕ, ◌↔◌, IfOk, IsTrue, OnErr, OnOk};
 ghost use Rattle.dw_cfa.specs.Difference.{FirstDifference, place_behind};
 ghost use Rattle.dw_cfa.specs.Inner.Difference.{SameUnset};
 ghost use Rattle.dw_cfa.specs.Rows.{AreSpecified, blank, rule_in};
 ghost use Rattle.dw_cfa.specs.Inner.Rows.{with_cfa, with_rule};
+ghost use Rattle.dw_cfa.specs.Inner.Saved.{TakesAt};
 ghost use Rattle.dw_cfa.specs.Inner.Marks.{CopiedUpTo, SameUnlisted, SameUnmarked, watching};
 
 use crate::behind::{place_behind, start_behind};
@@ -77,7 +78,9 @@ fn copy_marked<'a>(row: &Row<'a>, kept: &mut Row<'a>, marks: &Marks<'a>) -> Resu
     if !marks.watched {
         return kept.become_copy(row);
     }
-    copy_near(row, kept, marks.near)?;
+    if marks.near != 0 {
+        copy_near(row, kept, marks.near)?;
+    }
     copy_far(row, kept, &marks.far)?;
     kept.copy_cfa(row);
     kept.ascends();
@@ -206,15 +209,6 @@ impl<'a> WatchedRow<'a> {
         self.row.exchange(register, rule)
     }
 
-    /// Goes on with a blank row. Takes no memory.
-    #[inline(always)]
-    pub(crate) fn clear(&mut self)
-        ensures { self.new ≡ watching blank self.old.kept }
-    {
-        self.marks.forget();
-        self.row.clear();
-    }
-
     /// Goes on with a copy of another row, or answers want of memory.
     pub(crate) fn become_copy(&mut self, other: &Row<'a>) -> Result<(), AllocError>
         ensures ok { OnOk result (self.new.row ≡ other.now) }
@@ -222,6 +216,31 @@ impl<'a> WatchedRow<'a> {
     {
         self.marks.forget();
         self.row.become_copy(other)
+    }
+
+    /// Gives a register the rule that another row gives it, or answers want of memory.
+    #[inline(always)]
+    pub(crate) fn take(&mut self, other: &Row<'a>, register: u16) -> Result<(), AllocError>
+        ensures kept { self.new.kept ≡ self.old.kept }
+        ensures cfa { self.new.row.cfa ≡ self.old.row.cfa }
+        ensures rules { OnOk result (TakesAt register other.now.registers self.old.row.registers self.new.row.registers) }
+    {
+        self.marks.mark(register)?;
+        self.row.ascends();
+        self.row.copy_any(other, register)
+    }
+
+    /// The same of one below 128.
+    #[inline(always)]
+    pub(crate) fn take_near(&mut self, other: &Row<'a>, register: u16) -> Result<(), AllocError>
+        requires { register < 128 }
+        ensures kept { self.new.kept ≡ self.old.kept }
+        ensures cfa { self.new.row.cfa ≡ self.old.row.cfa }
+        ensures rules { OnOk result (TakesAt register other.now.registers self.old.row.registers self.new.row.registers) }
+    {
+        self.marks.mark(register)?;
+        self.row.ascends();
+        self.row.copy_rule(other, register)
     }
 
     /// Keeps the current row, or answers want of memory. What is kept is some row then.
@@ -261,6 +280,9 @@ impl<'a> WatchedRow<'a> {
         row.ascends();
         if !marks.watched {
             return kept.next_difference(row, behind);
+        }
+        if marks.near == 0 {
+            return next_far_difference(kept, row, &marks.far, behind);
         }
         if let Some(register) = kept.next_near_difference(row, marks.near, place_behind(behind)) {
             return Some(register);

@@ -7,7 +7,7 @@ ghost use Rattle.dw_command.specs.declared.files.LoadError.{LoadError as TheLoad
 use std::alloc::Global;
 use std::error::Error;
 use std::fmt;
-use std::fs::File;
+use std::fs::{File, OpenFile};
 use std::io::{self, ErrorKind, Input, Read};
 use std::rt::Files;
 
@@ -57,11 +57,25 @@ pub trait Load {
 // at that number: there it would be doubled once more, only to find that nothing is left to read.
 const FIRST_ROOM: usize = 513;
 
-// All bytes that a reader has left, or the first of them.
-fn first_bytes<R: Read + Drop>(alloc: Global, reader: R, most: u64) -> io::Result<Vec<u8>>
+// Room for all bytes that a file is said to have and one more, by which its end is found: else it is doubled while it
+// is read.
+fn room_for<F: OpenFile>(file: &F) -> usize {
+    match file.metadata() {
+        Ok(data) => data.len().min(LIMIT + 1) as usize + FIRST_ROOM,
+        Err(_) => FIRST_ROOM,
+    }
+}
+
+// All bytes that a reader has left, or the first of them, read into so much room at first.
+fn first_bytes<R: Read + Drop>(
+    alloc: Global,
+    reader: R,
+    room: usize,
+    most: u64,
+) -> io::Result<Vec<u8>>
     ensures found { IfOk result (λ bytes. IfSome (R.remaining reader) (λ all. bytes.items ≡ take most all)) }
 {
-    let mut bytes = Vec::with_capacity(alloc, FIRST_ROOM)?;
+    let mut bytes = Vec::with_capacity(alloc, room)?;
     let mut reader = reader.take(most);
     reader.read_to_end(&mut bytes)?;
     Ok(bytes)
@@ -80,7 +94,11 @@ fn kind_of(error: &io::Error) -> LoadError
 }
 
 // The bytes of what was opened, or why there are none.
-fn bytes_of<R: Read + Drop>(alloc: Global, opened: io::Result<R>) -> Result<Vec<u8>, LoadError>
+fn bytes_of<R: Read + Drop>(
+    alloc: Global,
+    opened: io::Result<R>,
+    room: usize,
+) -> Result<Vec<u8>, LoadError>
     ensures bound { IfOk result (λ bytes. length bytes.items ≤ 2_147_483_648) }
     // What is not opened has no bytes, for the reason that is given.
     ensures opened { IsOk result → IsOk opened }
@@ -91,7 +109,7 @@ fn bytes_of<R: Read + Drop>(alloc: Global, opened: io::Result<R>) -> Result<Vec<
         Ok(reader) => reader,
         Err(error) => return Err(kind_of(&error)),
     };
-    match first_bytes(alloc, reader, LIMIT + 1) {
+    match first_bytes(alloc, reader, room, LIMIT + 1) {
         Ok(mut bytes) => {
             // They are no more, but no clause knows what bytes a file has.
             bytes.truncate(2_147_483_648);
@@ -124,8 +142,13 @@ impl<R: Files + Input + AllocGlobal> Load for Disk<'_, R> {
         ensures same { (p : List ℕ) (r : Result (List ℕ) TheLoadError) → ⊤ → ⊤ }
     {
         if path == STDIN {
-            return bytes_of(self.rt.alloc(), Ok(self.rt.reader()));
+            return bytes_of(self.rt.alloc(), Ok(self.rt.reader()), FIRST_ROOM);
         }
-        bytes_of(self.rt.alloc(), File::open(self.rt, path))
+        let opened = File::open(self.rt, path);
+        let room = match &opened {
+            Ok(file) => room_for(file),
+            Err(_) => FIRST_ROOM,
+        };
+        bytes_of(self.rt.alloc(), opened, room)
     }
 }

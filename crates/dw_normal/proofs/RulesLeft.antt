@@ -1,5 +1,5 @@
 -- What is left of a program, and what it is put behind.
-use Rattle.dw_normal.proofs.Words.{◌≡◌, ℕ, ◌+◌, ◌<◌, List, [], ◌∷◌, ◌++◌, length, sym, ap, ◌∙◌, subst, arith, append_assoc, AllByRecursion, flat_map, append-nil, Target, Instr, Rules, either, difference}
+use Rattle.dw_normal.proofs.Words.{◌≡◌, ℕ, ◌<◌, List, [], ◌∷◌, ◌++◌, length, sym, ap, ◌∙◌, subst, arith, append_assoc, AllByRecursion, flat_map, append-nil, Target, Instr, Rules, either, difference}
 use Rattle.dw_normal.proofs.Words.{cfa_difference, rule_difference, InstrFits, instr_bytes, program_bytes, rules_from}
 use Rattle.dw_normal.proofs.Passes.{program_more, both_halves}
 use Rattle.dw_normal.proofs.RegistersBehind.{from_first}
@@ -30,9 +30,6 @@ module _ (t : Target) (shared old new : Rules) where
   pub put_behind : (out mid : List ℕ) → mid ≡ out ++ program_bytes t cfa → mid ++ program_bytes t rules ≡ out ++ program_bytes t (difference shared old new)
   put_behind out mid is =
       ap (λ (l : List ℕ). l ++ program_bytes t rules) is ∙ append_assoc out (program_bytes t cfa) (program_bytes t rules) ∙ ap (λ (l : List ℕ). out ++ l) (sym bytes_divided)
-
-  pub put_starts : {out mid : List ℕ} → mid ≡ out ++ program_bytes t cfa → AllByRecursion (InstrFits t) (difference shared old new) → PutBefore t (difference shared old new) rules out mid
-  put_starts {out} {mid} is fits = record { same = put_behind out mid is; fits = rules_fit fits }
 
 -- ---- an instruction more
 

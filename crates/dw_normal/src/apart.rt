@@ -68,6 +68,7 @@ impl<'a> Apart<'a> {
     }
 
     // Lists them by what is known of the FDE's CIE and of the group of a return address register, and notes that.
+    #[inline(never)]
     fn list_behind(
         &mut self,
         shared: &Row<'a>,
@@ -96,6 +97,7 @@ impl<'a> Apart<'a> {
     }
 
     /// Lists the registers where the CIE's program is long, and else leaves them to be found by both rows.
+    #[inline(always)]
     pub(crate) fn list(
         &mut self,
         shared: &Row<'a>,

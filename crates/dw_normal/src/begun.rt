@@ -72,6 +72,7 @@ pub(crate) fn room_for<'r, 'a>(
 }
 
 // Lists the registers to which the row at the begin, which is shown, and the initial one give different rules.
+#[inline(always)]
 fn list_apart(begun: &mut Begun<'_, '_>, behind: Option<Behind>) -> Result<(), AllocError>
     requires shown { IsShown begun.old.changes }
     requires stands { IfSome behind (ShownBehind begun.old.changes begun.old.apart.known.changed) }

@@ -45,16 +45,13 @@ pub(crate) fn is_short(table: &Table<'_>, cap: u64) -> bool
     ensures { IsTrue result → OfMembers table.now (λ ms. length (canon table.now.target ms) ≤ cap) }
 {
     table.accepted();
-    let mut total: u64 = 0;
+    let mut total = 0;
     'fdes: for place in 0..table.fde_count() {
         let (own, initial) = table.program_lengths(FdeRef { place });
-        let Some(more) = share(own, initial) else {
+        let Some(sum) = add_share(Some(total), own, initial, cap) else {
             return false;
         };
-        total += more;
-        if total > 24 * cap {
-            return false;
-        }
+        total = sum;
     }
     true
 }

@@ -22,10 +22,10 @@ use dw_cfa::Row;
 use dw_num::{Order, Size, Target, put_fixed};
 use std::alloc::{AllocError, Global};
 
-// How long so many bytes are with their nops. With the width in each case there is no division.
+/// How long so many bytes are with their nops. With the width in each case there is no division.
 #[inline(always)]
 #[tactic(auto, using(crate::proofs::NopsLeft::up_to_four, crate::proofs::NopsLeft::up_to_eight))]
-fn filled_len(len: usize, size: Size) -> usize
+pub(crate) fn filled_len(len: usize, size: Size) -> usize
     requires { len + 8 < 2 ^ 64 }
     ensures { result ≡ len + missing size len }
 {

@@ -6,7 +6,6 @@ ghost use Rattle.std.specs.Ordering.{nat_cmp};
 ghost use Rattle.dw_cfa.specs.RegisterSets.{AgreesBeside, SameBeside};
 ghost use Rattle.dw_cfa.specs.Rows.{Rules};
 ghost use Rattle.dw_section.specs.Changes.{kept_by};
-ghost use Rattle.dw_section.specs.Meaning.{ChangesOf};
 ghost use Rattle.dw_section.specs.declared.opening.CieRow.{CieRow as TheRow};
 ghost use Rattle.dw_section.specs.Opening.{CieLeaves, OpensBehind};
 ghost use Rattle.dw_canon.specs.Inner.Canon.{canon};
@@ -23,25 +22,6 @@ use dw_section::{Behind, Changes, CieRow, FdeRef, Table, section_laws};
 use std::alloc::{AllocError, Global};
 use std::collections::BTreeMap;
 
-// Goes to the begin of an FDE that changes were gone on to, and lists how its row stands to that of its CIE, where this is known.
-#[inline(always)]
-fn show_first<'a>(
-    changes: &mut Changes<'a>,
-    table: &Table<'a>,
-    fde: FdeRef,
-    changed: &mut RegisterSet<'a>,
-) -> Result<Option<Behind>, AllocError>
-    requires place { IsListed table.now fde.place }
-    requires changes { OfFde table.now fde.place (λ f. ChangesOf table.now.target table.now.bytes f changes.old.to_come) }
-    ensures behind { OfMember table.now fde.place (λ m. OnOk result (BehindFirst m changes.new)) }
-    ensures shown { OnOk result (IsShown changes.new) }
-    ensures stands { IfOk result (λ found. IfSome found (ShownBehind changes.new changed.new)) }
-    ensures section { changes.new.section ≡ changes.old.section }
-{
-    table.accepted();
-    changes.advance_behind(changed)
-}
-
 /// Goes on to the changes of an FDE behind its begin, whose row is lent, and lists how that stands to the row of its CIE, where
 /// this is known.
 pub(crate) fn go_behind_first<'a>(
@@ -57,8 +37,9 @@ pub(crate) fn go_behind_first<'a>(
     ensures stands { IfOk result (λ found. IfSome found (ShownBehind changes.new changed.new)) }
     ensures section { changes.new.section ≡ table.now }
 {
+    table.accepted();
     table.go_on(changes, fde);
-    show_first(changes, table, fde, changed)
+    changes.advance_behind(changed)
 }
 
 // Narrows the row of a group to what one more FDE shares with it, whose row at its begin is shown.
@@ -248,7 +229,7 @@ fn gather<'a>(
     'fdes: for place in 0..table.fde_count() {
         let fde = FdeRef { place };
         let opening = table.opening(fde);
-        total = add_share(total, opening.program.len(), opening.initial, cap);
+        total = add_share(total, opening.own, opening.initial, cap);
         joined = join_fde(rows, changes, known, table, fde, opening.row, joined)?;
     }
     Ok(total.is_some())

@@ -4,19 +4,20 @@ ghost use Rattle.std.specs.Prelude.{◌≡◌, ◌∷◌, ◌++◌, ◌<◌, ◌
 ghost use Rattle.std.specs.Int.{is_positive};
 ghost use Rattle.dw_num.specs.Shortest.{shortest_uleb, shortest_sleb};
 ghost use Rattle.dw_cfa.specs.InstrSpells.{IsOffset};
+ghost use Rattle.dw_cfa.specs.Rows.{rule};
 ghost use Rattle.dw_section.specs.Fits.{HasBlock, RuleFits};
-ghost use Rattle.dw_cfa.specs.declared.instr.Instr.TheVariants.{SetLoc, DefCfaOffset};
+ghost use Rattle.dw_cfa.specs.declared.instr.Instr.TheVariants.{SetLoc, DefCfa, DefCfaRegister, DefCfaOffset, DefCfaExpression};
 ghost use Rattle.dw_canon.specs.Inner.Fits.{InstrFits};
 ghost use Rattle.dw_canon.specs.Inner.Spelling.{expression_bytes, rule_bytes, instr_bytes};
 ghost use Rattle.dw_canon.specs.Spelling.{advance_bytes, packed};
 
 use crate::opcode::{
     ADVANCE_LOC, ADVANCE_LOC1, ADVANCE_LOC2, ADVANCE_LOC4, DEF_CFA, DEF_CFA_EXPRESSION,
-    DEF_CFA_OFFSET, DEF_CFA_OFFSET_SF, DEF_CFA_REGISTER, DEF_CFA_SF, EXPRESSION, NOP, OFFSET,
-    OFFSET_EXTENDED, OFFSET_EXTENDED_SF, REGISTER, REMEMBER_STATE, RESTORE, RESTORE_EXTENDED,
-    RESTORE_STATE, SAME_VALUE, SET_LOC, UNDEFINED, VAL_EXPRESSION, VAL_OFFSET, VAL_OFFSET_SF,
+    DEF_CFA_OFFSET, DEF_CFA_OFFSET_SF, DEF_CFA_REGISTER, DEF_CFA_SF, EXPRESSION, OFFSET,
+    OFFSET_EXTENDED, OFFSET_EXTENDED_SF, REGISTER, SAME_VALUE, SET_LOC, UNDEFINED, VAL_EXPRESSION,
+    VAL_OFFSET, VAL_OFFSET_SF,
 };
-use dw_cfa::{Instr, RegRule};
+use dw_cfa::{RegRule, Row};
 use dw_num::{Order, Target, put_fixed, put_sleb, put_uleb};
 use dw_op::ExprRef;
 use std::alloc::AllocError;
@@ -166,19 +167,19 @@ pub(crate) fn push_offset(out: &mut Vec<u8>, register: u16, offset: i64) -> Resu
     push_uleb(out, offset.unsigned_abs())
 }
 
-/// Appends what gives a register a rule.
-#[inline(always)]
+/// Appends what gives a register its rule of a row. Out of line: room for a rule is cleared at each register else.
+#[inline(never)]
 pub(crate) fn push_rule(
     out: &mut Vec<u8>,
+    row: &Row<'_>,
     register: u16,
-    rule: &RegRule<'_>,
     target: Target,
 ) -> Result<(), AllocError>
-    requires { RuleFits target rule.now }
-    ensures { OnOk result (out.new.items ≡ out.old.items ++ rule_bytes target register rule.now) }
+    requires { RuleFits target (rule row.now register) }
+    ensures { OnOk result (out.new.items ≡ out.old.items ++ rule_bytes target register (rule row.now register)) }
 {
     let number = u64::from(register);
-    match rule {
+    match &row.rule(register) {
         RegRule::Unspecified => Ok(()),
         RegRule::Undefined => push_with(out, UNDEFINED, number),
         RegRule::SameValue => push_with(out, SAME_VALUE, number),
@@ -224,39 +225,50 @@ pub(crate) fn push_cfa_offset(
     push_with(out, DEF_CFA_OFFSET, offset.unsigned_abs())
 }
 
-/// Appends an instruction, and may leave some of it where memory runs out.
+/// Appends what gives the CFA another register.
+#[inline(always)]
 #[tactic(auto, unfolding(dw_canon::specs::Spelling::instr_bytes))]
-pub(crate) fn push_instr(
+pub(crate) fn push_cfa_register(
     out: &mut Vec<u8>,
-    instr: &Instr<'_>,
+    register: u16,
     target: Target,
 ) -> Result<(), AllocError>
-    requires { InstrFits target instr.now }
-    ensures { OnOk result (out.new.items ≡ out.old.items ++ instr_bytes target instr.now) }
+    ensures { OnOk result (out.new.items ≡ out.old.items ++ instr_bytes target (DefCfaRegister register)) }
 {
-    match instr {
-        Instr::Nop => Ok(out.push(NOP)?),
-        Instr::SetLoc(address) => push_set_loc(out, *address, target),
-        Instr::Advance(delta) => push_advance(out, target.order, *delta as u32),
-        Instr::DefCfa { register, offset } => {
-            if *offset < 0 {
-                push_with(out, DEF_CFA_SF, u64::from(*register))?;
-                return push_sleb(out, -*offset);
-            }
-            push_with(out, DEF_CFA, u64::from(*register))?;
-            push_uleb(out, offset.unsigned_abs())
-        }
-        Instr::DefCfaRegister(register) => {
-            push_with(out, DEF_CFA_REGISTER, u64::from(*register))
-        }
-        Instr::DefCfaOffset(offset) => push_cfa_offset(out, *offset, target),
-        Instr::DefCfaExpression(expression) => {
-            out.push(DEF_CFA_EXPRESSION)?;
-            push_expression(out, expression, target)
-        }
-        Instr::Set(register, rule) => push_rule(out, *register, rule, target),
-        Instr::Restore(register) => push_packed(out, RESTORE, RESTORE_EXTENDED, *register),
-        Instr::RememberState => Ok(out.push(REMEMBER_STATE)?),
-        Instr::RestoreState => Ok(out.push(RESTORE_STATE)?),
+    let _ = target;
+    push_with(out, DEF_CFA_REGISTER, u64::from(register))
+}
+
+/// Appends what makes the CFA a register plus an offset.
+#[tactic(auto, unfolding(dw_canon::specs::Spelling::instr_bytes))]
+pub(crate) fn push_def_cfa(
+    out: &mut Vec<u8>,
+    register: u16,
+    offset: i64,
+    target: Target,
+) -> Result<(), AllocError>
+    requires { InstrFits target (DefCfa register offset) }
+    ensures { OnOk result (out.new.items ≡ out.old.items ++ instr_bytes target (DefCfa register offset)) }
+{
+    let _ = target;
+    if offset < 0 {
+        push_with(out, DEF_CFA_SF, u64::from(register))?;
+        return push_sleb(out, -offset);
     }
+    push_with(out, DEF_CFA, u64::from(register))?;
+    push_uleb(out, offset.unsigned_abs())
+}
+
+/// Appends what makes the CFA what an expression gives.
+#[tactic(auto, unfolding(dw_canon::specs::Spelling::instr_bytes))]
+pub(crate) fn push_cfa_expression(
+    out: &mut Vec<u8>,
+    expression: &ExprRef<'_>,
+    target: Target,
+) -> Result<(), AllocError>
+    requires { HasBlock target expression.now }
+    ensures { OnOk result (out.new.items ≡ out.old.items ++ instr_bytes target (DefCfaExpression expression.now)) }
+{
+    out.push(DEF_CFA_EXPRESSION)?;
+    push_expression(out, expression, target)
 }

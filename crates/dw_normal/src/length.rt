@@ -48,7 +48,7 @@ fn behind_member<'r, 'a>(
     table: &Table<'a>,
     fde: FdeRef,
 ) -> Result<Option<u128>, AllocError>
-    requires room { room < 2 ^ 64 }
+    requires room { room < 2 ^ 32 }
     requires place { IsListed table.now fde.place }
     requires rows { AreInitial table.now rows.now.entries }
     requires section { begun.old.changes.section ≡ table.now }
@@ -79,7 +79,7 @@ fn behind_all<'r, 'a>(
     table: &Table<'a>,
     count: usize,
 ) -> Result<Option<u128>, AllocError>
-    requires room { room < 2 ^ 64 }
+    requires room { room < 2 ^ 32 }
     requires count { AreListed table.now count }
     requires rows { AreInitial table.now rows.now.entries }
     requires section { begun.old.changes.section ≡ table.now }
@@ -104,7 +104,7 @@ fn behind_fdes<'a>(
     rows: &BTreeMap<u16, Row<'a>>,
     table: &Table<'a>,
 ) -> Result<Option<u128>, AllocError>
-    requires room { room < 2 ^ 64 }
+    requires room { room < 2 ^ 32 }
     requires rows { AreInitial table.now rows.now.entries }
     ensures { OfMembers table.now (λ ms. IfOk result (Leaves room (length (fdes_bytes table.now.target ms ms)))) }
 {

@@ -4,7 +4,6 @@
 mod apart;
 mod begun;
 mod bound;
-mod cfa_change;
 mod contents;
 mod differences;
 mod entry;
@@ -18,7 +17,6 @@ mod normal;
 mod opcode;
 mod preparation;
 mod program;
-mod restored;
 mod room;
 mod sink;
 mod tape;

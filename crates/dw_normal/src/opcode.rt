@@ -1,7 +1,5 @@
 //! The opcodes of call frame instructions (7.24, table 7.29).
 
-pub(crate) const NOP: u8 = 0x00;
-
 pub(crate) const SET_LOC: u8 = 0x01;
 
 pub(crate) const ADVANCE_LOC1: u8 = 0x02;
@@ -19,10 +17,6 @@ pub(crate) const UNDEFINED: u8 = 0x07;
 pub(crate) const SAME_VALUE: u8 = 0x08;
 
 pub(crate) const REGISTER: u8 = 0x09;
-
-pub(crate) const REMEMBER_STATE: u8 = 0x0a;
-
-pub(crate) const RESTORE_STATE: u8 = 0x0b;
 
 pub(crate) const DEF_CFA: u8 = 0x0c;
 

@@ -56,18 +56,6 @@ fn measure_behind<'a>(
     }
 }
 
-// A table with the length of its normal form, where that is within a cap.
-fn measure<'a>(alloc: Global, table: Table<'a>, cap: u64) -> Result<Measured<'a>, ReadError>
-    requires cap { cap ≤ 2147483647 }
-    ensures found { IfOk result (λ m. (m.ready.table ≡ table.entry) × IsMeasured table.entry.target cap table.entry.bytes m.ready.rows.entries m.len) }
-    ensures first { IfErr result (Refuses (λ r. IsTooLong table.entry.target cap table.entry.bytes × (r ≡ too_long))) }
-{
-    match initial_rows(alloc, &table, cap) {
-        Ok((rows, _)) => measure_behind(alloc, table, rows, cap),
-        Err(_) => Err(ReadError::OutOfMemory),
-    }
-}
-
 /// A section with the length of its normal form, where that is within a cap.
 pub(crate) fn measured_section<'a>(
     alloc: Global,
@@ -80,7 +68,10 @@ pub(crate) fn measured_section<'a>(
     ensures first { IfErr result (Refuses (NormalFault target cap bytes.now)) }
 {
     let table = check(alloc, bytes, target)?;
-    measure(alloc, table, cap)
+    match initial_rows(alloc, &table, cap) {
+        Ok((rows, _)) => measure_behind(alloc, table, rows, cap),
+        Err(_) => Err(ReadError::OutOfMemory),
+    }
 }
 
 /// A table whose normal form is within a cap. Where the lengths of its programs show it, none of them is run.
@@ -97,8 +88,8 @@ pub(crate) fn short_table<'a>(
     if is_short(&table, cap) {
         return Ok(table);
     }
-    match measure(alloc, table, cap) {
-        Ok(measured) => Ok(measured.ready.table),
+    match ready_table(alloc, table, cap) {
+        Ok(ready) => Ok(ready.table),
         Err(error) => Err(error),
     }
 }

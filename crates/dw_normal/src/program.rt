@@ -5,6 +5,7 @@ ghost use Rattle.dw_num.specs.Target.{address_limit};
 ghost use Rattle.std.specs.List.{AllByRecursion};
 ghost use Rattle.dw_canon.specs.Difference.{move};
 ghost use Rattle.dw_canon.specs.Inner.Difference.{difference, cfa_difference, rule_to};
+ghost use Rattle.dw_cfa.specs.Inner.Agreement.{same_cfa, same_rule};
 ghost use Rattle.dw_cfa.specs.Rows.{rule};
 ghost use Rattle.dw_normal.specs.Inner.Apart.{StandsApart};
 ghost use Rattle.dw_normal.specs.Inner.Differences.{Tells};
@@ -15,17 +16,24 @@ ghost use Rattle.dw_canon.specs.Inner.Spelling.{instr_bytes, program_bytes, rule
 ghost use Rattle.dw_section.specs.Fits.{RuleFits};
 
 use crate::apart::Apart;
-use crate::cfa_change::cfa_difference;
 use crate::differences::Differences;
 use crate::instruction::{
-    push_advance, push_cfa_offset, push_instr, push_offset, push_packed, push_rule, push_set_loc,
+    push_advance, push_cfa_expression, push_cfa_offset, push_cfa_register, push_def_cfa,
+    push_offset, push_packed, push_rule, push_set_loc,
 };
 use crate::opcode::{RESTORE, RESTORE_EXTENDED};
-use crate::restored::is_restored;
 use dw_cfa::{CfaRule, Row};
 use dw_num::Target;
 use dw_section::Changes;
 use std::alloc::AllocError;
+
+// Whether nothing has to be changed.
+#[inline(always)]
+fn stays(old: &CfaRule<'_>, new: &CfaRule<'_>) -> bool
+    ensures { result ≡ same_cfa old.now new.now }
+{
+    old.is_same(new)
+}
 
 // Appends what leads from one rule of the CFA to another.
 #[inline(never)]
@@ -38,23 +46,9 @@ fn push_other_cfa(
     requires { AllByRecursion (InstrFits target) (cfa_difference old.now new.now) }
     ensures { OnOk result (out.new.items ≡ out.old.items ++ program_bytes target (cfa_difference old.now new.now)) }
 {
-    match cfa_difference(old, new) {
-        Some(instr) => push_instr(out, &instr, target),
-        None => Ok(()),
+    if stays(old, new) {
+        return Ok(());
     }
-}
-
-// Appends the same: mostly another offset from the same register.
-#[inline(always)]
-fn push_cfa_rule(
-    out: &mut Vec<u8>,
-    old: &CfaRule<'_>,
-    new: &CfaRule<'_>,
-    target: Target,
-) -> Result<(), AllocError>
-    requires { AllByRecursion (InstrFits target) (cfa_difference old.now new.now) }
-    ensures { OnOk result (out.new.items ≡ out.old.items ++ program_bytes target (cfa_difference old.now new.now)) }
-{
     match (old, new) {
         (
             CfaRule::Register { register, offset },
@@ -63,19 +57,27 @@ fn push_cfa_rule(
                 offset: n,
             },
         ) => {
-            if *register != *r {
-                return push_other_cfa(out, old, new, target);
+            if *register == *r {
+                push_cfa_offset(out, *n, target)
+            } else if *offset == *n {
+                push_cfa_register(out, *r, target)
+            } else {
+                push_def_cfa(out, *r, *n, target)
             }
-            if *offset == *n {
-                return Ok(());
-            }
-            push_cfa_offset(out, *n, target)
         }
-        _ => push_other_cfa(out, old, new, target),
+        (
+            _,
+            CfaRule::Register {
+                register: r,
+                offset: n,
+            },
+        ) => push_def_cfa(out, *r, *n, target),
+        (_, CfaRule::Expression(e)) => push_cfa_expression(out, e, target),
+        (_, CfaRule::Unset) => Ok(()),
     }
 }
 
-// Appends what leads from the CFA's rule of one row to that of another.
+// Appends what leads from the CFA's rule of one row to that of another: mostly another offset from the same register.
 #[inline(always)]
 fn push_cfa<'a>(
     out: &mut Vec<u8>,
@@ -86,7 +88,22 @@ fn push_cfa<'a>(
     requires { AllByRecursion (InstrFits target) (cfa_difference before.now.cfa after.now.cfa) }
     ensures { OnOk result (out.new.items ≡ out.old.items ++ program_bytes target (cfa_difference before.now.cfa after.now.cfa)) }
 {
-    push_cfa_rule(out, before.cfa_rule(), after.cfa_rule(), target)
+    let (old, new) = (before.cfa_rule(), after.cfa_rule());
+    match (old, new) {
+        (
+            CfaRule::Register { register, offset },
+            CfaRule::Register {
+                register: r,
+                offset: n,
+            },
+        ) if *register == *r => {
+            if *offset == *n {
+                return Ok(());
+            }
+            push_cfa_offset(out, *n, target)
+        }
+        _ => push_other_cfa(out, old, new, target),
+    }
 }
 
 // Appends what gives a register the rule that a row gives it: mostly that it is saved, and then no rule is moved about.
@@ -102,8 +119,16 @@ fn push_rule_of<'a>(
 {
     match row.offset_of(register) {
         Some(offset) => push_offset(out, register, offset),
-        None => push_rule(out, register, &row.rule(register), target),
+        None => push_rule(out, row, register, target),
     }
+}
+
+// Whether the rule of a register of a row is the initial one, which `Restore` gives it.
+#[inline(always)]
+fn is_restored(row: &Row<'_>, initial: &Row<'_>, register: u16) -> bool
+    ensures { result ≡ same_rule (rule row.now register) (rule initial.now register) }
+{
+    row.has_same_rule(initial, register)
 }
 
 // Appends what gives a register its rule of a row: `Restore` where it is the initial one.

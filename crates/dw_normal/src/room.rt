@@ -8,13 +8,12 @@ ghost use Rattle.dw_canon.specs.Inner.Difference.{difference};
 ghost use Rattle.dw_canon.specs.Inner.Fits.{InstrFits};
 ghost use Rattle.dw_canon.specs.Inner.Spelling.{program_bytes};
 ghost use Rattle.dw_canon.specs.Inner.Written.{entry_bytes};
-ghost use Rattle.dw_canon.specs.Written.{missing};
 ghost use Rattle.dw_normal.specs.Inner.Apart.{StandsApart};
 ghost use Rattle.dw_normal.specs.Inner.Lengths.{Leaves, FdeLeaves, cie_with};
 ghost use Rattle.dw_normal.specs.Inner.ChangeWalk.{IsShown, Stand, later_bytes, shown_row};
 
 use crate::apart::Apart;
-use crate::contents::fill_cie;
+use crate::contents::{fill_cie, filled_len};
 use crate::program::{push_change, push_first, push_move};
 use dw_cfa::Row;
 use dw_num::Target;
@@ -58,15 +57,6 @@ pub(crate) fn behind_later<'a>(
         at = address;
     }
     Ok(Some(left))
-}
-
-// So many bytes, and the nops behind them that fill them up to a multiple of the address size.
-fn filled_up(len: u128, target: Target) -> u128
-    requires { len < 2 ^ 100 }
-    ensures { result ≡ len + missing target.size len }
-{
-    let width = u128::from(target.size.byte_count());
-    len + (width - len % width) % width
 }
 
 /// What is left of room behind a CIE with an initial row, which a buffer holds then.
@@ -113,7 +103,7 @@ pub(crate) fn behind_fde<'a>(
     begin: u128,
     target: Target,
 ) -> Result<Option<u128>, AllocError>
-    requires room { room < 2 ^ 64 }
+    requires room { room < 2 ^ 32 }
     requires apart { StandsApart apart.now shared.now (shown_row changes.old) }
     requires first { AllByRecursion (InstrFits target) (difference shared.now shared.now (shown_row changes.old)) }
     requires stand { Stand target shared.now begin changes.old }
@@ -126,6 +116,6 @@ pub(crate) fn behind_fde<'a>(
     let Some(rest) = behind_later(left, out, changes, shared, begin, target)? else {
         return Ok(None);
     };
-    let fields = 8 + 2 * u128::from(target.size.byte_count());
-    Ok(behind(room, filled_up(fields + (room - rest), target)))
+    let len = 8 + 2 * usize::from(target.size.byte_count()) + (room - rest) as usize;
+    Ok(behind(room, filled_len(len, target.size) as u128))
 }

@@ -1,5 +1,5 @@
 -- A section has entries and headers, or a first fault in their way.
-use Rattle.dw_section.proofs.Words.{◌≡◌, ℕ, zero, suc, ◌+◌, ◌<◌, ◌≤◌, ◌==◌, ◌&&◌, ◌⊎◌, true, List, [], ◌∷◌, ◌++◌, length, map, take, refl, sym, ap, subst, ◌∙◌, arith, inl, inr, Ok, Err, AllByRecursion, append-nil, length-append}
+use Rattle.dw_section.proofs.Words.{◌≡◌, ℕ, zero, suc, ◌<◌, ◌≤◌, ◌==◌, ◌&&◌, ◌⊎◌, true, List, [], ◌∷◌, ◌++◌, length, map, take, refl, sym, ap, subst, ◌∙◌, arith, inl, inr, Ok, Err, AllByRecursion, append-nil, length-append}
 use Rattle.dw_section.proofs.Words.{take-append-drop, length-take-le, cases_Bool, cases_lt, eqb_tells, lt-ltb, le-ltb, ok_is, done, cons_option, taken_bytes, unit_length_at, Read, ◌>>=◌, AreBytes, Input, Takes, behind, Order, Dwarf32, Dwarf64, Form, Target, Refusal}
 use Rattle.dw_section.proofs.Words.{FirstStuck, Then, IsAmong, Item, gap, entry, IsItem, item_bytes, item_at, body_at, is_32, id_width, length_bytes, all_bytes, piece_of, Piece, Pieces, CutFault, Entries, entry_of, cie_places, Kind, CieFields, FdeFields}
 use Rattle.dw_section.proofs.Words.{CieHolds, CieStuck, FdeHolds, FdeStuck, CieFieldsFault, CiesHold, HeadersFault, Head, Headers, cie_fields, fde_fields, contents_of, program_of}

@@ -85,7 +85,7 @@ pub use Rattle.dw_section.specs.Laws.{ChangesMean, LastChangeRules, RulesFit}
 pub use Rattle.dw_section.specs.Lookups.{Finding, LooksUp}
 pub use Rattle.dw_section.specs.Meaning.{AreFdes, ChangesOf, Covers, FdeSays, HasLengths, Lists, NoneCovers, Returns, RowStarts, RulesAt, Starts, total}
 pub use Rattle.dw_section.specs.Meanings.{SameMeaning}
-pub use Rattle.dw_section.specs.Opening.{HasProgram, OpensBehind}
+pub use Rattle.dw_section.specs.Opening.{OpensBehind}
 pub use Rattle.dw_section.specs.Overlap.{AreApart, Ascends, FirstOverlap, IsIndex, Precedes, Range, end_of, nonempty, range_of, with_range}
 pub use Rattle.dw_section.specs.Pieces.{Entries, Pieces, entry_of}
 pub use Rattle.dw_section.specs.Places.{cie_places, place_if}

@@ -2,7 +2,6 @@
 use Rattle.std.specs.Prelude.{◌≡◌, ℕ, true, List, Ok}
 use Rattle.dw_num.specs.declared.target.Target.{Target}
 use Rattle.dw_num.specs.Span.{input_of}
-use Rattle.dw_cfa.specs.declared.instr.Factors.{Factors}
 use Rattle.dw_cfa.specs.declared.instr.Instr.{Instr}
 use Rattle.dw_cfa.specs.Opening.{first_row, row_with}
 use Rattle.dw_cfa.specs.Behind.{LeavesTo}
@@ -25,14 +24,6 @@ pub record OpensBehind (target : Target) (s : List ℕ) (f : Fde) (row : CieRow)
   pub head : CieHead
   pub begins : InitialInstrs target says.headers row.cie_at head initial
   pub first : first_row instrs ≡ row_with row.cfa_offset
-
--- the program of the FDE has these bytes, and is read with these factors of its CIE
-pub record HasProgram (target : Target) (s : List ℕ) (f : Fde) (factors : Factors) (bytes : List ℕ) : Type 0 where
-  pub initial : List Instr
-  pub instrs : List Instr
-  pub says : FdeSays target s f.begin f.end initial instrs
-  pub factors_are : factors ≡ factors_of says.spelled.head
-  pub bytes_are : bytes ≡ says.head.program.bytes
 
 -- the program of the CIE at this place leaves this row
 pub record CieLeaves (target : Target) (s : List ℕ) (at : ℕ) (row : Rules) : Type 0 where

@@ -216,7 +216,7 @@ impl<'a> Model for Changes<'a> {
 }
 
 impl<'a> Changes<'a> {
-    // No change of a section is to come until `go_to` or `go_on` names an FDE.
+    // No change of a section is to come until `go_on` names an FDE.
     pub(crate) fn none(alloc: Global, bytes: &'a [u8], target: Target) -> Changes<'a>
         ensures { result ≡ changing (record { target = target; bytes = bytes.now }) [] 0 }
     {
@@ -233,17 +233,6 @@ impl<'a> Changes<'a> {
             end: 0,
             failed: false,
         }
-    }
-
-    // The changes of a section, which may be another one, from now on. None is to come that is known, and no walk of another
-    // CIE is kept.
-    pub(crate) fn turn_to(&mut self, bytes: &'a [u8], target: Target)
-        ensures { self.new.section ≡ record { target = target; bytes = bytes.now } }
-    {
-        self.bytes = bytes;
-        self.target = target;
-        self.cie_at = None;
-        self.away.clear();
     }
 
     // Goes to the changes of an FDE of the section, also where memory ran out before. The walk of a CIE with a long program

@@ -40,7 +40,7 @@ pub struct Ranged {
 }
 
 // What is kept of an entry, where it is a nonempty FDE.
-fn range_of(header: &Header<'_>, initials: &[Initial<'_>]) -> Option<Ranged>
+fn range_of(header: &Header<'_>, initials: &[Initial<'_>], found: usize) -> Option<Ranged>
     requires fits { (target : TheTarget) × Rises 0 (map place_of initials.now) × FdeFits target (map place_of initials.now) (head_in header.now) }
     requires below { head_at (head_in header.now) ≤ 2147483647 }
     ensures range { MatchOption result (nonempty (head_in header.now ∷ []) ≡ []) (λ e. nonempty (head_in header.now ∷ []) ≡ range_in e ∷ []) }
@@ -55,7 +55,7 @@ fn range_of(header: &Header<'_>, initials: &[Initial<'_>]) -> Option<Ranged>
             range,
             program: _,
         } if range > 0 => {
-            let initial = initial_at(initials, cie_at);
+            let initial = initial_at(initials, cie_at, found);
             Some(Ranged {
                 begin,
                 range,
@@ -72,6 +72,7 @@ fn keep_range(
     list: &mut Vec<Ranged>,
     header: &Header<'_>,
     initials: &[Initial<'_>],
+    found: usize,
 ) -> Result<(), ReadError>
     requires fits { (target : TheTarget) × Rises 0 (map place_of initials.now) × FdeFits target (map place_of initials.now) (head_in header.now) }
     requires below { head_at (head_in header.now) ≤ 2147483647 }
@@ -79,7 +80,7 @@ fn keep_range(
     ensures each { (target : TheTarget) (hs : List Head) → AllByRecursion (IsInitial target hs) initials.now → IsAmong (head_in header.now) hs → AllByRecursion (IsRanged hs) list.old.items → OnOk result (AllByRecursion (IsRanged hs) list.new.items) }
     ensures err { IfErr result (λ e. e ≡ OutOfMemory) }
 {
-    match range_of(header, initials) {
+    match range_of(header, initials, found) {
         Some(fde) => {
             list.push(fde)?;
             Ok(())
@@ -126,10 +127,11 @@ fn run_on<'a>(
 {
     let mut cursor = Cursor::new(bytes, 0, target);
     let mut lacking = None;
-    'headers: while let Some(header) = next_header(&mut cursor, places) {
+    let mut found = 0;
+    'headers: while let Some(header) = next_header(&mut cursor, places, &mut found) {
         let lacks = judge(runner, &header, initials, target)?;
         lacking = or_place(lacking, lacks, entry_at(&header));
-        keep_range(list, &header, initials)?;
+        keep_range(list, &header, initials, found)?;
     }
     Ok(lacking)
 }

@@ -142,12 +142,22 @@ pub(crate) fn read_cie(cursor: &mut Cursor<'_>, size: Size) -> Result<CieFields,
     read_factors(cursor, version)
 }
 
-// Whether a place is among ascending places.
-fn has_place(places: &[u64], place: u64) -> bool
+// Whether a place is among ascending places: mostly it stands where the one before was found.
+#[inline(always)]
+fn has_place(places: &[u64], place: u64, found: &mut usize) -> bool
     requires { Rises 0 places.now }
     ensures { result ≡ is_among place places.now }
 {
-    places.binary_search(&place).is_ok()
+    if *found < places.len() && places[*found] == place {
+        return true;
+    }
+    match places.binary_search(&place) {
+        Ok(index) => {
+            *found = index;
+            true
+        }
+        Err(_) => false,
+    }
 }
 
 // Whether a range ends in the address space.
@@ -163,6 +173,7 @@ fn in_space(size: Size, begin: u64, range: u64) -> bool
 pub(crate) fn read_fde(
     cursor: &mut Cursor<'_>,
     places: &[u64],
+    found: &mut usize,
     form: Form,
 ) -> Result<FdeFields, Refusal>
     requires { Rises 0 places.now }
@@ -171,7 +182,7 @@ pub(crate) fn read_fde(
     let size = cursor.target().size;
     let at = cursor.at();
     let cie_at = cursor.fixed(width_of(form))?;
-    if !has_place(places, cie_at) {
+    if !has_place(places, cie_at, found) {
         return Err(Refusal {
             code: Code::NoSuchCie,
             at,

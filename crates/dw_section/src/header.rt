@@ -128,6 +128,7 @@ pub(crate) fn read_initial<'a>(piece: &Placed<'a>, target: Target) -> Result<Ini
 pub(crate) fn read_entry<'a>(
     piece: &Placed<'a>,
     places: &[u64],
+    found: &mut usize,
     target: Target,
 ) -> Result<FdeEntry<'a>, Refusal>
     requires kind { piece.now.kind ≡ kind.Fde }
@@ -138,7 +139,7 @@ pub(crate) fn read_entry<'a>(
     let contents = piece.contents;
     are_bytes(contents.bytes);
     let mut cursor = Cursor::new(contents.bytes, contents.at, target);
-    let fields = read_fde(&mut cursor, places, piece.form)?;
+    let fields = read_fde(&mut cursor, places, found, piece.form)?;
     Ok(FdeEntry {
         at: piece.at,
         cie_at: fields.cie_at,
@@ -179,7 +180,12 @@ fn fde_header<'a>(form: Form, fde: FdeEntry<'a>) -> Header<'a>
 // The header of an entry whose fields hold if it is a CIE.
 #[tactic(auto, using(crate::proofs::Lent::HeaderLaws::fde_faulty))]
 #[inline(always)]
-fn header_of<'a>(piece: &Placed<'a>, places: &[u64], target: Target) -> Result<Header<'a>, Refusal>
+fn header_of<'a>(
+    piece: &Placed<'a>,
+    places: &[u64],
+    found: &mut usize,
+    target: Target,
+) -> Result<Header<'a>, Refusal>
     requires holds { CieHolds target (piece_in piece.now) }
     requires ascending { Rises 0 places.now }
     ensures found { IfOk result (λ h. Has target places.now (piece_in piece.now) (head_in h)) }
@@ -190,7 +196,7 @@ fn header_of<'a>(piece: &Placed<'a>, places: &[u64], target: Target) -> Result<H
             Ok(cie) => Ok(cie_header(piece.form, cie)),
             Err(refusal) => Err(refusal),
         },
-        Kind::Fde => match read_entry(piece, places, target) {
+        Kind::Fde => match read_entry(piece, places, found, target) {
             Ok(fde) => Ok(fde_header(piece.form, fde)),
             Err(refusal) => Err(refusal),
         },
@@ -239,14 +245,19 @@ fn find_cies(
 
 // Reads the fields of a piece that is an FDE.
 #[tactic(auto, using(crate::proofs::Lent::HeaderLaws::has_fde, crate::proofs::Lent::HeaderLaws::fde_faulty))]
-fn fde_holds(piece: &Placed<'_>, places: &[u64], target: Target) -> Result<(), Refusal>
+fn fde_holds(
+    piece: &Placed<'_>,
+    places: &[u64],
+    found: &mut usize,
+    target: Target,
+) -> Result<(), Refusal>
     requires { Rises 0 places.now }
     ensures found { IfOk result (λ _. FdeHolds target places.now (piece_in piece.now)) }
     ensures stuck { IfErr result (FdeStuck target places.now (piece_in piece.now)) }
 {
     match piece.kind {
         Kind::Cie => Ok(()),
-        Kind::Fde => match read_entry(piece, places, target) {
+        Kind::Fde => match read_entry(piece, places, found, target) {
             Ok(_) => Ok(()),
             Err(refusal) => Err(refusal),
         },
@@ -261,15 +272,20 @@ fn fdes_hold(bytes: &[u8], target: Target, places: &[u64]) -> Result<(), Refusal
     ensures first { IfErr result (HeadersFault target bytes.now) }
 {
     let mut cursor = Cursor::new(bytes, 0, target);
+    let mut found = 0;
     'pieces: while let Some(piece) = next_piece(&mut cursor) {
-        fde_holds(&piece, places, target)?;
+        fde_holds(&piece, places, &mut found, target)?;
     }
     Ok(())
 }
 
 // The next header of a section that has headers, or none behind the last one.
 #[inline(always)]
-pub(crate) fn next_header<'a>(cursor: &mut Cursor<'a>, places: &[u64]) -> Option<Header<'a>>
+pub(crate) fn next_header<'a>(
+    cursor: &mut Cursor<'a>,
+    places: &[u64],
+    found: &mut usize,
+) -> Option<Header<'a>>
     requires room { cursor.old.at + length cursor.old.bytes ≤ 2147483647 }
     requires ascending { Rises 0 places.now }
     requires headers { (hs : List Head) × HeadsLeft places.now cursor.old hs }
@@ -281,7 +297,7 @@ pub(crate) fn next_header<'a>(cursor: &mut Cursor<'a>, places: &[u64]) -> Option
     let Some(piece) = next_piece(cursor) else {
         return None;
     };
-    match header_of(&piece, places, target) {
+    match header_of(&piece, places, found, target) {
         Ok(header) => Some(header),
         Err(_) => None,
     }
@@ -302,8 +318,9 @@ fn read_headers<'a>(
 {
     let mut cursor = Cursor::new(bytes, 0, target);
     let mut headers = Vec::with_capacity(alloc, count)?;
+    let mut found = 0;
     'pieces: while let Some(piece) = next_piece(&mut cursor) {
-        headers.push(header_of(&piece, places, target)?)?;
+        headers.push(header_of(&piece, places, &mut found, target)?)?;
     }
     Ok(headers)
 }

@@ -127,7 +127,7 @@ pub(crate) fn found_fde<'a>(
         unreachable!();
     };
     let cie_at = pointer_of(&own, target);
-    let initial = initial_at(initials, cie_at);
+    let initial = initial_at(initials, cie_at, 0);
     FoundFde {
         at,
         begin: fde.begin,

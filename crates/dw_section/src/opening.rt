@@ -7,14 +7,14 @@ ghost use Rattle.dw_cfa.specs.InstrSpells.{ProgramSpells};
 ghost use Rattle.dw_cfa.specs.Opening.{first_row};
 ghost use Rattle.dw_section.specs.declared.lookup.Fde.{Fde as TheFde};
 ghost use Rattle.dw_section.specs.Meaning.{AreFdes, HasLengths};
-ghost use Rattle.dw_section.specs.Opening.{HasProgram, OpensBehind};
+ghost use Rattle.dw_section.specs.Opening.{OpensBehind};
 ghost use Rattle.dw_section.specs.declared.opening.CieRow.{CieRow as TheRow};
 ghost use Rattle.dw_section.specs.Inner.Opening.{row_behind};
 
 use crate::listed_fde::FoundFde;
 use crate::lookup::FdeRef;
 use crate::table::Table;
-use dw_cfa::{Factors, FirstRow, first_row};
+use dw_cfa::{FirstRow, first_row};
 use dw_num::Target;
 
 /// A row (6.4.1) that FDEs of one CIE begin with: the one that the program of the CIE (`initial_instructions`) leaves, or that
@@ -28,13 +28,11 @@ pub struct CieRow {
     pub cfa_offset: Option<i64>,
 }
 
-/// The program of an FDE (6.4.3), how long that of its CIE is, and how its own begins.
+/// How long the program of an FDE (6.4.3) and that of its CIE are, and how its own begins.
 #[derive(Clone, Copy, Debug, PartialEq, Eq)]
-pub struct Opening<'a> {
-    /// `instructions` of the FDE (6.4.1, 6.4.2), with the padding.
-    pub program: &'a [u8],
-    /// What it is read with: `code_alignment_factor` and `data_alignment_factor` of its CIE (6.4.1).
-    pub factors: Factors,
+pub struct Opening {
+    /// How many bytes `instructions` of the FDE (6.4.1, 6.4.2) has, with the padding.
+    pub own: usize,
     /// How many bytes `initial_instructions` of its CIE (6.4.1) has, with the padding.
     pub initial: usize,
     /// The row at its begin, `initial_location` (6.4.1), where the first instructions of its own program tell it (`first_row` of
@@ -56,29 +54,26 @@ fn row_behind(cie_at: u64, first: FirstRow) -> Option<CieRow>
 }
 
 #[inline(always)]
-fn opening_in<'a>(found: FoundFde<'a>, target: Target) -> Opening<'a>
-    ensures program { result.program.now ≡ found.entry.program.bytes.now }
-    ensures factors { result.factors ≡ found.entry.factors }
+fn opening_in(found: FoundFde<'_>, target: Target) -> Opening
+    ensures own { result.own ≡ length found.entry.program.bytes.now }
     ensures initial { result.initial ≡ length found.entry.cie_program.bytes.now }
     ensures row { (instrs : List Instr) → ProgramSpells target found.entry.factors instrs found.entry.program.bytes.now → result.row ≡ row_behind found.entry.cie_at (first_row instrs) }
 {
     let first = first_row(found.program, found.factors, target);
     Opening {
-        program: found.program.bytes,
-        factors: found.factors,
+        own: found.program.bytes.len(),
         initial: found.cie_program.bytes.len(),
         row: row_behind(found.cie_at, first),
     }
 }
 
 impl<'a> Table<'a> {
-    /// The program of an FDE of the list of `fdes`, how long that of its CIE is, and how its own begins: its fields are read once.
-    /// Takes no memory.
+    /// How long the program of an FDE of the list of `fdes` and that of its CIE are, and how its own begins: its fields are read
+    /// once. Takes no memory.
     #[inline(always)]
-    pub fn opening(&self, fde: FdeRef) -> Opening<'a>
+    pub fn opening(&self, fde: FdeRef) -> Opening
         requires { (fs : List TheFde) → AreFdes self.now.target self.now.bytes fs → fde.place < length fs }
-        ensures lengths { (fs : List TheFde) → AreFdes self.now.target self.now.bytes fs → (d : TheFde) → HasLengths self.now.target self.now.bytes (slice_index_or fs fde.place d) (length result.program.now) result.initial }
-        ensures program { (fs : List TheFde) → AreFdes self.now.target self.now.bytes fs → (d : TheFde) → HasProgram self.now.target self.now.bytes (slice_index_or fs fde.place d) result.factors result.program.now }
+        ensures lengths { (fs : List TheFde) → AreFdes self.now.target self.now.bytes fs → (d : TheFde) → HasLengths self.now.target self.now.bytes (slice_index_or fs fde.place d) result.own result.initial }
         ensures opens { (fs : List TheFde) → AreFdes self.now.target self.now.bytes fs → (d : TheFde) → IfSome result.row (OpensBehind self.now.target self.now.bytes (slice_index_or fs fde.place d)) }
         ensures only { (fs : List TheFde) → AreFdes self.now.target self.now.bytes fs → (d : TheFde) (row : TheRow) → OpensBehind self.now.target self.now.bytes (slice_index_or fs fde.place d) row → IsSome result.row }
     {

@@ -30,7 +30,7 @@ ghost use Rattle.dw_section.specs.Accepted.{RulesFault};
 
 use crate::entry::{Kind, Placed, next_piece};
 use crate::header::{Header, Initial, read_initial};
-use dw_cfa::{CieMachine, Factors, Row, behind_laws};
+use dw_cfa::{CieMachine, Row, behind_laws};
 use dw_num::{Cursor, Program, ReadError, Target, are_bytes};
 use std::alloc::{AllocError, Global};
 
@@ -122,24 +122,33 @@ pub(crate) fn run_cies<'a>(
     Ok(initials)
 }
 
-// Where among them the one of the CIE at a place stands.
-fn index_of(initials: &[Initial<'_>], place: u64) -> usize
+// Where among them the one of the CIE at a place stands: mostly where a place was found.
+#[inline(always)]
+fn index_of(initials: &[Initial<'_>], place: u64, found: usize) -> usize
     requires ascending { Rises 0 (map place_of initials.now) }
     requires among { is_among place (map place_of initials.now) ≡ true }
     ensures in_list { result < length initials.now }
     ensures place { (d : TheInitial) → (slice_index_or initials.now result d).at ≡ place }
 {
+    if found < initials.len() && initials[found].at == place {
+        return found;
+    }
     initials.partition_point(|initial| initial.at < place)
 }
 
-/// What the FDEs of the CIE at a place begin with.
-pub(crate) fn initial_at<'c, 'a>(initials: &'c [Initial<'a>], place: u64) -> &'c Initial<'a>
+/// What the FDEs of the CIE at a place begin with. It is sought first where a place was found.
+#[inline(always)]
+pub(crate) fn initial_at<'c, 'a>(
+    initials: &'c [Initial<'a>],
+    place: u64,
+    found: usize,
+) -> &'c Initial<'a>
     requires ascending { Rises 0 (map place_of initials.now) }
     requires among { is_among place (map place_of initials.now) ≡ true }
     ensures place { result.now.at ≡ place }
     ensures is { (target : TheTarget) (hs : List Head) → AllByRecursion (IsInitial target hs) initials.now → IsInitial target hs result.now }
 {
-    &initials[index_of(initials, place)]
+    &initials[index_of(initials, place, found)]
 }
 
 // Runs an FDE's program, and says whether one of its addresses has no rule for the CFA.
@@ -171,13 +180,15 @@ fn machine_of<'a>(
     ensures { (hs : List Head) → IsInitial target hs initial.now → IfOk result (IsBehind target hs (Some initial.now.at)) }
 {
     are_bytes(initial.program.bytes);
-    match CieMachine::new(alloc, initial.program, initial.factors, target) {
-        Ok(machine) => Ok(machine),
+    let mut machine = CieMachine::new(alloc, target);
+    match machine.go_to(initial.program, initial.factors, target) {
+        Ok(()) => Ok(machine),
         Err(_) => Err(AllocError),
     }
 }
 
-// Keeps a machine for a CIE, where its program is long.
+// Keeps a machine for a CIE. Out of line: else its room is cleared for each CIE.
+#[inline(never)]
 fn keep_long<'a>(
     long: &mut Vec<Long<'a>>,
     initial: &Initial<'a>,
@@ -185,9 +196,6 @@ fn keep_long<'a>(
 ) -> Result<(), AllocError>
     ensures { (hs : List Head) → IsInitial target hs initial.now → AllByRecursion (IsLong target hs) long.old.items → OnOk result (AllByRecursion (IsLong target hs) long.new.items) }
 {
-    if initial.program.bytes.len() <= LONG {
-        return Ok(());
-    }
     let alloc = *long.allocator();
     let machine = machine_of(alloc, initial, target)?;
     long.push(Long {
@@ -207,7 +215,9 @@ fn long_machines<'a>(
 {
     let mut long = Vec::new(alloc);
     for initial in initials {
-        keep_long(&mut long, initial, target)?;
+        if initial.program.bytes.len() > LONG {
+            keep_long(&mut long, initial, target)?;
+        }
     }
     Ok(long)
 }
@@ -221,17 +231,8 @@ impl<'a> Runner<'a> {
     ) -> Result<Runner<'a>, AllocError>
         ensures { (hs : List Head) → AllByRecursion (IsInitial target hs) initials.now → IfOk result (IsRunner target hs) }
     {
-        let nothing = Initial {
-            at: 0,
-            factors: Factors {
-                code_factor: 1,
-                data_factor: 1,
-            },
-            return_register: 0,
-            program: Program { bytes: &[], at: 0 },
-        };
         Ok(Runner {
-            machine: machine_of(alloc, &nothing, target)?,
+            machine: CieMachine::new(alloc, target),
             behind: None,
             long: long_machines(alloc, initials, target)?,
         })
@@ -249,7 +250,7 @@ fn go_behind<'a>(
     requires among { is_among place (map place_of initials.now) ≡ true }
     ensures { (hs : List Head) → AllByRecursion (IsInitial target hs) initials.now → IsRunner target hs runner.old → OnOk result ((runner.new.behind ≡ Some place) × IsRunner target hs runner.new) }
 {
-    let cie = initial_at(initials, place);
+    let cie = initial_at(initials, place, 0);
     are_bytes(cie.program.bytes);
     match runner.machine.go_to(cie.program, cie.factors, target) {
         Ok(()) => {

@@ -6,8 +6,7 @@ ghost use Rattle.dw_num.specs.Target.{address_limit};
 use crate::Calls;
 use crate::expressions::on_expression;
 use dw_cfa::{
-    CfaRule, CieMachine, Factors, Instr, Instructions, RegRule, Row, RowSteps, RowWalk,
-    initial_row, run,
+    CfaRule, CieMachine, Factors, Instr, Instructions, RegRule, Row, RowSteps, RowWalk, run,
 };
 use dw_num::{Program, Target};
 use dw_section::{Header, headers};
@@ -178,13 +177,15 @@ fn print_lacking<'a>(
 fn lacking(rt: &impl Calls, entry: Entry<'_>, begin: u64, target: Target) -> Result<(), Fail>
     requires { begin < address_limit target.size }
 {
-    let mut machine = CieMachine::new(rt.alloc(), entry.cie, entry.factors, target)?;
+    let mut machine = CieMachine::new(rt.alloc(), target);
+    machine.go_to(entry.cie, entry.factors, target)?;
     print_lacking(rt, &mut machine, entry.program, begin)?;
     print_lacking(rt, &mut machine, entry.program, begin)
 }
 
 fn print_initial(rt: &impl Calls, entry: Entry<'_>, target: Target) -> Result<(), Fail> {
-    let row = initial_row(rt.alloc(), entry.cie, entry.factors, target)?;
+    let mut row = Row::blank(rt.alloc());
+    row.become_initial(entry.cie, entry.factors, target)?;
     Ok(print_row(rt, 0, &row)?)
 }
 
@@ -207,7 +208,8 @@ fn on_fde(rt: &impl Calls, call: &str, entry: Entry<'_>, target: Target) -> Resu
         "copied" => {}
         _ => return print_initial(rt, entry, target),
     }
-    let row = initial_row(rt.alloc(), entry.cie, entry.factors, target)?;
+    let mut row = Row::blank(rt.alloc());
+    row.become_initial(entry.cie, entry.factors, target)?;
     print_copied(rt, &row)
 }
 

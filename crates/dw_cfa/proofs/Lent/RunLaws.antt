@@ -1,6 +1,6 @@
 -- The two halves of a run, and where its rows start.
 use Rattle.dw_cfa.proofs.Words.{◌≡◌, ◌⊎◌, ℕ, Result, Ok, Err, sym, ap, ◌∙◌, subst, inl, inr, Factors, Input, Machine, Outcome, Progress, Refusal, Rules, Stepping, address_limit, blank, begun, placed, initial_row, on_initial, rows_left}
-use Rattle.dw_cfa.proofs.Words.{run_rows, begun_rows, left_of, state_of}
+use Rattle.dw_cfa.proofs.Words.{run_rows, left_of, state_of}
 use Rattle.dw_cfa.specs.declared.steps.Progress.TheVariants as progress
 pub use Rattle.dw_cfa.proofs.Lent.Listings.{placed_program, program_placed}
 use Rattle.dw_cfa.proofs.Lent.RowsAt.{RowsFrom, refused_from, rows_from}
@@ -23,8 +23,5 @@ left_from f i m = rows_from m.limit m.initial (placed f i).items (placed f i).fa
 module _ (f : Factors) (cie fde : Input) (m : Machine) where
   -- what is left begins where the machine stands
   pub next_from : (p : Progress) (s : Stepping) → (p ≡ progress.Begun) ⊎ (p ≡ progress.Running) → left_of p f cie fde m ≡ s → RowsFrom m.location s.outcome
-  unfolding begun_rows
-  next_from p s (inl is) e =
-      subst (λ (x : Stepping). RowsFrom m.location x.outcome) (ap (λ (q : Progress). left_of q f cie fde m) (sym is) ∙ e)
-      (on_initial_from (initial_row (placed f cie) m.states.row) _ m.location (λ initial. rows_from m.limit initial (placed f fde).items (placed f fde).fault (begun initial m.location)))
+  next_from p s (inl is) e = subst (λ (x : Stepping). RowsFrom m.location x.outcome) (ap (λ (q : Progress). left_of q f cie fde m) (sym is) ∙ e) (run_from f cie fde m.location)
   next_from p s (inr is) e = subst (λ (x : Stepping). RowsFrom m.location x.outcome) (ap (λ (q : Progress). left_of q f cie fde m) (sym is) ∙ e) (left_from f fde m)

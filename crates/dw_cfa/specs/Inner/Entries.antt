@@ -55,6 +55,10 @@ listed_near k used near expressions far = listed_from k (128 - k) (near_rule use
 abbrev pub entries_of : Entries → List (ℕ × RegRule)
 entries_of e = listed_near 0 e.used e.slots e.expressions.entries e.far.entries
 
+-- the slots of a mask are those of others
+abbrev pub SameSlots : ℕ → List Slot → List Slot → Type 0
+SameSlots mask others near = (q : ℕ) → bit_at mask q ≡ 1 → get_or near q no_slot ≡ get_or others q no_slot
+
 -- a register that the mask has has a rule
 abbrev pub Holds : ℕ → List Slot → List (ℕ × RegRule) → Type 0
 Holds used near expressions = (q : ℕ) → bit_at used q ≡ 1 → IsTrue (is_specified (near_rule used near expressions q))

@@ -75,14 +75,17 @@ pub record WalksSo (p : Progress) (kept : Bool) (l : Leading) (fde : Input) (m :
   pub keeps : WalkKeeps p l fde m
   pub left : AreLeft l (initial_of p m.initial)
 
--- the machine stands where it stood, at the front of an FDE's program
-pub record Readied (l : Leading) (old new : Machine) : Type 0 where
-  pub initial : HasInitial l new
+-- the machine has the row of a CIE's program, and stands where it stood, at the front of an FDE's
+pub record IsLed (f : Factors) (cie : Input) (old new : Machine) : Type 0 where
+  pub initial : initial_row (placed f cie) blank ≡ Ok new.initial
   pub row : new.states.row ≡ new.initial
   pub none : new.states.stack ≡ []
   pub first : BeganWith new.initial new.states.first
   pub location : new.location ≡ old.location
   pub limit : new.limit ≡ old.limit
+
+abbrev pub Readied : Leading → Machine → Machine → Type 0
+Readied l old new = IsLed l.factors (program_input l.program l.target) old new
 
 -- ---- up to the row of an address
 

@@ -11,7 +11,6 @@ use Rattle.dw_cfa.specs.declared.machine.End.TheVariants as ends
 use Rattle.dw_cfa.specs.Location.{moves_location}
 use Rattle.dw_cfa.specs.Rows.{Rules, blank}
 use Rattle.dw_cfa.specs.Inner.Machine.{program_fault}
-use Rattle.dw_cfa.specs.Inner.States.{Held}
 use Rattle.dw_cfa.specs.Inner.Steps.{state_of, IsAfter}
 use Rattle.dw_cfa.specs.Runs.{fails}
 use Rattle.dw_cfa.specs.Inner.Runs.{initial_row, placed, rows_left, RanTo, WroteTo}
@@ -50,19 +49,12 @@ Turned f i m ends.Moved fault j m' = RanTo f i m true j m'
 Turned f i m ends.Refused fault j m' = rows_left f i m ≡ fails fault
 Turned f i m ends.OutOfMemory fault j m' = Unit {0}
 
--- a CIE's program has no location: the machine is at 0, within any limit
-abbrev pub cie_machine : Held → Machine
-cie_machine s = record { initial = blank; states = s; location = 0; limit = 2 ^ 64 }
-
--- a row alone, of which nothing is remembered
-abbrev pub begun_with : Rules → Held
-begun_with row = record { row = row; stack = []; first = None; kept = blank }
-
-abbrev pub RunsCie : Machine → Type 0
-RunsCie m = IsWithinLimit m × (2 ^ 64 ≤ m.limit)
+-- a CIE's program gives rules to one row: no other is remembered, and the location is 0, within any limit
+abbrev pub cie_machine : Rules → Machine
+cie_machine row = record { initial = blank; states = record { row = row; stack = []; first = None; kept = blank }; location = 0; limit = 2 ^ 64 }
 
 -- the same for an instruction of a CIE's program, whose rule was written into the row
-abbrev pub Entered : Factors → Input → Machine → End → Refusal → Input → Machine → Type 0
-Entered f i m ends.Refused fault j m' = initial_row (placed f i) m.states.row ≡ Err fault
-Entered f i m ends.OutOfMemory fault j m' = Unit {0}
-Entered f i m end fault j m' = WroteTo f i m.states.row j m'.states.row × RunsCie m' × (m'.states.stack ≡ m.states.stack) × (m'.states.first ≡ m.states.first)
+abbrev pub Entered : Factors → Input → Rules → End → Refusal → Input → Rules → Type 0
+Entered f i row ends.Refused fault j row' = initial_row (placed f i) row ≡ Err fault
+Entered f i row ends.OutOfMemory fault j row' = Unit {0}
+Entered f i row end fault j row' = WroteTo f i row j row'

@@ -1,7 +1,6 @@
-use Rattle.dw_cfa.proofs.Words.{refl, arith, blank}
-use Rattle.dw_cfa.specs.Inner.Turns.{begun_with, cie_machine}
+use Rattle.dw_cfa.proofs.Words.{refl, arith}
 use Rattle.dw_cfa.proofs.Turns.{in_limit}
 use Rattle.dw_cfa.proofs.noted.read_instr.Goals as goal
 
 pub execute-requires : goal.execute-requires
-execute-requires c l = ((refl, tt), (omega arith, (in_limit c.args.cursor.now.target.size (cie_machine (begun_with blank)) (omega arith, omega arith), λ known. absurd cc)))
+execute-requires c l = ((refl, tt), (omega arith, (in_limit c.args.cursor.now.target.size, λ known. absurd cc)))

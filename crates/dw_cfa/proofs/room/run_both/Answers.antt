@@ -1,22 +1,22 @@
-use Rattle.dw_cfa.proofs.Words.{ap, arith, ◌∙◌, err_from_is_err_and, Outcome}
+use Rattle.dw_cfa.proofs.Words.{ap, arith, err_from_is_err_and, Outcome}
 use Rattle.dw_cfa.proofs.Lent.Given.{refusal_weaker}
-use Rattle.dw_cfa.proofs.RunSteps.{begun_stuck, begun_ran}
+use Rattle.dw_cfa.proofs.RunSteps.{run_stuck, run_ran}
 use Rattle.dw_cfa.proofs.room.run_both.Goals as goal
 
-pub returns-in_err-run_initial : goal.returns-in_err-run_initial
-returns-in_err-run_initial c =
+pub returns-in_err-lead : goal.returns-in_err-lead
+returns-in_err-lead c =
     let p = err_from_is_err_and c.from_residual.result c.from_residual.ensures.1 in
-    rw (p.1, p.2) (refusal_weaker c.in_err-run_initial.field-0.0 _ _ (λ r is.
-    let stuck = begun_stuck c.args.factors c.args.cie.now c.args.fde.now c.args.machine.now r is in
-    (ap (λ (o : Outcome). o.fault) stuck.0, omega (arith, stuck.1, c.requires.start))) c.in_err-run_initial.ensures.err)
+    rw (p.1, p.2) (refusal_weaker c.in_err-lead.field-0.0 _ _ (λ r is.
+    let stuck = run_stuck c.args.factors c.args.cie.now c.args.fde.now c.args.machine.now.location r is in
+    (ap (λ (o : Outcome). o.fault) stuck.0, omega (arith, stuck.1, c.requires.start))) c.in_err-lead.ensures.err)
 
 pub returns-in_err-run_to : goal.returns-in_err-run_to
 returns-in_err-run_to c =
-    let ran = begun_ran c.args.factors c.args.cie.now c.args.fde.now c.args.machine.now c.become_copy.new.self c.run_initial.new.keep c.in_ok-run_initial.ensures.ok (c.in_ok-become_copy.ensures ∙ c.row.ensures) (c.in_ok-run_initial.ensures.same.0 ∙ c.requires.fresh.1) in
+    let ran = run_ran c.args.factors c.args.cie.now c.args.fde.now c.args.machine.now c.lead.new.machine c.requires.so c.in_ok-lead.ensures.ok in
     let p = err_from_is_err_and c.from_residual-in_err-run_to.result c.from_residual-in_err-run_to.ensures.1 in
     rw (p.1, p.2, ← ran.0, ← ran.1) c.in_err-run_to.ensures.err
 
 pub returns : goal.returns
 returns c =
-    let ran = begun_ran c.args.factors c.args.cie.now c.args.fde.now c.args.machine.now c.become_copy.new.self c.run_initial.new.keep c.in_ok-run_initial.ensures.ok (c.in_ok-become_copy.ensures ∙ c.row.ensures) (c.in_ok-run_initial.ensures.same.0 ∙ c.requires.fresh.1) in
+    let ran = run_ran c.args.factors c.args.cie.now c.args.fde.now c.args.machine.now c.lead.new.machine c.requires.so c.in_ok-lead.ensures.ok in
     rw (← ran.0, ← ran.1) (c.in_ok-run_to.ensures.ran.last, c.in_ok-run_to.ensures.none)

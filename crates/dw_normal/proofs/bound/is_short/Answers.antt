@@ -1,4 +1,4 @@
-use Rattle.dw_normal.proofs.Words.{ℕ, ◌+◌, ◌<◌, length, take, sym, subst, arith, Fde, Shares}
+use Rattle.dw_normal.proofs.Words.{ℕ, ◌+◌, ◌<◌, length, take, refl, sym, subst, arith, Fde, Shares}
 use Rattle.dw_normal.proofs.Short.{next_share, short_enough}
 use Rattle.dw_normal.proofs.bound.is_short.Goals as goal
 
@@ -9,7 +9,7 @@ returns c = λ yes ms are.
 
 pub fdes-preserved : goal.fdes-preserved
 fdes-preserved c = (
-  c.if-total-cap.false,
+  c.in-Some.ensures.low,
   λ fs are.
       let t = c.args.table.now.target in
       let s = c.args.table.now.bytes in
@@ -18,5 +18,5 @@ fdes-preserved c = (
       let none : Fde = record { begin = 0; end = 0; return_register = 0 } in
       let lt : place < length fs = omega (arith, c.fde_count-place-end.ensures fs are, c.fdes-test.true) in
       let more = next_share t s fs place none lengths.0 lengths.1 c.fdes.total lt (c.fdes.invariant.1 fs are) (c.program_lengths-own.ensures fs are none) in
-      subst (λ (n : ℕ). Shares t s (take (place + 1) fs) (c.fdes.total + n)) (sym (c.in-Some.ensures).is) more,
+      subst (λ (n : ℕ). Shares t s (take (place + 1) fs) n) (sym (c.in-Some.ensures.is c.fdes.total refl)) more,
 )

@@ -13,7 +13,7 @@ fdes-preserved c = (
   λ fs are.
       let none : Fde = record { begin = 0; end = 0; return_register = 0 } in
       let lt : c.fdes.place < length fs = omega (arith, c.fde_count-place-end.ensures fs are, c.fdes-test.true) in
-      let own = length c.opening-opening.result.program.now in
+      let own = c.opening-opening.result.own in
       let initial = c.opening-opening.result.initial in
       share_added c.args.table.now.target c.args.table.now.bytes fs c.fdes.place none own initial c.fdes.total c.add_share-total.result lt (c.fdes.invariant.2 fs are) (c.opening-opening.ensures.lengths fs are none)
       c.add_share-total.ensures.is c.add_share-total.ensures.some,

@@ -1,8 +1,13 @@
 use Rattle.dw_section.proofs.Words.{IsInitial}
 use Rattle.dw_section.proofs.Lent.Judged.{all_at}
 use Rattle.dw_section.proofs.program.long_machines.Goals as goal
+use Rattle.dw_section.proofs.program.long_machines.Goals.{then-initial-gt-LONG+in_ok-keep_long, else-initial-gt-LONG}
 
 pub loop-initial-preserved : goal.loop-initial-preserved
 loop-initial-preserved c = λ hs all.
     let is = all_at (IsInitial c.args.target hs) c.args.initials.now c.loop-initial.initial-index c.initial-item.result c.initial-item.is c.loop-initial-test.true all in
-    c.in_ok-keep_long.ensures hs is (c.loop-initial.invariant hs all)
+    let before = c.loop-initial.invariant hs all in
+    elim c.if-initial-gt-LONG.branch [
+      | then-initial-gt-LONG+in_ok-keep_long w ↦ rw w.long-is (w.in_ok-keep_long.ensures hs is before)
+      | else-initial-gt-LONG w ↦ rw w.long-is before
+    ]

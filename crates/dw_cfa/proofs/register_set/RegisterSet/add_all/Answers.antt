@@ -1,5 +1,5 @@
 use Rattle.dw_cfa.proofs.Words.{marked}
-use Rattle.dw_cfa.proofs.RegisterSets.{all_added, all_stay}
+use Rattle.dw_cfa.proofs.RegisterSets.{all_added, all_stay, no_others}
 use Rattle.dw_cfa.proofs.register_set.RegisterSet.add_all.Goals as goal
 
 pub returns-clause-added : goal.returns-clause-added
@@ -9,3 +9,7 @@ returns-clause-added c =
 pub returns-clause-more : goal.returns-clause-more
 returns-clause-more c =
     all_stay c.add_far.result c.self.inside.marks c.other.inside.marks c.args.self.now (marked c.add_far.new.marks) c.self.view_is c.add_far.ensures.more
+
+pub returns-clause-others : goal.returns-clause-others
+returns-clause-others c =
+    no_others c.add_far.result c.self.inside.marks c.other.inside.marks c.args.self.now c.args.other.now (marked c.add_far.new.marks) c.self.view_is c.other.view_is c.other.invariant.1 c.add_far.ensures.others

@@ -1,13 +1,10 @@
 use Rattle.dw_section.proofs.Words.{ap, subst, Target, Section}
-use Rattle.dw_section.proofs.Extents.{found_lengths, found_program}
+use Rattle.dw_section.proofs.Extents.{found_lengths}
 use Rattle.dw_section.proofs.Opened.{Opens, found_opening, only_opening}
 use Rattle.dw_section.proofs.table.Table.opening.Goals as goal
 
 pub returns-clause-lengths : goal.returns-clause-lengths
-returns-clause-lengths c = λ fs are d. rw (← c.found.ensures.listed fs are d, c.opening_in.ensures.program, c.opening_in.ensures.initial) (found_lengths c.args.self.now.target c.args.self.now.bytes c.found.result c.found.ensures.found)
-
-pub returns-clause-program : goal.returns-clause-program
-returns-clause-program c = λ fs are d. rw (← c.found.ensures.listed fs are d, c.opening_in.ensures.program, c.opening_in.ensures.factors) (found_program c.args.self.now.target c.args.self.now.bytes c.found.result c.found.ensures.found)
+returns-clause-lengths c = λ fs are d. rw (← c.found.ensures.listed fs are d, c.opening_in.ensures.own, c.opening_in.ensures.initial) (found_lengths c.args.self.now.target c.args.self.now.bytes c.found.result c.found.ensures.found)
 
 pub returns-clause-opens : goal.returns-clause-opens
 returns-clause-opens c = λ fs are d.
