@@ -1,15 +1,22 @@
 -- The registers of a frame, one after another.
 use Rattle.std.proofs.Common.{◌≡◌, ℕ, zero, suc, ◌<◌, ◌≤◌, true, false, List, [], ◌∷◌, ◌++◌, length, get_or, Option, Ok, refl, sym, subst, ◌∙◌, arith, inl, inr}
 use Rattle.std.specs.List.{AllByRecursion, AllPairs}
-use Rattle.std.proofs.lemmas.Bool.{cases_lt}
-use Rattle.dw_cfa.specs.Rows.{Rules}
+use Rattle.std.specs.Prelude.{◌||◌, Bool, IsTrue, is_some}
+use Rattle.std.proofs.lemmas.Bool.{cases_lt, eq-eqb, ne_eqb}
+use Rattle.dw_cfa.specs.declared.rule.RegRule.{RegRule}
+use Rattle.dw_cfa.specs.declared.rule.RegRule.TheVariants.{Unspecified}
+use Rattle.dw_cfa.specs.Rows.{Rules, AreSpecified, is_specified, rule, rule_in}
 use Rattle.dw_eval.specs.Context.{Context}
 use Rattle.dw_section.specs.declared.lookup.Fde.{Fde}
 use Rattle.dw_section.specs.Among.{IsAmong}
 use Rattle.dw_eval.specs.declared.policy.Policy.{Policy}
 use Rattle.dw_unwind.specs.Unwound.{is_listed, IsListed, Recovers, AreRegisters, Reached}
-use Rattle.dw_unwind.specs.Inner.Recovery.{Rise, SoFar}
+use Rattle.dw_unwind.specs.Inner.Recovery.{Rise, SoFar, IsLeft}
 use Rattle.dw_unwind.proofs.Elements.{all_push, all_more, all_among}
+
+or-true : (b : Bool) → (b || true) ≡ true
+or-true true = refl
+or-true false = refl
 
 -- an FDE at a place of a list is among its FDEs
 pub listed_at : (fs : List Fde) (place : ℕ) (d : Fde) → place < length fs → IsAmong (get_or fs place d) fs
@@ -59,6 +66,9 @@ module _ (c : Context) (limit : ℕ) (policy : Policy) (row : Rules) (register c
   abbrev Value : ℕ → Option ℕ → Type 0
   Value r v = Listed r × Recovers c limit policy row register cfa r (Ok v)
 
+  pub specified_listed : (r : ℕ) (own : RegRule) → own ≡ rule row r → IsTrue (is_specified own) → Listed r
+  specified_listed r own same specified = rw (sym same, specified) (or-true (is_some (c.register r)))
+
   pub so_added : (n : ℕ) (entries : List (ℕ × Option ℕ)) (v : Option ℕ) → So n entries → Listed n → Recovers c limit policy row register cfa n (Ok v) → So (suc n) (entries ++ (n, v) ∷ [])
   so_added n entries v so listed is = record {
     rise = rise_push 0 n entries v so.rise so.below (omega arith);
@@ -67,6 +77,17 @@ module _ (c : Context) (limit : ℕ) (policy : Policy) (row : Rules) (register c
     all = λ r lt listed. elim (cases_lt r n) [
       | inl less ↦ let found = so.all r less listed in (found.0, among_front _ entries _ found.1)
       | inr more ↦ let same : n ≡ r = omega arith in (v, subst (λ (q : ℕ). IsAmong (q, v) (entries ++ (n, v) ∷ [])) same (among_last entries (n, v)))
+    ];
+  }
+
+  pub so_passed : (n : ℕ) (entries : List (ℕ × Option ℕ)) → So n entries → is_listed c.register row register n ≡ false → So (suc n) entries
+  so_passed n entries so not = record {
+    rise = so.rise;
+    below = all_more (λ (entry : ℕ × Option ℕ). entry.0 < n) (λ entry. entry.0 < suc n) entries (λ x lt. omega arith) so.below;
+    each = so.each;
+    all = λ r lt listed. elim (cases_lt r n) [
+      | inl less ↦ so.all r less listed
+      | inr more ↦ let same : r ≡ n = omega (arith, lt, more) in let is = subst (λ (q : ℕ). is_listed c.register row register q ≡ true) same listed in absurd cc
     ];
   }
 
@@ -85,3 +106,26 @@ module _ (c : Context) (limit : ℕ) (policy : Policy) (row : Rules) (register c
       | inr more ↦ let both : true ≡ false = sym is ∙ none r more in absurd cc
     ];
   }
+
+-- ---- what is left of a row's registers
+
+unlisted : (r low : ℕ) (xs : List (ℕ × RegRule)) → AreSpecified low xs → r < low → rule_in xs r ≡ Unspecified
+unlisted r low [] up lt = refl
+unlisted r low (x ∷ xs) up lt = rw (ne_eqb x.0 r (λ same. omega (arith, same, up.0, lt))) (unlisted r (suc x.0) xs up.2 (omega (arith, up.0, lt)))
+
+module _ (row : Rules) (from : ℕ) where
+  pub left_none : IsLeft row from [] → (r : ℕ) → from ≤ r → rule row r ≡ Unspecified
+  left_none left r le = sym (left.same r le)
+
+  module _ (entry : ℕ × RegRule) (rest : List (ℕ × RegRule)) (left : IsLeft row from (entry ∷ rest)) where
+    pub left_own : entry.1 ≡ rule row entry.0
+    left_own = let found : rule_in (entry ∷ rest) entry.0 ≡ entry.1 = rw (eq-eqb entry.0 entry.0 refl) refl in sym found ∙ left.same entry.0 left.ascending.0
+
+    pub left_before : (r : ℕ) → from ≤ r → r < entry.0 → rule row r ≡ Unspecified
+    left_before r le lt = sym (left.same r le) ∙ unlisted r entry.0 (entry ∷ rest) (omega arith, left.ascending.1, left.ascending.2) lt
+
+    pub left_rest : IsLeft row (suc entry.0) rest
+    left_rest = record {
+      ascending = left.ascending.2;
+      same = λ r le. let passed : rule_in (entry ∷ rest) r ≡ rule_in rest r = rw (ne_eqb entry.0 r (λ same. omega (arith, same, le))) refl in sym passed ∙ left.same r (omega (arith, le, left.ascending.0));
+    }

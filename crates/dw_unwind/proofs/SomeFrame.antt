@@ -1,5 +1,5 @@
 -- A section gives each machine that stopped a frame or a fault. What holds below is taken by the public laws.
-use Rattle.std.proofs.Common.{◌≡◌, ◌⊎◌, ℕ, zero, suc, ◌+◌, ◌<◌, ◌≤◌, true, false, List, [], ◌∷◌, ◌++◌, length, Option, Some, None, Result, Ok, Err, refl, ap, subst, arith, inl, inr}
+use Rattle.std.proofs.Common.{◌≡◌, ◌⊎◌, ℕ, zero, suc, ◌+◌, ◌<◌, ◌≤◌, true, false, List, [], ◌∷◌, ◌++◌, length, Option, Some, None, Result, Ok, Err, refl, ap, arith, inl, inr}
 use Rattle.std.specs.Option.{ok_or}
 use Rattle.std.specs.Prelude.{option_map, option_and_then}
 use Rattle.std.specs.List.{AllByRecursion}
@@ -31,8 +31,7 @@ use Rattle.dw_unwind.specs.declared.frame.UnwindError.TheVariants.{NoFde, NoRegi
 use Rattle.dw_unwind.specs.Columns.{in_column, recovered, on_value, saved_at, on_cfa, plus, defaulted, value_in, ValueIs, SavedBy, CfaIs, RegisterIs}
 use Rattle.dw_unwind.specs.Unwound.{is_listed, Recovers, RegistersAre, FrameIs, Unwound, OneFrame, SomeFrame, stopped}
 use Rattle.dw_unwind.specs.Inner.Recovery.{SoFar}
-use Rattle.dw_unwind.proofs.Elements.{all_more}
-use Rattle.dw_unwind.proofs.FrameLaws.{so_added, so_all, so_reached}
+use Rattle.dw_unwind.proofs.FrameLaws.{so_added, so_all, so_passed, so_reached}
 
 -- ---- columns
 
@@ -68,17 +67,6 @@ module _ (one : OneResult) (in_range : BlockInRange) (c : Context) (limit : ℕ)
       abbrev So : ℕ → List (ℕ × Option ℕ) → Type 0
       So n entries = SoFar c limit policy row return_register cfa n entries
 
-      so_passed : (n : ℕ) (entries : List (ℕ × Option ℕ)) → So n entries → is_listed c.register row return_register n ≡ false → So (suc n) entries
-      so_passed n entries so not = record {
-        rise = so.rise;
-        below = all_more (λ (entry : ℕ × Option ℕ). entry.0 < n) (λ entry. entry.0 < suc n) entries (λ x lt. omega arith) so.below;
-        each = so.each;
-        all = λ r lt listed. elim (cases_lt r n) [
-          | inl less ↦ so.all r less listed
-          | inr more ↦ let same : r ≡ n = omega (arith, lt, more) in let is = subst (λ (q : ℕ). is_listed c.register row return_register q ≡ true) same listed in absurd cc
-        ];
-      }
-
       -- the listed registers below a number, or the first fault among them
       abbrev SoOrFault : ℕ → Type 0
       SoOrFault n = ((entries : List (ℕ × Option ℕ)) × So n entries) ⊎ ((e : UnwindError) × RegistersAre c limit policy row return_register cfa (Err e))
@@ -93,7 +81,7 @@ module _ (one : OneResult) (in_range : BlockInRange) (c : Context) (limit : ℕ)
         | inr fault ↦ inr fault
         | inl so ↦ elim (cases_Bool (is_listed c.register row return_register n)) [
           | inl listed ↦ let answer = some_register policy cfa n (rule row n) (rule_fits c.target row fits n) in added n so.0 so.1 listed answer.0 answer.1
-          | inr not ↦ inl (so.0, so_passed n so.0 so.1 not)
+          | inr not ↦ inl (so.0, so_passed c limit policy row return_register cfa n so.0 so.1 not)
         ]
       ]
 

@@ -1,6 +1,6 @@
 //! The frame of the caller by the rules of a row (6.4.1).
 
-ghost use Rattle.std.specs.Prelude.{◌≡◌, ◌⊎◌, ℕ, ◌+◌, ◌-◌, ◌^◌, ◌<◌, ◌≤◌, ◌||◌, ◌==◌, true, false, is_some, Option, Err};
+ghost use Rattle.std.specs.Prelude.{◌≡◌, ◌⊎◌, ℕ, ◌+◌, ◌-◌, ◌^◌, ◌<◌, ◌≤◌, ◌||◌, ◌==◌, true, false, Option, IsTrue, OnOk, Err};
 ghost use Rattle.dw_cfa.specs.declared.rule.CfaRule.TheVariants.{Unset};
 ghost use Rattle.dw_cfa.specs.declared.rule.RegRule.TheVariants.{Unspecified};
 ghost use Rattle.dw_cfa.specs.Rows.{Rules, rule, is_specified};
@@ -17,68 +17,124 @@ use crate::machine::Machine;
 use dw_cfa::{RegRule, Row};
 use dw_eval::{Env, Memory, Policy, Registers};
 use dw_num::Target;
-use std::alloc::Global;
+use std::alloc::{AllocError, Global};
 
 // Room for so many registers is taken at once.
 const MOST_AT_ONCE: usize = 32;
 
-// One more than the greatest register that a row specifies, or 0.
-fn row_end(row: &Row<'_>) -> usize
-    ensures most { result ≤ 65536 }
-    ensures beyond { (r : ℕ) → result ≤ r → rule row.now r ≡ Unspecified }
-{
-    let mut end = 0;
-    for (register, _) in row.specified() {
-        end = end.max(usize::from(register) + 1);
-    }
-    end
-}
-
 impl<'m> Machine<'m> {
-    // Whether a register of this rule is listed.
-    fn lists(&self, register: u16, own: &RegRule<'_>, return_register: u16) -> bool
-        ensures { (row : Rules) → own.now ≡ rule row register → result ≡ is_listed (held self.now.env.registers.now) row return_register register }
+    // Whether a register that the row does not specify is listed.
+    #[inline(always)]
+    fn lists(&self, register: u16, return_register: u16) -> bool
+        ensures { (row : Rules) → rule row register ≡ Unspecified → result ≡ is_listed (held self.now.env.registers.now) row return_register register }
     {
-        self.env.registers.get(register).is_some()
-            || own.is_specified()
-            || register == return_register
+        self.env.registers.get(register).is_some() || register == return_register
     }
 
-    // No register from here on is listed.
-    fn end(&self, row: &Row<'_>, return_register: u16) -> usize
+    // From here on no register is listed that the row does not specify.
+    fn end(&self, return_register: u16) -> usize
         ensures most { result ≤ 65536 }
-        ensures beyond { (r : ℕ) → result ≤ r → is_listed (held self.now.env.registers.now) row.now return_register r ≡ false }
+        ensures beyond { (row : Rules) (r : ℕ) → result ≤ r → rule row r ≡ Unspecified → is_listed (held self.now.env.registers.now) row return_register r ≡ false }
     {
-        let end = self.env.registers.end().max(row_end(row));
-        end.max(usize::from(return_register) + 1)
+        self.env
+            .registers
+            .end()
+            .max(usize::from(return_register) + 1)
     }
 
-    // Adds the next register to those before it, where it is listed.
+    // Adds the next register, which the row does not specify, to those before it, where it is listed.
+    #[inline(always)]
+    fn add_given(
+        &self,
+        register: u16,
+        row: &Row<'_>,
+        return_register: u16,
+        cfa: u64,
+        values: &mut Vec<(u16, Option<u64>)>,
+    ) -> Result<(), AllocError>
+        requires unset { rule row.now register ≡ Unspecified }
+        ensures { OnOk result ((byte : ℕ → Option ℕ) → let c = context self.now.env byte in SoFar c self.now.steps self.now.default row.now return_register cfa register values.old.items → SoFar c self.now.steps self.now.default row.now return_register cfa (register + 1) values.new.items) }
+    {
+        if !self.lists(register, return_register) {
+            return Ok(());
+        }
+        values.push((register, self.defaulted(register)))?;
+        Ok(())
+    }
+
+    // Adds the listed registers from one number up to another one, of which the row specifies none.
+    fn add_all_given(
+        &self,
+        from: usize,
+        to: usize,
+        row: &Row<'_>,
+        return_register: u16,
+        cfa: u64,
+        values: &mut Vec<(u16, Option<u64>)>,
+    ) -> Result<(), AllocError>
+        requires up { from ≤ to }
+        requires most { to ≤ 65536 }
+        requires unset { (r : ℕ) → from ≤ r → r < to → rule row.now r ≡ Unspecified }
+        ensures { OnOk result ((byte : ℕ → Option ℕ) → let c = context self.now.env byte in SoFar c self.now.steps self.now.default row.now return_register cfa from values.old.items → SoFar c self.now.steps self.now.default row.now return_register cfa to values.new.items) }
+    {
+        'given: for index in from..to {
+            self.add_given(index as u16, row, return_register, cfa, values)?;
+        }
+        Ok(())
+    }
+
+    // Adds the next register, which the row specifies, to those before it.
     fn add<M: Memory>(
         &self,
         register: u16,
+        own: &RegRule<'_>,
         row: &Row<'_>,
         return_register: u16,
         cfa: u64,
         memory: &mut M,
         values: &mut Vec<(u16, Option<u64>)>,
     ) -> Result<(), UnwindError>
+        requires own { own.now ≡ rule row.now register }
+        requires specified { IsTrue (is_specified own.now) }
         requires fits { RowFits self.now.env.target row.now }
         requires room { M.failures memory.old < 2 ^ 64 - 1 }
         requires so_far { let c = context self.now.env (M.byte memory.old) in SoFar c self.now.steps self.now.default row.now return_register cfa register values.old.items }
         ensures same { M.byte memory.new ≡ M.byte memory.old }
         ensures so { let c = context self.now.env (M.byte memory.old) in Over (Adds c self.now.steps self.now.default row.now return_register cfa register values.new.items) (RegistersFail c self.now.steps self.now.default row.now return_register cfa) (M.failures memory.old) result (M.failures memory.new) }
     {
-        let rule = row.rule(register);
-        if !self.lists(register, &rule, return_register) {
-            return Ok(());
-        }
-        let value = self.register(register, &rule, cfa, memory)?;
+        let value = self.register(register, own, cfa, memory)?;
         values.push((register, value))?;
         Ok(())
     }
 
-    // The registers of the caller.
+    // Adds the registers from a number on up to the next one that the row specifies.
+    fn add_next<M: Memory>(
+        &self,
+        from: usize,
+        register: u16,
+        own: &RegRule<'_>,
+        row: &Row<'_>,
+        return_register: u16,
+        cfa: u64,
+        memory: &mut M,
+        values: &mut Vec<(u16, Option<u64>)>,
+    ) -> Result<(), UnwindError>
+        requires up { from ≤ register }
+        requires unset { (r : ℕ) → from ≤ r → r < register → rule row.now r ≡ Unspecified }
+        requires own { own.now ≡ rule row.now register }
+        requires specified { IsTrue (is_specified own.now) }
+        requires fits { RowFits self.now.env.target row.now }
+        requires room { M.failures memory.old < 2 ^ 64 - 1 }
+        requires so_far { let c = context self.now.env (M.byte memory.old) in SoFar c self.now.steps self.now.default row.now return_register cfa from values.old.items }
+        ensures same { M.byte memory.new ≡ M.byte memory.old }
+        ensures so { let c = context self.now.env (M.byte memory.old) in Over (Adds c self.now.steps self.now.default row.now return_register cfa register values.new.items) (RegistersFail c self.now.steps self.now.default row.now return_register cfa) (M.failures memory.old) result (M.failures memory.new) }
+    {
+        let to = usize::from(register);
+        self.add_all_given(from, to, row, return_register, cfa, values)?;
+        self.add(register, own, row, return_register, cfa, memory, values)
+    }
+
+    // The registers of the caller: those that the row specifies, and before each one and behind the last those of the machine.
     fn registers<M: Memory>(
         &self,
         row: &Row<'_>,
@@ -91,11 +147,23 @@ impl<'m> Machine<'m> {
         ensures same { M.byte memory.new ≡ M.byte memory.old }
         ensures so { let c = context self.now.env (M.byte memory.old) in Over (RegistersAre c self.now.steps self.now.default row.now return_register cfa) (RegistersFail c self.now.steps self.now.default row.now return_register cfa) (M.failures memory.old) result (M.failures memory.new) }
     {
-        let end = self.end(row, return_register);
-        let mut values = Vec::with_capacity(self.alloc, end.min(MOST_AT_ONCE))?;
-        'registers: for index in 0..end {
-            self.add(index as u16, row, return_register, cfa, memory, &mut values)?;
+        let mut values = Vec::with_capacity(self.alloc, MOST_AT_ONCE)?;
+        let mut from = 0;
+        'registers: for (register, own) in row.specified() {
+            self.add_next(
+                from,
+                register,
+                &own,
+                row,
+                return_register,
+                cfa,
+                memory,
+                &mut values,
+            )?;
+            from = usize::from(register) + 1;
         }
+        let end = from.max(self.end(return_register));
+        self.add_all_given(from, end, row, return_register, cfa, &mut values)?;
         Ok(FrameRegisters::new(values))
     }
 

@@ -136,8 +136,8 @@ impl<'m> Machine<'m> {
         }
     }
 
-    // What a register that no instruction has set was before.
-    fn defaulted(&self, register: u16) -> Option<u64>
+    /// What a register that no instruction has set was before.
+    pub(crate) fn defaulted(&self, register: u16) -> Option<u64>
         ensures { (byte : ℕ → Option ℕ) → result ≡ defaulted self.now.default (value_in (context self.now.env byte) self.now.steps register) }
     {
         match self.default {

@@ -1,7 +1,8 @@
 -- What the parts of an unwinding answer, over a memory whose device may fail.
 use Rattle.std.specs.Prelude.{◌≡◌, ◌<◌, ◌≤◌, ℕ, suc, List, [], ◌∷◌, Option, Result, Ok, Err}
 use Rattle.std.specs.List.{AllByRecursion}
-use Rattle.dw_cfa.specs.Rows.{Rules}
+use Rattle.dw_cfa.specs.declared.rule.RegRule.{RegRule}
+use Rattle.dw_cfa.specs.Rows.{Rules, AreSpecified, rule, rule_in}
 use Rattle.dw_eval.specs.declared.error.Kind.TheVariants as kinds
 use Rattle.dw_eval.specs.Context.{Context}
 use Rattle.dw_eval.specs.declared.policy.Policy.{Policy}
@@ -23,6 +24,11 @@ Over P Fails before (Err e) after = P (Err e) × (after ≡ before)
 abbrev pub Rise : ℕ → List (ℕ × Option ℕ) → Type 0
 Rise low [] = Unit {0}
 Rise low (entry ∷ rest) = (low ≤ entry.0) × Rise (suc entry.0) rest
+
+-- what is left of a row's registers from a number on
+pub record IsLeft (row : Rules) (from : ℕ) (entries : List (ℕ × RegRule)) : Type 0 where
+  pub ascending : AreSpecified from entries
+  pub same : (r : ℕ) → from ≤ r → rule_in entries r ≡ rule row r
 
 -- on a machine that stopped, with a row and its return address register
 module _ (c : Context) (limit : ℕ) (policy : Policy) (row : Rules) (return_register : ℕ) where

@@ -1,31 +1,41 @@
 use Rattle.std.proofs.Common.{ℕ, Option, Err, subst, arith}
 use Rattle.std.proofs.lemmas.Result.{err_from_is_err_and}
 use Rattle.dw_eval.specs.Context.{context}
-use Rattle.dw_unwind.specs.Inner.Recovery.{Over}
+use Rattle.dw_unwind.specs.Inner.Recovery.{Over, Adds, IsLeft}
 use Rattle.dw_unwind.specs.Unwound.{RegistersAre, RegistersFail}
-use Rattle.dw_unwind.specs.Inner.Recovery.{Adds}
 use Rattle.dw_unwind.proofs.ColumnLaws.{over_error}
-use Rattle.dw_unwind.proofs.FrameLaws.{so_all}
+use Rattle.dw_unwind.proofs.FrameLaws.{left_before, left_none, so_all}
 use Rattle.dw_unwind.proofs.machine.Machine.registers.Goals as goal
 
-pub returns-in_err-add-clause-so : goal.returns-in_err-add-clause-so
-returns-in_err-add-clause-so g c =
+pub returns-in_err-add_next-clause-so : goal.returns-in_err-add_next-clause-so
+returns-in_err-add_next-clause-so g c =
     let m = c.args.self.now in
+    let row = c.args.row.now in
     let world = context m.env (g.M.Memory.byte c.args.memory.now) in
-    let e = c.in_err-add.field-0.0 in
-    let after = g.M.Memory.failures c.add.new.memory in
-    let p = err_from_is_err_and c.from_residual-in_err-add.result c.from_residual-in_err-add.ensures.1 in
-    let moved = subst (λ (b : ℕ → Option ℕ). Over (Adds (context m.env b) m.steps m.default c.args.row.now c.args.return_register c.args.cfa c.registers.index c.add.new.values.items) (RegistersFail (context m.env b) m.steps m.default c.args.row.now c.args.return_register c.args.cfa) (g.M.Memory.failures c.registers.memory) (Err e) after)
-    c.registers.invariant.same c.in_err-add.ensures.so in
-    let counted = subst (λ (n : ℕ). Over (Adds world m.steps m.default c.args.row.now c.args.return_register c.args.cfa c.registers.index c.add.new.values.items) (RegistersFail world m.steps m.default c.args.row.now c.args.return_register c.args.cfa) n (Err e) after)
-    c.registers.invariant.count moved in
-    rw (p.1, p.2) (over_error (Adds world m.steps m.default c.args.row.now c.args.return_register c.args.cfa c.registers.index c.add.new.values.items) (RegistersAre world m.steps m.default c.args.row.now c.args.return_register c.args.cfa)
-    (RegistersFail world m.steps m.default c.args.row.now c.args.return_register c.args.cfa) (RegistersFail world m.steps m.default c.args.row.now c.args.return_register c.args.cfa)
-    (λ x h. h) (λ x h. h) (g.M.Memory.failures c.args.memory.now) e after counted)
+    let e = c.in_err-add_next.field-0.0 in
+    let after = g.M.Memory.failures c.add_next.new.memory in
+    let adds = Adds world m.steps m.default row c.args.return_register c.args.cfa c.in-Some.register c.add_next.new.values.items in
+    let fails = RegistersFail world m.steps m.default row c.args.return_register c.args.cfa in
+    let p = err_from_is_err_and c.from_residual-in_err-add_next.result c.from_residual-in_err-add_next.ensures.1 in
+    let moved = subst (λ (b : ℕ → Option ℕ). Over (Adds (context m.env b) m.steps m.default row c.args.return_register c.args.cfa c.in-Some.register c.add_next.new.values.items) (RegistersFail (context m.env b) m.steps m.default row c.args.return_register c.args.cfa) (g.M.Memory.failures c.registers.memory) (Err e) after)
+    c.registers.invariant.same c.in_err-add_next.ensures.so in
+    let counted = subst (λ (n : ℕ). Over adds fails n (Err e) after) c.registers.invariant.count moved in
+    rw (p.1, p.2) (over_error adds (RegistersAre world m.steps m.default row c.args.return_register c.args.cfa) fails fails (λ x h. h) (λ x h. h) (g.M.Memory.failures c.args.memory.now) e after counted)
+
+pub add_next-requires-clause-unset : goal.add_next-requires-clause-unset
+add_next-requires-clause-unset g c =
+    let left = subst (IsLeft c.args.row.now c.registers.from) c.in-Some.ensures.steps c.registers.invariant.left in
+    left_before c.args.row.now c.registers.from (c.in-Some.register, c.in-Some.own) c.next.new.self left
 
 pub returns-clause-so : goal.returns-clause-so
 returns-clause-so g c =
     let m = c.args.self.now in
+    let row = c.args.row.now in
     let world = context m.env (g.M.Memory.byte c.args.memory.now) in
-    let all = so_all world m.steps m.default c.args.row.now c.args.return_register c.args.cfa c.registers.index c.registers.values.items c.registers.invariant.so_far (λ r le. c.end-end.ensures.beyond r (omega (arith, c.registers-test.false))) in
+    let from = c.registers.from in
+    let end = c.max-end.result in
+    let none = left_none row from (subst (IsLeft row from) c.in-None.ensures.steps.0 c.registers.invariant.left) in
+    let so = c.in_ok-add_all_given.ensures (g.M.Memory.byte c.args.memory.now) c.registers.invariant.so_far in
+    let all = so_all world m.steps m.default row c.args.return_register c.args.cfa end c.add_all_given.new.values.items so
+    (λ r le. c.end.ensures.beyond row r (omega (arith, le, c.max-end.ensures)) (none r (omega (arith, le, c.max-end.ensures)))) in
     (rw c.new.ensures all, c.registers.invariant.count)

@@ -1,11 +1,13 @@
-use Rattle.std.proofs.Common.{◌≡◌}
+use Rattle.std.proofs.Common.{◌≡◌, ◌≤◌}
 use Rattle.dw_eval.specs.Context.{context}
-use Rattle.dw_unwind.specs.Inner.Recovery.{SoFar}
+use Rattle.dw_unwind.specs.Inner.Recovery.{SoFar, IsLeft}
 use Rattle.dw_unwind.proofs.machine.Machine.registers.Given as goal
 
 abbrev pub invariant-registers : goal.invariant-registers
 invariant-registers g l = record {
   same : g.M.Memory.byte l.memory ≡ g.M.Memory.byte l.initial.memory;
   count : g.M.Memory.failures l.memory ≡ g.M.Memory.failures l.initial.memory;
-  so_far : SoFar (context l.self.env (g.M.Memory.byte l.initial.memory)) l.self.steps l.self.default l.row l.return_register l.cfa l.index l.values.items;
+  most : l.from ≤ 65536;
+  left : IsLeft l.row l.from l.register-iterator;
+  so_far : SoFar (context l.self.env (g.M.Memory.byte l.initial.memory)) l.self.steps l.self.default l.row l.return_register l.cfa l.from l.values.items;
 }

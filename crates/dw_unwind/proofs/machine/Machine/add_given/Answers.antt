@@ -1,0 +1,18 @@
+use Rattle.std.proofs.Common.{◌≡◌, suc, ◌+◌, true, Ok, sym, ap, subst, ◌∙◌, arith}
+use Rattle.dw_cfa.specs.declared.rule.RegRule.{RegRule}
+use Rattle.dw_eval.specs.Context.{context}
+use Rattle.dw_unwind.specs.Columns.{RegisterIs}
+use Rattle.dw_unwind.specs.Unwound.{is_listed}
+use Rattle.dw_unwind.proofs.FrameLaws.{so_added}
+use Rattle.dw_unwind.proofs.machine.Machine.add_given.Goals as goal
+
+pub returns : goal.returns
+returns c = λ byte so.
+    let m = c.args.self.now in
+    let row = c.args.row.now in
+    let r = c.args.register in
+    let world = context m.env byte in
+    let listed : is_listed world.register row c.args.return_register r ≡ true = sym (c.lists.ensures row c.requires.unset) ∙ c.if-not-lists.false in
+    let value = subst (λ (x : RegRule). RegisterIs world m.steps m.default c.args.cfa r x (Ok c.defaulted.result)) (sym c.requires.unset) (ap Ok (c.defaulted.ensures byte)) in
+    let next : suc r ≡ r + 1 = omega arith in
+    rw (c.in_ok-push.ensures.items, sym next) (so_added world m.steps m.default row c.args.return_register c.args.cfa r c.args.values.now.items c.defaulted.result so listed value)
