@@ -23,7 +23,7 @@ BUDGET = {
     "dw_section": (3364, 5960),
     "dw_canon": (55, 4220),
     "dw_normal": (2964, 3649),
-    "dw_unwind": (1608, 2610),
+    "dw_unwind": (1654, 2695),
     "dw_words": (984, 1310),
     "dw_command": (2414, 2453),
     "dwframe": (278, 0),

@@ -83,32 +83,8 @@ impl<'m> Machine<'m> {
         Ok(())
     }
 
-    // Adds the next register, which the row specifies, to those before it.
-    fn add<M: Memory>(
-        &self,
-        register: u16,
-        own: &RegRule<'_>,
-        row: &Row<'_>,
-        return_register: u16,
-        cfa: u64,
-        memory: &mut M,
-        values: &mut Vec<(u16, Option<u64>)>,
-    ) -> Result<(), UnwindError>
-        requires own { own.now ≡ rule row.now register }
-        requires specified { IsTrue (is_specified own.now) }
-        requires fits { RowFits self.now.env.target row.now }
-        requires room { M.failures memory.old < 2 ^ 64 - 1 }
-        requires so_far { let c = context self.now.env (M.byte memory.old) in SoFar c self.now.steps self.now.default row.now return_register cfa register values.old.items }
-        ensures same { M.byte memory.new ≡ M.byte memory.old }
-        ensures so { let c = context self.now.env (M.byte memory.old) in Over (Adds c self.now.steps self.now.default row.now return_register cfa register values.new.items) (RegistersFail c self.now.steps self.now.default row.now return_register cfa) (M.failures memory.old) result (M.failures memory.new) }
-    {
-        let value = self.register(register, own, cfa, memory)?;
-        values.push((register, value))?;
-        Ok(())
-    }
-
     // Adds the registers from a number on up to the next one that the row specifies.
-    fn add_next<M: Memory>(
+    fn add<M: Memory>(
         &self,
         from: usize,
         register: u16,
@@ -131,7 +107,9 @@ impl<'m> Machine<'m> {
     {
         let to = usize::from(register);
         self.add_all_given(from, to, row, return_register, cfa, values)?;
-        self.add(register, own, row, return_register, cfa, memory, values)
+        let value = self.register(register, own, cfa, memory)?;
+        values.push((register, value))?;
+        Ok(())
     }
 
     // The registers of the caller: those that the row specifies, and before each one and behind the last those of the machine.
@@ -150,7 +128,7 @@ impl<'m> Machine<'m> {
         let mut values = Vec::with_capacity(self.alloc, MOST_AT_ONCE)?;
         let mut from = 0;
         'registers: for (register, own) in row.specified() {
-            self.add_next(
+            self.add(
                 from,
                 register,
                 &own,

@@ -1,4 +1,4 @@
-use Rattle.std.proofs.Common.{Ok, Err, sym, subst}
+use Rattle.std.proofs.Common.{ℕ, Ok, Err, sym, subst}
 use Rattle.std.proofs.lemmas.Result.{err_from_is_err_and}
 use Rattle.dw_cfa.specs.declared.rule.RegRule.{RegRule}
 use Rattle.dw_eval.specs.Context.{context}
@@ -6,7 +6,7 @@ use Rattle.dw_section.specs.Fits.{RuleFits}
 use Rattle.dw_section.proofs.Lent.RowFits.{rule_fits}
 use Rattle.dw_unwind.specs.Columns.{RegisterIs, RegisterFails}
 use Rattle.dw_unwind.specs.Unwound.{RegistersFail}
-use Rattle.dw_unwind.specs.Inner.Recovery.{Adds}
+use Rattle.dw_unwind.specs.Inner.Recovery.{Adds, SoFar}
 use Rattle.dw_unwind.proofs.ColumnLaws.{over_error}
 use Rattle.dw_unwind.proofs.FrameLaws.{specified_listed, so_added, so_reached}
 use Rattle.dw_unwind.proofs.machine.Machine.add.Goals as goal
@@ -23,9 +23,11 @@ returns-in_err-value-clause-so g c =
     let r = c.args.register in
     let world = context m.env (g.M.Memory.byte c.args.memory.now) in
     let listed = specified_listed world m.steps m.default row c.args.return_register c.args.cfa r c.args.own.now c.requires.own c.requires.specified in
-    let reached = so_reached world m.steps m.default row c.args.return_register c.args.cfa r c.args.values.now.items c.requires.so_far listed in
-    let p = err_from_is_err_and c.from_residual.result c.from_residual.ensures.1 in
-    rw (p.1, p.2) (over_error (RegisterIs world m.steps m.default c.args.cfa r c.args.own.now) (Adds world m.steps m.default row c.args.return_register c.args.cfa r c.args.values.now.items)
+    let so_far = subst (λ (n : ℕ). SoFar world m.steps m.default row c.args.return_register c.args.cfa n c.add_all_given.new.values.items) c.from-to.ensures
+    (c.in_ok-add_all_given.ensures (g.M.Memory.byte c.args.memory.now) c.requires.so_far) in
+    let reached = so_reached world m.steps m.default row c.args.return_register c.args.cfa r c.add_all_given.new.values.items so_far listed in
+    let p = err_from_is_err_and c.from_residual-in_err-value.result c.from_residual-in_err-value.ensures.1 in
+    rw (p.1, p.2) (over_error (RegisterIs world m.steps m.default c.args.cfa r c.args.own.now) (Adds world m.steps m.default row c.args.return_register c.args.cfa r c.add_all_given.new.values.items)
     (RegisterFails world m.steps c.args.cfa r c.args.own.now) (RegistersFail world m.steps m.default row c.args.return_register c.args.cfa)
     (λ e h. (r, reached, subst (λ (x : RegRule). RegisterIs world m.steps m.default c.args.cfa r x (Err e)) c.requires.own h))
     (λ e h. (r, reached, subst (λ (x : RegRule). RegisterFails world m.steps c.args.cfa r x e) c.requires.own h))
@@ -38,6 +40,8 @@ returns-clause-so g c =
     let r = c.args.register in
     let world = context m.env (g.M.Memory.byte c.args.memory.now) in
     let listed = specified_listed world m.steps m.default row c.args.return_register c.args.cfa r c.args.own.now c.requires.own c.requires.specified in
+    let so_far = subst (λ (n : ℕ). SoFar world m.steps m.default row c.args.return_register c.args.cfa n c.add_all_given.new.values.items) c.from-to.ensures
+    (c.in_ok-add_all_given.ensures (g.M.Memory.byte c.args.memory.now) c.requires.so_far) in
     let told = c.in_ok-value.ensures.so in
     let value = subst (λ (x : RegRule). RegisterIs world m.steps m.default c.args.cfa r x (Ok c.in_ok-value.value)) c.requires.own told.0 in
-    (rw c.in_ok-push.ensures.items (so_added world m.steps m.default row c.args.return_register c.args.cfa r c.args.values.now.items c.in_ok-value.value c.requires.so_far listed value), told.1)
+    (rw c.in_ok-push.ensures.items (so_added world m.steps m.default row c.args.return_register c.args.cfa r c.add_all_given.new.values.items c.in_ok-value.value so_far listed value), told.1)

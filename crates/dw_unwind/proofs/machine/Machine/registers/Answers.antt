@@ -7,23 +7,23 @@ use Rattle.dw_unwind.proofs.ColumnLaws.{over_error}
 use Rattle.dw_unwind.proofs.FrameLaws.{left_before, left_none, so_all}
 use Rattle.dw_unwind.proofs.machine.Machine.registers.Goals as goal
 
-pub returns-in_err-add_next-clause-so : goal.returns-in_err-add_next-clause-so
-returns-in_err-add_next-clause-so g c =
+pub returns-in_err-add-clause-so : goal.returns-in_err-add-clause-so
+returns-in_err-add-clause-so g c =
     let m = c.args.self.now in
     let row = c.args.row.now in
     let world = context m.env (g.M.Memory.byte c.args.memory.now) in
-    let e = c.in_err-add_next.field-0.0 in
-    let after = g.M.Memory.failures c.add_next.new.memory in
-    let adds = Adds world m.steps m.default row c.args.return_register c.args.cfa c.in-Some.register c.add_next.new.values.items in
+    let e = c.in_err-add.field-0.0 in
+    let after = g.M.Memory.failures c.add.new.memory in
+    let adds = Adds world m.steps m.default row c.args.return_register c.args.cfa c.in-Some.register c.add.new.values.items in
     let fails = RegistersFail world m.steps m.default row c.args.return_register c.args.cfa in
-    let p = err_from_is_err_and c.from_residual-in_err-add_next.result c.from_residual-in_err-add_next.ensures.1 in
-    let moved = subst (λ (b : ℕ → Option ℕ). Over (Adds (context m.env b) m.steps m.default row c.args.return_register c.args.cfa c.in-Some.register c.add_next.new.values.items) (RegistersFail (context m.env b) m.steps m.default row c.args.return_register c.args.cfa) (g.M.Memory.failures c.registers.memory) (Err e) after)
-    c.registers.invariant.same c.in_err-add_next.ensures.so in
+    let p = err_from_is_err_and c.from_residual-in_err-add.result c.from_residual-in_err-add.ensures.1 in
+    let moved = subst (λ (b : ℕ → Option ℕ). Over (Adds (context m.env b) m.steps m.default row c.args.return_register c.args.cfa c.in-Some.register c.add.new.values.items) (RegistersFail (context m.env b) m.steps m.default row c.args.return_register c.args.cfa) (g.M.Memory.failures c.registers.memory) (Err e) after)
+    c.registers.invariant.same c.in_err-add.ensures.so in
     let counted = subst (λ (n : ℕ). Over adds fails n (Err e) after) c.registers.invariant.count moved in
     rw (p.1, p.2) (over_error adds (RegistersAre world m.steps m.default row c.args.return_register c.args.cfa) fails fails (λ x h. h) (λ x h. h) (g.M.Memory.failures c.args.memory.now) e after counted)
 
-pub add_next-requires-clause-unset : goal.add_next-requires-clause-unset
-add_next-requires-clause-unset g c =
+pub add-requires-clause-unset : goal.add-requires-clause-unset
+add-requires-clause-unset g c =
     let left = subst (IsLeft c.args.row.now c.registers.from) c.in-Some.ensures.steps c.registers.invariant.left in
     left_before c.args.row.now c.registers.from (c.in-Some.register, c.in-Some.own) c.next.new.self left
 
