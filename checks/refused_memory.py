@@ -7,7 +7,7 @@ Both run over each section of the examples, and over some worked blocks and prog
 answer what `answers.py` has, which is of a second reader and worked cases: that is the ordinary answer. Else DWFRAME's answer must be
 the ordinary one, or status 5, `out of memory` and nothing on standard output; under `rows` and `normal`, a beginning of
 what is ordinarily there. REQUESTS makes one call a run: its answer must be the ordinary one or tell that memory ran out, and the
-calls on borrowed expressions may make no request at all. Ends with a line 'N runs, M wrong'.
+calls on borrowed expressions, and frames by an index, may make no request at all. Ends with a line 'N runs, M wrong'.
 """
 import os
 import pathlib
@@ -24,6 +24,8 @@ WORKED_CALLS = [*PROGRAM_CALLS, *EXPRESSION_CALLS, "numbers", "dumps", "register
 NORMAL_CALLS = ["normalise", "normalise_to", "normal_length", "same"]
 EVALUATIONS = [["770806", "registers.dump"], ["3a311c1228faff"]]
 OUT_OF_MEMORY = (5, b"", b"out of memory\n")
+# At the last address of the one FDE three registers: the two that are given, and the return address's.
+FRAMES_OF_PLAIN = b"0x40100f 3\n"
 
 
 class Tally:
@@ -140,6 +142,10 @@ def main():
         _, none = run(requests, ["none"], folder, 0)
         answer, borrowed = run(requests, ["borrowed"], folder, 0)
         tally.tell(borrowed == none, "calls on borrowed expressions", f"{borrowed - none} requests")
+        of_plain = ["8", "little", "plain.bin"]
+        _, none = run(requests, ["index", *of_plain], folder, 0)
+        answer, framed = run(requests, ["frames", *of_plain], folder, 0)
+        tally.tell(answer == (0, FRAMES_OF_PLAIN, b"") and framed == none, "frames by an index", f"{answer}, {framed - none} requests")
     print(f"{tally.runs} runs, {tally.wrong} wrong")
     return 1 if tally.wrong else 0
 

@@ -24,7 +24,9 @@
  * - Memory comes from the program's malloc, realloc and free, and is given back before a call returns. A program that brings its
  *   own lets the three be of one allocator, and aligns each block for any type: to 16 bytes, or where 16 does not divide its size
  *   to the greatest power of two that does. No call is made in a signal handler, nor in the child of a fork of a process with
- *   threads, where these may not be called.
+ *   threads, where these may not be called. dwframe_row_at and dwframe_unwind_at ask for none where the rules up to the address
+ *   are for registers below 128 and have no expression and no offset beyond 16 bits, rows are remembered one at a time, and the
+ *   frame has at most 64 registers, all below 128. No clause says so: the requests are counted.
  *
  * All else is answered: any bytes, any size, order, number and length of room have a status. No call keeps anything when it has
  * returned, so any number of threads may make calls at once.

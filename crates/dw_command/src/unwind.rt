@@ -11,7 +11,7 @@ use crate::input::{load_dump, load_file};
 use crate::listing::{Listing, OutputFault};
 use dw_num::Target;
 use dw_section::{Table, check};
-use dw_unwind::{Dump, Frame, unwind};
+use dw_unwind::{Dump, Frame, FrameRoom, unwind};
 use dw_words::Unwinding;
 use std::alloc::Global;
 use std::io::Write;
@@ -53,7 +53,7 @@ fn put_registers<W: Write>(
     Ok(())
 }
 
-fn put_frame<W: Write>(out: &mut Listing<W>, frame: &Frame) -> Result<(), Failure<'static>>
+fn put_frame<W: Write>(out: &mut Listing<W>, frame: &Frame<'_>) -> Result<(), Failure<'static>>
     requires room { out.old.failures < 2 ^ 64 - 1 }
     ensures { Prints (output_of W.contents out.old) (output_of W.contents out.new) (frame_text frame.now) tt result }
 {
@@ -67,12 +67,13 @@ fn put_frame<W: Write>(out: &mut Listing<W>, frame: &Frame) -> Result<(), Failur
     Ok(out.finish()?)
 }
 
-fn frame_of<'a>(
+fn frame_of<'a, 'r>(
     alloc: Global,
     table: &Table<'_>,
     dump: &mut Dump,
     unwinding: &Unwinding<'_>,
-) -> Result<Frame, Failure<'a>>
+    room: &'r mut FrameRoom,
+) -> Result<Frame<'r>, Failure<'a>>
     ensures { Frames table.now.target table.now.bytes dump.old unwinding.now.default unwinding.now.steps result }
 {
     let Some(pc) = dump.pc else {
@@ -83,6 +84,7 @@ fn frame_of<'a>(
         table,
         table.target(),
         pc,
+        room,
         &dump.registers,
         &mut dump.memory,
         unwinding.default,
@@ -105,6 +107,7 @@ pub fn run_unwind<'a, L: Load, W: Write>(
     let text = load_dump(files, unwinding.dump)?;
     let table = check(alloc, &bytes, target)?;
     let mut dump = Dump::parse(alloc, &text, target)?;
-    let frame = frame_of(alloc, &table, &mut dump, unwinding)?;
+    let mut room = FrameRoom::new(alloc);
+    let frame = frame_of(alloc, &table, &mut dump, unwinding, &mut room)?;
     put_frame(out, &frame)
 }

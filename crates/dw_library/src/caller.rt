@@ -191,7 +191,7 @@ pub(crate) fn told_fault(error: UnwindError) -> Fault
     }
 }
 
-fn told_frame(frame: &CallerFrame) -> Frame
+fn told_frame(frame: &CallerFrame<'_>) -> Frame
     ensures { result ≡ told_frame frame.now }
 {
     Frame {
@@ -215,7 +215,7 @@ pub struct Held<'a> {
 }
 
 // Writes a frame.
-pub(crate) fn put_frame(found: &CallerFrame, out: &mut [Register], frame: &mut Frame) -> u32
+pub(crate) fn put_frame(found: &CallerFrame<'_>, out: &mut [Register], frame: &mut Frame) -> u32
     ensures frame { frame.new ≡ told_frame found.now }
     ensures registers { AreTold (map told_register found.now.registers) out.old result out.new }
 {

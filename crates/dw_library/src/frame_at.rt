@@ -27,11 +27,11 @@ use dw_cfa::RowRoom;
 use dw_eval::{Policy, Registers};
 use dw_num::{ReadError, Target};
 use dw_section::{Ranged, check};
-use dw_unwind::{Frame as CallerFrame, UnwindAtError, UnwindError, unwind_at};
+use dw_unwind::{Frame as CallerFrame, FrameRoom, UnwindAtError, UnwindError, unwind_at};
 use std::alloc::Global;
 
 // The frame over registers and memory, or why there is none.
-fn frame_in(
+fn frame_in<'r>(
     alloc: Global,
     bytes: &[u8],
     target: Target,
@@ -40,19 +40,20 @@ fn frame_in(
     default: Policy,
     registers: &Registers,
     memory: &mut Windows<'_>,
-) -> Result<CallerFrame, UnwindAtError>
+    frame_room: &'r mut FrameRoom,
+) -> Result<CallerFrame<'r>, UnwindAtError>
     ensures any { (result ≡ Err (TheUnwindAtError.Unwind TheUnwindError.OutOfMemory)) ⊎ UnwoundAt target bytes.now index.now stop.now.pc (stopped target registers.now (byte_among memory.old.bytes.now memory.old.windows.now)) default stop.now.steps result }
     ensures own { IsTable target bytes.now index.now → IsOwn (Unwound target bytes.now stop.now.pc (stopped target registers.now (byte_among memory.old.bytes.now memory.old.windows.now)) default stop.now.steps) result }
 {
     let mut room = RowRoom::new(alloc);
     let (pc, steps) = (stop.pc, stop.steps);
     unwind_at(
-        alloc, bytes, target, index, pc, &mut room, registers, memory, default, steps,
+        alloc, bytes, target, index, pc, &mut room, frame_room, registers, memory, default, steps,
     )
 }
 
 // The frame of what a machine held, or why there is none.
-fn frame_at(
+fn frame_at<'r>(
     alloc: Global,
     bytes: &[u8],
     target: Target,
@@ -60,7 +61,8 @@ fn frame_at(
     stop: &Stop,
     default: Policy,
     held: &Held<'_>,
-) -> Result<CallerFrame, UnwindAtError>
+    room: &'r mut FrameRoom,
+) -> Result<CallerFrame<'r>, UnwindAtError>
     ensures any { MatchResult result (λ f. IsFrameAt target default bytes.now index.now stop.now (held_in held.now) (Ok f)) (Why target default bytes.now index.now stop.now (held_in held.now)) }
     ensures own { IsTable target bytes.now index.now → MatchResult result (λ f. IsFrame target default bytes.now stop.now (held_in held.now) (Ok f)) (WhyOwn target default bytes.now stop.now (held_in held.now)) }
 {
@@ -82,6 +84,7 @@ fn frame_at(
         default,
         &registers,
         &mut memory,
+        room,
     )
 }
 
@@ -101,7 +104,8 @@ fn unwound_at(
     ensures own { IsTable target bytes.now index.now → MatchResult result (λ status. (f : TheCallerFrame) × IsFrame target default bytes.now stop.now (held_in held.now) (Ok f) × (frame.new ≡ told_frame f) × AreTold (map told_register f.registers) out.old status out.new) (WhyOwn target default bytes.now stop.now (held_in held.now)) }
     ensures kept { OnErr result ((frame.new ≡ frame.old) × (out.new ≡ out.old)) }
 {
-    match frame_at(alloc, bytes, target, index, stop, default, held) {
+    let mut room = FrameRoom::new(alloc);
+    match frame_at(alloc, bytes, target, index, stop, default, held, &mut room) {
         Ok(found) => Ok(put_frame(&found, out, frame)),
         Err(error) => Err(error),
     }

@@ -6,3 +6,4 @@ pub mod Dump
 pub mod Ranges
 pub mod Spelling
 pub mod UnwoundAt
+pub mod Room

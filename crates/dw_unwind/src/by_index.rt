@@ -15,6 +15,7 @@ ghost use Rattle.dw_unwind.specs.UnwoundAt.{IsLed, LacksRow, UnwoundAt, UnwindAt
 
 use crate::caller::unwind_row;
 use crate::frame::{Frame, UnwindError};
+use crate::frame_room::FrameRoom;
 use dw_cfa::{CfaRule, Row, RowRoom};
 use dw_eval::{Memory, Policy, Registers};
 use dw_num::{Refusal, Target, are_bytes};
@@ -59,8 +60,8 @@ impl From<LookUpError> for UnwindAtError {
     }
 }
 
-fn by_index(answer: Result<Frame, UnwindError>) -> Result<Frame, UnwindAtError>
-    ensures { result ≡ by_index answer }
+fn by_index(answer: Result<Frame<'_>, UnwindError>) -> Result<Frame<'_>, UnwindAtError>
+    ensures { result ≡ by_index answer.entry }
 {
     match answer {
         Ok(frame) => Ok(frame),
@@ -105,19 +106,21 @@ pub(crate) fn row_at<'a>(
 /// The caller's frame as `unwind` answers it, by an index of a section's nonempty FDEs that was kept (`Table::index`), in bytes
 /// that are not judged again: as `look_up` does, it finds the entry that covers `pc`, and reads and judges the FDE at its place,
 /// and the CIE that this names, up to the row. So bytes and index need not belong together: where they do not, the answer is by
-/// the FDE that stands at the place, or an error. `room` is where the row is made; it may be that of an earlier call.
-pub fn unwind_at<'a, M: Memory>(
+/// the FDE that stands at the place, or an error. `room` is where the row is made, and `frame_room` where the registers are put;
+/// both may be those of an earlier call.
+pub fn unwind_at<'a, 'r, M: Memory>(
     alloc: Global,
     bytes: &'a [u8],
     target: Target,
     index: &[Ranged],
     pc: u64,
     room: &mut RowRoom<'a>,
+    frame_room: &'r mut FrameRoom,
     registers: &Registers,
     memory: &mut M,
     default: Policy,
     steps: u64,
-) -> Result<Frame, UnwindAtError>
+) -> Result<Frame<'r>, UnwindAtError>
     requires room { M.failures memory.old < 2 ^ 64 - 1 }
     // No byte of the memory changes.
     ensures same { M.byte memory.new ≡ M.byte memory.old }
@@ -140,6 +143,7 @@ pub fn unwind_at<'a, M: Memory>(
                 row,
                 return_register,
                 target,
+                frame_room,
                 registers,
                 memory,
                 default,

@@ -8,6 +8,7 @@ ghost use Rattle.dw_unwind.specs.Unwound.{Unwound, UnwindFails, is_device, stopp
 use crate::by_index::{UnwindAtError, row_at};
 use crate::caller::unwind_row;
 use crate::frame::{Frame, UnwindError};
+use crate::frame_room::FrameRoom;
 use dw_cfa::RowRoom;
 use dw_eval::{Memory, Policy, Registers};
 use dw_num::Target;
@@ -24,17 +25,19 @@ use std::alloc::Global;
 /// `Eval` where an expression has no value. `Device`, alone or as the kind of `Eval`, is answered exactly where the memory's
 /// count of failures grew.
 ///
-/// Takes memory for the registers, and for the operations of one expression at a time.
-pub fn unwind<M: Memory>(
+/// `room` is where the registers are put; it may be that of an earlier call. Takes memory where there are more than 64 of them,
+/// and for the operations of one expression at a time.
+pub fn unwind<'r, M: Memory>(
     alloc: Global,
     table: &Table<'_>,
     target: Target,
     pc: u64,
+    room: &'r mut FrameRoom,
     registers: &Registers,
     memory: &mut M,
     default: Policy,
     steps: u64,
-) -> Result<Frame, UnwindError>
+) -> Result<Frame<'r>, UnwindError>
     requires target { target ≡ table.now.target }
     requires room { M.failures memory.old < 2 ^ 64 - 1 }
     // No byte of the memory changes.
@@ -48,15 +51,16 @@ pub fn unwind<M: Memory>(
     // No other failure is named.
     ensures device { (e : TheError) → result ≡ Err e → is_device e ≡ true → M.failures memory.old < M.failures memory.new }
 {
-    let mut room = RowRoom::new(alloc);
-    match row_at(table.bytes(), target, table.index(), pc, &mut room) {
+    let mut rows = RowRoom::new(alloc);
+    match row_at(table.bytes(), target, table.index(), pc, &mut rows) {
         Ok(return_register) => {
-            let row = room.row();
+            let row = rows.row();
             unwind_row(
                 alloc,
                 row,
                 return_register,
                 target,
+                room,
                 registers,
                 memory,
                 default,

@@ -12,15 +12,13 @@ ghost use Rattle.dw_unwind.specs.declared.frame.UnwindError.TheVariants.{OutOfMe
 ghost use Rattle.dw_unwind.specs.Inner.Recovery.{Over, SoFar, Adds};
 ghost use Rattle.dw_unwind.specs.Unwound.{is_listed, RegistersAre, RegistersFail, FrameIs, FrameFails, is_device, stopped};
 
-use crate::frame::{Frame, FrameRegisters, UnwindError};
+use crate::frame::{Frame, UnwindError};
+use crate::frame_room::{FrameRegisters, FrameRoom};
 use crate::machine::Machine;
 use dw_cfa::{RegRule, Row};
 use dw_eval::{Env, Memory, Policy, Registers};
 use dw_num::Target;
 use std::alloc::{AllocError, Global};
-
-// Room for so many registers is taken at once.
-const MOST_AT_ONCE: usize = 32;
 
 impl<'m> Machine<'m> {
     // Whether a register that the row does not specify is listed.
@@ -50,15 +48,15 @@ impl<'m> Machine<'m> {
         row: &Row<'_>,
         return_register: u16,
         cfa: u64,
-        values: &mut Vec<(u16, Option<u64>)>,
+        room: &mut FrameRoom,
     ) -> Result<(), AllocError>
         requires unset { rule row.now register ≡ Unspecified }
-        ensures { OnOk result ((byte : ℕ → Option ℕ) → let c = context self.now.env byte in SoFar c self.now.steps self.now.default row.now return_register cfa register values.old.items → SoFar c self.now.steps self.now.default row.now return_register cfa (register + 1) values.new.items) }
+        ensures { OnOk result ((byte : ℕ → Option ℕ) → let c = context self.now.env byte in SoFar c self.now.steps self.now.default row.now return_register cfa register room.old → SoFar c self.now.steps self.now.default row.now return_register cfa (register + 1) room.new) }
     {
         if !self.lists(register, return_register) {
             return Ok(());
         }
-        values.push((register, self.defaulted(register)))?;
+        room.push(register, self.defaulted(register))?;
         Ok(())
     }
 
@@ -70,15 +68,15 @@ impl<'m> Machine<'m> {
         row: &Row<'_>,
         return_register: u16,
         cfa: u64,
-        values: &mut Vec<(u16, Option<u64>)>,
+        room: &mut FrameRoom,
     ) -> Result<(), AllocError>
         requires up { from ≤ to }
         requires most { to ≤ 65536 }
         requires unset { (r : ℕ) → from ≤ r → r < to → rule row.now r ≡ Unspecified }
-        ensures { OnOk result ((byte : ℕ → Option ℕ) → let c = context self.now.env byte in SoFar c self.now.steps self.now.default row.now return_register cfa from values.old.items → SoFar c self.now.steps self.now.default row.now return_register cfa to values.new.items) }
+        ensures { OnOk result ((byte : ℕ → Option ℕ) → let c = context self.now.env byte in SoFar c self.now.steps self.now.default row.now return_register cfa from room.old → SoFar c self.now.steps self.now.default row.now return_register cfa to room.new) }
     {
         'given: for index in from..to {
-            self.add_given(index as u16, row, return_register, cfa, values)?;
+            self.add_given(index as u16, row, return_register, cfa, room)?;
         }
         Ok(())
     }
@@ -93,7 +91,7 @@ impl<'m> Machine<'m> {
         return_register: u16,
         cfa: u64,
         memory: &mut M,
-        values: &mut Vec<(u16, Option<u64>)>,
+        room: &mut FrameRoom,
     ) -> Result<(), UnwindError>
         requires up { from ≤ register }
         requires unset { (r : ℕ) → from ≤ r → r < register → rule row.now r ≡ Unspecified }
@@ -101,31 +99,32 @@ impl<'m> Machine<'m> {
         requires specified { IsTrue (is_specified own.now) }
         requires fits { RowFits self.now.env.target row.now }
         requires room { M.failures memory.old < 2 ^ 64 - 1 }
-        requires so_far { let c = context self.now.env (M.byte memory.old) in SoFar c self.now.steps self.now.default row.now return_register cfa from values.old.items }
+        requires so_far { let c = context self.now.env (M.byte memory.old) in SoFar c self.now.steps self.now.default row.now return_register cfa from room.old }
         ensures same { M.byte memory.new ≡ M.byte memory.old }
-        ensures so { let c = context self.now.env (M.byte memory.old) in Over (Adds c self.now.steps self.now.default row.now return_register cfa register values.new.items) (RegistersFail c self.now.steps self.now.default row.now return_register cfa) (M.failures memory.old) result (M.failures memory.new) }
+        ensures so { let c = context self.now.env (M.byte memory.old) in Over (Adds c self.now.steps self.now.default row.now return_register cfa register room.new) (RegistersFail c self.now.steps self.now.default row.now return_register cfa) (M.failures memory.old) result (M.failures memory.new) }
     {
         let to = usize::from(register);
-        self.add_all_given(from, to, row, return_register, cfa, values)?;
+        self.add_all_given(from, to, row, return_register, cfa, room)?;
         let value = self.register(register, own, cfa, memory)?;
-        values.push((register, value))?;
+        room.push(register, value)?;
         Ok(())
     }
 
     // The registers of the caller: those that the row specifies, and before each one and behind the last those of the machine.
-    fn registers<M: Memory>(
+    fn registers<'r, M: Memory>(
         &self,
         row: &Row<'_>,
         return_register: u16,
         cfa: u64,
         memory: &mut M,
-    ) -> Result<FrameRegisters, UnwindError>
+        room: &'r mut FrameRoom,
+    ) -> Result<FrameRegisters<'r>, UnwindError>
         requires fits { RowFits self.now.env.target row.now }
         requires room { M.failures memory.old < 2 ^ 64 - 1 }
         ensures same { M.byte memory.new ≡ M.byte memory.old }
         ensures so { let c = context self.now.env (M.byte memory.old) in Over (RegistersAre c self.now.steps self.now.default row.now return_register cfa) (RegistersFail c self.now.steps self.now.default row.now return_register cfa) (M.failures memory.old) result (M.failures memory.new) }
     {
-        let mut values = Vec::with_capacity(self.alloc, MOST_AT_ONCE)?;
+        room.clear();
         let mut from = 0;
         'registers: for (register, own) in row.specified() {
             self.add(
@@ -136,22 +135,23 @@ impl<'m> Machine<'m> {
                 return_register,
                 cfa,
                 memory,
-                &mut values,
+                room,
             )?;
             from = usize::from(register) + 1;
         }
         let end = from.max(self.end(return_register));
-        self.add_all_given(from, end, row, return_register, cfa, &mut values)?;
-        Ok(FrameRegisters::new(values))
+        self.add_all_given(from, end, row, return_register, cfa, room)?;
+        Ok(room.lent())
     }
 
     // The frame that a row gives.
-    fn frame<M: Memory>(
+    fn frame<'r, M: Memory>(
         &self,
         row: &Row<'_>,
         return_register: u16,
         memory: &mut M,
-    ) -> Result<Frame, UnwindError>
+        room: &'r mut FrameRoom,
+    ) -> Result<Frame<'r>, UnwindError>
         requires set { row.now.cfa ≡ Unset → ⊥ }
         requires fits { RowFits self.now.env.target row.now }
         requires room { M.failures memory.old < 2 ^ 64 - 1 }
@@ -159,7 +159,7 @@ impl<'m> Machine<'m> {
         ensures so { let c = context self.now.env (M.byte memory.old) in Over (FrameIs c self.now.steps self.now.default row.now return_register) (FrameFails c self.now.steps self.now.default row.now return_register) (M.failures memory.old) result (M.failures memory.new) }
     {
         let cfa = self.cfa(&row.cfa(), memory)?;
-        let registers = self.registers(row, return_register, cfa, memory)?;
+        let registers = self.registers(row, return_register, cfa, memory, room)?;
         Ok(Frame {
             cfa,
             return_register,
@@ -170,17 +170,18 @@ impl<'m> Machine<'m> {
 
 /// The frame by the rules of a row that was looked up, and by the return address register of its FDE. Answers and faults are
 /// those of `unwind`, but for `NoFde`. The row may be one of `Lookups`, of `Table::row_at` or of `look_up`: its rules are in range
-/// for the target, and its CFA has a rule.
-pub fn unwind_row<M: Memory>(
+/// for the target, and its CFA has a rule. The registers are put into `room`, which may be that of an earlier call.
+pub fn unwind_row<'r, M: Memory>(
     alloc: Global,
     row: &Row<'_>,
     return_register: u16,
     target: Target,
+    room: &'r mut FrameRoom,
     registers: &Registers,
     memory: &mut M,
     default: Policy,
     steps: u64,
-) -> Result<Frame, UnwindError>
+) -> Result<Frame<'r>, UnwindError>
     requires set { row.now.cfa ≡ Unset → ⊥ }
     requires fits { RowFits target row.now }
     requires room { M.failures memory.old < 2 ^ 64 - 1 }
@@ -207,5 +208,5 @@ pub fn unwind_row<M: Memory>(
         default,
         steps,
     };
-    machine.frame(row, return_register, memory)
+    machine.frame(row, return_register, memory, room)
 }

@@ -4,11 +4,11 @@ ghost use Rattle.std.specs.Prelude.{◌≡◌};
 ghost use Rattle.dw_unwind.specs.declared.frame.UnwindError.TheVariants.{OutOfMemory};
 ghost use Rattle.dw_unwind.specs.Codes.{frame_fault};
 
+use crate::frame_room::FrameRegisters;
 use dw_eval::Kind;
 use std::alloc::{AllocError, AllocFailed};
 use std::error::Error;
 use std::fmt;
-use std::marker::Model;
 
 /// A column of a row of the table of 6.4.1: the canonical frame address, or a register.
 #[derive(Clone, Copy, Debug, PartialEq, Eq)]
@@ -28,53 +28,16 @@ impl fmt::Display for Column {
     }
 }
 
-/// Registers of the caller, ascending, each with its value, or None where it has none that can be recovered.
-#[derive(Debug, Drop)]
-pub struct FrameRegisters {
-    values: Vec<(u16, Option<u64>)>,
-}
-
-impl Model for FrameRegisters {
-    ghost use Rattle.std.specs.Prelude.{List, Option, ℕ};
-
-    ghost Value = { List (ℕ × Option ℕ) };
-
-    ghost view = { λ r. r.values.items };
-}
-
-impl FrameRegisters {
-    /// These registers. Takes no memory.
-    pub fn new(values: Vec<(u16, Option<u64>)>) -> FrameRegisters
-        ensures { result ≡ values.items }
-    {
-        FrameRegisters { values }
-    }
-
-    /// The registers in order with their values.
-    pub fn values(&self) -> &[(u16, Option<u64>)]
-        ensures { result.now ≡ self.now }
-    {
-        self.values.as_slice()
-    }
-
-    /// The same as a vector. Takes no memory.
-    pub fn into_values(self) -> Vec<(u16, Option<u64>)>
-        ensures { result.items ≡ self }
-    {
-        self.values
-    }
-}
-
 /// The caller's frame: the canonical frame address, the number of the register that holds the return address, and
 /// the registers that the machine gave, that the row specifies, or that holds the return address.
 #[derive(Debug, Drop)]
-pub struct Frame {
+pub struct Frame<'r> {
     /// The canonical frame address (CFA).
     pub cfa: u64,
     /// `return_address_register` of the CIE: the column whose value is the caller's program counter.
     pub return_register: u16,
     /// The caller's registers, ascending.
-    pub registers: FrameRegisters,
+    pub registers: FrameRegisters<'r>,
 }
 
 /// Why there is no frame of the caller (6.4, 6.4.3), and the column of the row (6.4.1) that it comes from.

@@ -6,7 +6,7 @@ ghost use Rattle.dw_unwind.specs.Ranges.{byte_in};
 use dw_eval::{Memory, Policy, ReadFault};
 use dw_num::{Order, Size, Target};
 use dw_section::check;
-use dw_unwind::{Dump, DumpMemory, Frame, unwind};
+use dw_unwind::{Dump, DumpMemory, Frame, FrameRoom, unwind};
 use std::alloc::Global;
 use std::test::Fail;
 
@@ -79,7 +79,7 @@ impl Memory for Failing {
 }
 
 // As `cfa 0x2008 ra r16 r3 0x2000 r5 undefined`.
-fn frame_text(alloc: Global, frame: &Frame) -> Result<String, Fail> {
+fn frame_text(alloc: Global, frame: &Frame<'_>) -> Result<String, Fail> {
     let mut text = format!(in alloc; "cfa {:#x} ra r{}", frame.cfa, frame.return_register)?;
     for (register, value) in frame.registers.values() {
         let part = match value {
@@ -107,11 +107,13 @@ fn agree(alloc: Global, row: Row, target: Target, default: Policy) -> Result<(),
         reads: 0,
         failures: 0,
     };
+    let mut room = FrameRoom::new(alloc);
     let answer = match unwind(
         alloc,
         &table,
         target,
         pc,
+        &mut room,
         &dump.registers,
         &mut memory,
         default,

@@ -15,6 +15,7 @@ mod borrowing;
 mod evaluations;
 mod expressions;
 mod forms;
+mod frames;
 mod lookups;
 mod numbers;
 mod programs;
@@ -62,6 +63,7 @@ fn made(rt: &HostRuntime, call: &str, bytes: &[u8], target: Target) -> Result<()
         "normalise_to" => forms::written(rt, bytes, target),
         "normal_length" => forms::measured(rt, bytes, target),
         "same" => forms::compared(rt, bytes, target),
+        "index" | "frames" => frames::all(rt, bytes, target, call == "frames"),
         "borrowed" => borrowing::all(rt),
         _ => programs::over_section(rt, call, bytes, target),
     }

@@ -15,4 +15,4 @@ returns c = λ byte so.
     let listed : is_listed world.register row c.args.return_register r ≡ true = sym (c.lists.ensures row c.requires.unset) ∙ c.if-not-lists.false in
     let value = subst (λ (x : RegRule). RegisterIs world m.steps m.default c.args.cfa r x (Ok c.defaulted.result)) (sym c.requires.unset) (ap Ok (c.defaulted.ensures byte)) in
     let next : suc r ≡ r + 1 = omega arith in
-    rw (c.in_ok-push.ensures.items, sym next) (so_added world m.steps m.default row c.args.return_register c.args.cfa r c.args.values.now.items c.defaulted.result so listed value)
+    rw (c.in_ok-push.ensures, sym next) (so_added world m.steps m.default row c.args.return_register c.args.cfa r c.args.room.now c.defaulted.result so listed value)

@@ -14,10 +14,10 @@ returns-in_err-add-clause-so g c =
     let world = context m.env (g.M.Memory.byte c.args.memory.now) in
     let e = c.in_err-add.field-0.0 in
     let after = g.M.Memory.failures c.add.new.memory in
-    let adds = Adds world m.steps m.default row c.args.return_register c.args.cfa c.in-Some.register c.add.new.values.items in
+    let adds = Adds world m.steps m.default row c.args.return_register c.args.cfa c.in-Some.register c.add.new.room in
     let fails = RegistersFail world m.steps m.default row c.args.return_register c.args.cfa in
-    let p = err_from_is_err_and c.from_residual-in_err-add.result c.from_residual-in_err-add.ensures.1 in
-    let moved = subst (λ (b : ℕ → Option ℕ). Over (Adds (context m.env b) m.steps m.default row c.args.return_register c.args.cfa c.in-Some.register c.add.new.values.items) (RegistersFail (context m.env b) m.steps m.default row c.args.return_register c.args.cfa) (g.M.Memory.failures c.registers.memory) (Err e) after)
+    let p = err_from_is_err_and c.from_residual.result c.from_residual.ensures.1 in
+    let moved = subst (λ (b : ℕ → Option ℕ). Over (Adds (context m.env b) m.steps m.default row c.args.return_register c.args.cfa c.in-Some.register c.add.new.room) (RegistersFail (context m.env b) m.steps m.default row c.args.return_register c.args.cfa) (g.M.Memory.failures c.registers.memory) (Err e) after)
     c.registers.invariant.same c.in_err-add.ensures.so in
     let counted = subst (λ (n : ℕ). Over adds fails n (Err e) after) c.registers.invariant.count moved in
     rw (p.1, p.2) (over_error adds (RegistersAre world m.steps m.default row c.args.return_register c.args.cfa) fails fails (λ x h. h) (λ x h. h) (g.M.Memory.failures c.args.memory.now) e after counted)
@@ -36,6 +36,6 @@ returns-clause-so g c =
     let end = c.max-end.result in
     let none = left_none row from (subst (IsLeft row from) c.in-None.ensures.steps.0 c.registers.invariant.left) in
     let so = c.in_ok-add_all_given.ensures (g.M.Memory.byte c.args.memory.now) c.registers.invariant.so_far in
-    let all = so_all world m.steps m.default row c.args.return_register c.args.cfa end c.add_all_given.new.values.items so
+    let all = so_all world m.steps m.default row c.args.return_register c.args.cfa end c.add_all_given.new.room so
     (λ r le. c.end.ensures.beyond row r (omega (arith, le, c.max-end.ensures)) (none r (omega (arith, le, c.max-end.ensures)))) in
-    (rw c.new.ensures all, c.registers.invariant.count)
+    (rw c.lent.ensures all, c.registers.invariant.count)

@@ -9,5 +9,5 @@ invariant-registers g l = record {
   count : g.M.Memory.failures l.memory ≡ g.M.Memory.failures l.initial.memory;
   most : l.from ≤ 65536;
   left : IsLeft l.row l.from l.register-iterator;
-  so_far : SoFar (context l.self.env (g.M.Memory.byte l.initial.memory)) l.self.steps l.self.default l.row l.return_register l.cfa l.from l.values.items;
+  so_far : SoFar (context l.self.env (g.M.Memory.byte l.initial.memory)) l.self.steps l.self.default l.row l.return_register l.cfa l.from l.room;
 }
