@@ -27,6 +27,9 @@
  *   threads, where these may not be called. dwframe_row_at and dwframe_unwind_at ask for none where the rules up to the address
  *   are for registers below 128 and have no expression and no offset beyond 16 bits, rows are remembered one at a time, and the
  *   frame has at most 64 registers, all below 128. No clause says so: the requests are counted.
+ * - There is stack, in KB at most: 5 for dwframe_row_at and dwframe_evaluate, 8 for dwframe_unwind_at, 20 for dwframe_check and
+ *   dwframe_unwind, 25 for dwframe_rows_at and dwframe_normalise, 30 for dwframe_changes and dwframe_same. This was measured over
+ *   tables of compilers and rules with expressions; no bound is proved.
  *
  * All else is answered: any bytes, any size, order, number and length of room have a status. No call keeps anything when it has
  * returned, so any number of threads may make calls at once.
