@@ -39,13 +39,18 @@ pub fn are_alike(alloc: Global, one: &[u8], other: &[u8]) -> Result<bool, Fail> 
     leaves(alloc, other, &row)
 }
 
-const ALIKE: [(&[u8], &[u8], bool); 6] = [
+const ALIKE: [(&[u8], &[u8], bool); 10] = [
     (b"\x0c\x07\x08", b"\x12\x07\0\x0e\x08", true),
     (b"\x0f\x03\x77\x08\x06", b"\x0f\x04\x92\x07\x08\x06", true),
     (b"\x0f\x03\x77\x08\x06", b"\x0f\x03\x77\x09\x06", false),
     (b"\x83\x01\x84\x02", b"\x84\x02\x83\x01", true),
     (b"\x10\x03\x01\x30", b"\x16\x03\x01\x30", false),
     (b"\x07\x03", b"", false),
+    // Offsets that 16 bits do not hold: -32,776 and -32,784; and -65,544, of which the low 16 bits are those of -8.
+    (b"\x85\x81\x20", b"\x11\x05\x81\x20", true),
+    (b"\x85\x01", b"\x85\x81\x40", false),
+    (b"\x85\x81\x20", b"\x85\x82\x20", false),
+    (b"\x85\x81\x20", b"\x14\x05\x81\x20", false),
 ];
 
 #[test]

@@ -295,6 +295,13 @@ big=4 cie=0c01000000 fde=0300100400000010 begin=10000400 code=4 data=-4: 0x10000
 big=4 cie=0c01000000 fde=0110000440 begin=10000400 code=4 data=-4: 0x10000400 cfa=r1+0;0x10000440 cfa=r1+0;
 big=4 cie=0c01000000 fde=01100003ff begin=10000400 code=4 data=-4: LocationBackwards at 0x30";
 
+// Offsets of 16 bits and beyond: restored, remembered, set one after another, and of higher registers.
+const LONG: &str = "\
+cie=85ffff0186808002110780807e1108ffff7d fde=850186018701880141c5c6c7c8 data=1: 0x1000 cfa=unset r5=[cfa+1] r6=[cfa+1] r7=[cfa+1] r8=[cfa+1];0x1001 cfa=unset r5=[cfa+32767] r6=[cfa+32768] r7=[cfa-32768] r8=[cfa-32769];
+cie=1405ffff011406808002150780807e1508ffff7d fde=0a1405808002140601140701140801410b data=1: 0x1000 cfa=unset r5=cfa+32768 r6=cfa+1 r7=cfa+1 r8=cfa+1;0x1001 cfa=unset r5=cfa+32767 r6=cfa+32768 r7=cfa-32768 r8=cfa-32769;
+cie= fde=85802041858120411405812041110580604115058160: 0x1000 cfa=unset r5=[cfa-32768];0x1001 cfa=unset r5=[cfa-32776];0x1002 cfa=unset r5=cfa-32776;0x1003 cfa=unset r5=[cfa+32768];0x1004 cfa=unset r5=cfa+32760;
+cie=057f812005ac028120 fde=0a057f0105ac020141067f06ac0241057f802005ac028020410b: 0x1000 cfa=unset r127=[cfa-8] r300=[cfa-8];0x1001 cfa=unset r127=[cfa-32776] r300=[cfa-32776];0x1002 cfa=unset r127=[cfa-32768] r300=[cfa-32768];0x1003 cfa=unset r127=[cfa-32776] r300=[cfa-32776];";
+
 #[test]
 fn gives_rows(rt: HostRuntime) -> Result<(), Fail> {
     let alloc = rt.alloc();
@@ -302,6 +309,7 @@ fn gives_rows(rt: HostRuntime) -> Result<(), Fail> {
     agree_all(alloc, REFUSED)?;
     agree_all(alloc, INITIAL)?;
     agree_all(alloc, TOP)?;
+    agree_all(alloc, LONG)?;
     agree_all(alloc, SIZE_4)
 }
 

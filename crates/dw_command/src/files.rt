@@ -57,8 +57,8 @@ pub trait Load {
 // at that number: there it would be doubled once more, only to find that nothing is left to read.
 const FIRST_ROOM: usize = 513;
 
-// Room for all bytes that a file is said to have and one more, by which its end is found: else it is doubled while it
-// is read.
+// Room for all bytes that a file is said to have, and for 513 more. Its end is found by a read into room that is left
+// over: else the room would be enlarged for that alone.
 fn room_for<F: OpenFile>(file: &F) -> usize {
     match file.metadata() {
         Ok(data) => data.len().min(LIMIT + 1) as usize + FIRST_ROOM,

@@ -1,6 +1,6 @@
 //! The rows of an FDE, one after another.
 
-ghost use Rattle.std.specs.Prelude.{◌≡◌, ◌<◌, ◌≤◌, ◌^◌, ◌++◌, ℕ, List, [], ◌∷◌, length, min, slice_index_or, slice_set, IfOk, OnErr};
+ghost use Rattle.std.specs.Prelude.{◌≡◌, ◌+◌, ◌-◌, ◌<◌, ◌≤◌, ◌^◌, ◌++◌, ℕ, List, [], ◌∷◌, length, min, slice_index_or, slice_set, IfOk, OnErr};
 ghost use Rattle.std.specs.List.{AllByRecursion};
 ghost use Rattle.dw_cfa.specs.Rows.{Rules};
 ghost use Rattle.dw_section.specs.Meaning.{AreFdes};
@@ -84,6 +84,17 @@ fn place_behind(count: usize, size: usize) -> usize
     size
 }
 
+// How many changes and rules there are with one change more, which has so many rules.
+fn with_change(before: Totals, count: usize) -> Totals
+    ensures changes { result.changes ≡ min (before.changes + 1) (2 ^ 64 - 1) }
+    ensures rules { result.rules ≡ min (before.rules + count) (2 ^ 64 - 1) }
+{
+    Totals {
+        changes: before.changes.saturating_add(1),
+        rules: before.rules.saturating_add(count),
+    }
+}
+
 // Writes a change and its rules behind those before, as far as they fit, and says how many there are then.
 fn put_change(
     row: &CfaRow<'_>,
@@ -99,10 +110,7 @@ fn put_change(
     let count = put_rules(row, &mut rules[place..]);
     let row = told_row(fde_in(entry), entry.range, row, count);
     put_at(out, before.changes, Change { address, row });
-    Totals {
-        changes: before.changes.saturating_add(1),
-        rules: before.rules.saturating_add(count),
-    }
+    with_change(before, count)
 }
 
 // Writes the changes that are still to come.

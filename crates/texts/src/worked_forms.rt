@@ -25,7 +25,7 @@ const EXPRESSION_FORM: &str =
 // That of a register that is saved, and then not.
 const RESTORED_FORM: &str = "normal; fde 1000 20 41 0e10 8610 44 0e08 c6";
 
-const FORMS: [Form; 24] = [
+const FORMS: [Form; 25] = [
     Form {
         name: "no bytes",
         section: "",
@@ -160,6 +160,12 @@ const FORMS: [Form; 24] = [
         len: 56,
     },
     Form {
+        name: "offsets of 16 bits and beyond",
+        section: "cie; fde 1000 20 41 868020 44 868120 44 15068060 44 c6",
+        form: "normal; fde 1000 20 41 86808002 44 86888002 44 150680807e 44 c6",
+        len: 72,
+    },
+    Form {
         name: "a CFA that is not shared",
         section: "cie; fde 1000 10; fde 1010 10 0e10",
         form: "14000000 ffffffff 04 00 08 00 01 7f 10 9008 00000000000000; fde 1000 10 0c0708; fde 1010 10 0c0710",
@@ -235,7 +241,7 @@ struct Pair {
     err: &'static str,
 }
 
-const PAIRS: [Pair; 4] = [
+const PAIRS: [Pair; 5] = [
     Pair {
         name: "remember and restore",
         first: "cie; fde 1000 20 0a 41 0e10 8602 44 0b",
@@ -258,6 +264,14 @@ const PAIRS: [Pair; 4] = [
         second: "cie; fde 1000 10 0f03 770806",
         status: 0,
         out: "same\n",
+        err: "",
+    },
+    Pair {
+        name: "offsets with the same low 16 bits",
+        first: "cie; fde 1000 10 8601",
+        second: "cie; fde 1000 10 868140",
+        status: 1,
+        out: "different\n",
         err: "",
     },
     Pair {

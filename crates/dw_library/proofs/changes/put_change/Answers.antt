@@ -8,4 +8,4 @@ returns c = λ done changes buffer w.
     let a = c.args in
     written_more (fde_in a.entry.now) done (a.address, a.row.now) changes a.out.now c.put_at.new.out buffer a.rules.now _ c.put_rules-count.new.out a.before _ c.place_behind-place.result c.put_rules-count.result
     w c.put_at.ensures.few c.place_behind-place.ensures.few c.place_behind-place.ensures.place c.put_rules-count.ensures.rules refl c.put_rules-count.ensures.count
-    (rw (c.told_row-row.ensures.exact, c.fde_in.ensures) at c.put_at.ensures.inside) c.put_at.ensures.outside c.saturating_add.ensures c.saturating_add-2.ensures
+    (rw (c.told_row-row.ensures.exact, c.fde_in.ensures) at c.put_at.ensures.inside) c.put_at.ensures.outside c.with_change.ensures.changes c.with_change.ensures.rules
