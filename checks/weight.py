@@ -23,11 +23,11 @@ BUDGET = {
     "dw_section": (3364, 5960),
     "dw_canon": (55, 4220),
     "dw_normal": (2964, 3649),
-    "dw_unwind": (1654, 2695),
+    "dw_unwind": (1748, 2731),
     "dw_words": (984, 1310),
-    "dw_command": (2414, 2453),
+    "dw_command": (2417, 2453),
     "dwframe": (278, 0),
-    "dw_library": (2262, 968),
+    "dw_library": (2274, 968),
 }
 COLUMNS = ["sources", "functions", "public", "specs", "inner", "proofs", "longest"]
 FUNCTION = re.compile(r'^\s*(pub(?:\([a-z]+\))? )?(?:extern "C" )?fn ', re.M)
