@@ -16,7 +16,7 @@ use itoa::Buffer;
 use std::io::{ErrorKind, Write};
 
 // How many bytes the output gets at once, or fewer.
-const ROOM: usize = 16_384;
+const ROOM: usize = 8_192;
 
 // How many bytes room is made for.
 const PIECE: usize = 128;
