@@ -1,10 +1,9 @@
 -- Ascending registers in a tree: what it finds, puts in and takes out is what the list of them says.
 use Rattle.dw_cfa.proofs.Words.{append_assoc, ◌≡◌, ℕ, suc, ◌<◌, ◌≤◌, true, false, List, [], ◌∷◌, ◌++◌, refl, sym, ap, ◌∙◌, subst, arith, nat_cmp, unwrap_or, nat_tests, CfaRule, RegRule, Rules, Unspecified, is_specified, AreSpecified}
-use Rattle.dw_cfa.proofs.Words.{Option, Some, inl, inr, cases_lt, far_behind, place_behind, rule_in, put, with_rule}
+use Rattle.dw_cfa.proofs.Words.{rule_in, put, with_rule}
 use Rattle.std.specs.Map.{lookup, remove_entry}
 use Rattle.std.specs.BTreeMap.{insert_entry, is_at}
 use Rattle.dw_cfa.proofs.Lent.RowLists.{Entry, listed_is, put_keeps, put_rule}
-use Rattle.dw_cfa.proofs.Difference.{range_on}
 use Rattle.dw_cfa.proofs.Slots.{is_put}
 
 pub found_is : (r : ℕ) (xs : List Entry) → unwrap_or (lookup (is_at (nat_cmp r)) xs) Unspecified ≡ rule_in xs r
@@ -42,33 +41,6 @@ pub one_more : (xs rest all new : List Entry) (x : Entry) → new ≡ insert_ent
 one_more xs rest all new x e whole up =
     let end : new ≡ xs ++ x ∷ [] = e ∙ appended 0 xs x rest (subst (AreSpecified 0) (sym whole) up) in
     ap (λ (l : List Entry). l ++ rest) end ∙ append_assoc xs (x ∷ []) rest ∙ whole
-
--- ---- the registers behind one
-
--- those of a list that are all behind it
-pub whole_behind : (behind : Option ℕ) (low : ℕ) (far : List Entry) → AreSpecified low far → place_behind behind ≤ low → far_behind behind far ≡ far
-whole_behind behind low [] up le = refl
-whole_behind behind low (x ∷ xs) up le =
-    let first : low ≤ x.0 = up.0 in
-    let yes = (range_on behind x).0 (omega arith) in
-    rw yes (ap (λ (l : List Entry). x ∷ l) (whole_behind behind (suc x.0) xs up.2 (omega arith)))
-
--- those behind the first of them are the others
-pub next_behind : (behind : Option ℕ) (low : ℕ) (far rest : List Entry) (x : Entry) → AreSpecified low far → far_behind behind far ≡ x ∷ rest → (low ≤ x.0) × (far_behind (Some x.0) far ≡ rest)
-next_behind behind low [] rest x up e = absurd cc
-next_behind behind low (y ∷ ys) rest x up e = elim (cases_lt y.0 (place_behind behind)) [
-  | inl lt ↦
-      let before : far_behind behind (y ∷ ys) ≡ far_behind behind ys = rw ((range_on behind y).1 lt) refl in
-      let next = next_behind behind (suc y.0) ys rest x up.2 (sym before ∙ e) in
-      let not = (range_on (Some x.0) y).1 (omega (arith, next.0)) in
-      (omega (arith, next.0, up.0), rw not next.1)
-  | inr ge ↦
-      let all : y ∷ ys ≡ x ∷ rest = sym (whole_behind behind y.0 (y ∷ ys) (omega arith, up.1, up.2) ge) ∙ e in
-      let at : y.0 ≡ x.0 = cc in
-      let not = (range_on (Some x.0) y).1 (omega (arith, at)) in
-      let others : ys ≡ rest = cc in
-      (omega (arith, at, up.0), rw not (whole_behind (Some x.0) (suc y.0) ys up.2 (omega (arith, at)) ∙ others))
-]
 
 -- ---- taking a change back
 

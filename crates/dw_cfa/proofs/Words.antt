@@ -107,7 +107,7 @@ pub use Rattle.std.proofs.lemmas.List.Sums.{sum_by-cons}
 pub use Rattle.std.proofs.lemmas.Map.Made.{filter_same_pairs}
 pub use Rattle.std.proofs.lemmas.Nat.Bits.{bit_at-trailing_zeros, bit_at-zero, bit_at_above, bit_at_clear_other, bit_at_clear_same, bit_at_or, bit_at_set_other, bit_at_set_same}
 pub use Rattle.std.proofs.lemmas.Result.{IfErr-weaker, IfOk-weaker, err_from_is_err_and}
-pub use Rattle.std.specs.BTreeMap.Range.{entries_between, range_contains}
+pub use Rattle.std.specs.BTreeMap.Range.{range_contains}
 pub use Rattle.std.specs.Bool.{Decides, MatchBool, one_answer}
 pub use Rattle.std.specs.Int.{bit_at, bit_not, trailing_zeros, w128, w32}
 pub use Rattle.std.specs.List.{All, AllByRecursion, AllZip, filter}

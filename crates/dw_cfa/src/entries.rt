@@ -133,16 +133,18 @@ impl<'a> Entries<'a> {
     }
 
     #[inline(always)]
+    #[tactic(auto, using(crate::proofs::Difference::all_behind))]
     pub(crate) fn all(&self) -> Specified<'_, 'a>
         requires { EntriesSo self.now }
         ensures { result ≡ entries_of self.now }
     {
         Specified {
-            last: None,
+            at: 0,
             slots: &self.slots,
             used: self.used,
             expressions: &self.expressions,
             far: &self.far,
+            last: None,
         }
     }
 

@@ -5,7 +5,6 @@ ghost use Rattle.std.specs.Int.{bit_at};
 ghost use Rattle.dw_cfa.specs.Rows.{rule_in};
 ghost use Rattle.dw_cfa.specs.Inner.Entries.{FindsNear, FirstBit, FirstIn, Holds, SameSlots, slot_rule};
 
-use crate::behind::place_behind;
 use crate::rule::RegRule;
 use crate::slot::{Kind, Slot, rule_of};
 use std::collections::BTreeMap;
@@ -94,19 +93,19 @@ pub(crate) fn copy_slots(slots: &mut [Slot; 128], others: &[Slot; 128], mask: u1
     }
 }
 
-/// The first register behind another one, or of all, that the mask has, and its rule.
+/// The first register from a place on that the mask has, and its rule.
 #[inline(always)]
 pub(crate) fn next_near<'a>(
-    behind: Option<u16>,
+    at: u16,
     slots: &[Slot; 128],
     used: u128,
     expressions: &BTreeMap<u16, RegRule<'a>>,
 ) -> Option<(u16, RegRule<'a>)>
     requires slots { length slots.now ≡ 128 }
     requires holds { Holds used slots.now expressions.now.entries }
-    ensures { FindsNear result behind used slots.now expressions.now.entries }
+    ensures { FindsNear result at used slots.now expressions.now.entries }
 {
-    let Some(next) = next_in(used, place_behind(behind)) else {
+    let Some(next) = next_in(used, u32::from(at)) else {
         return None;
     };
     let register = next as u16;

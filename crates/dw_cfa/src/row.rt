@@ -53,41 +53,44 @@ impl<'a> Clone for Row<'a> {
 /// An iterator over the registers that a row specifies, ascending, with their rules. Takes no memory.
 #[derive(Drop)]
 pub struct Specified<'r, 'a> {
-    // The one that was answered last.
-    pub(crate) last: Option<u16>,
+    pub(crate) at: u16,
     pub(crate) slots: &'r [Slot; 128],
     pub(crate) used: u128,
     pub(crate) expressions: &'r BTreeMap<u16, RegRule<'a>>,
     pub(crate) far: &'r BTreeMap<u16, RegRule<'a>>,
+    // The register of the tree that was answered last. An iterator over the tree takes 100 bytes more, which each caller clears.
+    pub(crate) last: Option<u16>,
 }
 
 impl<'r, 'a> Model for Specified<'r, 'a> {
     ghost use Rattle.std.specs.Prelude.{◌≡◌, List, ℕ, length};
     ghost use Rattle.dw_cfa.specs.declared.rule.RegRule.{RegRule as Rule};
     ghost use Rattle.dw_cfa.specs.Rows.{AreSpecified};
-    ghost use Rattle.dw_cfa.specs.Inner.Entries.{all_behind, Holds};
+    ghost use Rattle.dw_cfa.specs.Inner.Entries.{far_behind, listed_near, Holds};
 
     ghost Value = { List (ℕ × Rule) };
 
-    ghost view = { λ s. all_behind s.last s.used s.slots.now s.expressions.now.entries s.far.now.entries };
+    ghost view = { λ s. listed_near s.at s.used s.slots.now s.expressions.now.entries (far_behind s.last s.far.now.entries) };
 
     ghost invariant = { λ s. (length s.slots.now ≡ 128) × Holds s.used s.slots.now s.expressions.now.entries × AreSpecified 128 s.far.now.entries };
 }
 
 impl<'r, 'a> Specified<'r, 'a> {
     #[inline(always)]
+    #[tactic(auto, using(crate::proofs::Slots::slots_end, crate::proofs::Difference::none_behind))]
     fn step(&mut self) -> Option<(u16, RegRule<'a>)>
         ensures { MatchOption result ((self.old ≡ []) × (self.new ≡ [])) (λ entry. self.old ≡ entry ∷ self.new) }
     {
         if let Some((register, rule)) = next_near(
-            self.last,
+            self.at,
             self.slots,
             self.used,
             self.expressions,
         ) {
-            self.last = Some(register);
+            self.at = register + 1;
             return Some((register, rule));
         }
+        self.at = NEAR;
         if self.far.is_empty() {
             return None;
         }

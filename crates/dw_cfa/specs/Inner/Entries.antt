@@ -1,5 +1,5 @@
 -- Where the registers of a row lie: those below 128 in slots under a mask, with their expressions in a tree, and the others in another tree.
-use Rattle.std.specs.Prelude.{◌≡◌, ℕ, zero, suc, ◌<◌, ◌≤◌, ◌-◌, List, [], ◌∷◌, length, Bool, Option, Some, None, ℤ, pos, IsTrue, nat_eq, nat_lt, if◌then◌else◌}
+use Rattle.std.specs.Prelude.{◌≡◌, ℕ, zero, suc, ◌<◌, ◌≤◌, ◌-◌, List, ◌∷◌, length, Bool, Option, Some, None, ℤ, pos, IsTrue, nat_eq, nat_lt, if◌then◌else◌}
 use Rattle.dw_cfa.specs.declared.rule.RegRule.{RegRule}
 use Rattle.dw_cfa.specs.declared.rule.RegRule.TheVariants as rules
 use Rattle.dw_cfa.specs.declared.entries.Entries.{Entries}
@@ -12,7 +12,6 @@ use Rattle.std.specs.BTreeMap.Range.{entries_between}
 use Rattle.std.specs.declared.ops.Bound.TheVariants.{Unbounded}
 use Rattle.std.proofs.Math.ListN.{get_or}
 use Rattle.dw_cfa.specs.Rows.{AreSpecified, is_specified, rule_in}
-use Rattle.dw_cfa.specs.Difference.{place_behind}
 use Rattle.dw_cfa.specs.Inner.Difference.{start_behind}
 use Rattle.dw_cfa.specs.Inner.Rows.{listed}
 
@@ -60,10 +59,6 @@ listed_near k used near expressions far = listed_from k (128 - k) (near_rule use
 abbrev pub far_behind : Option ℕ → List (ℕ × RegRule) → List (ℕ × RegRule)
 far_behind behind far = entries_between nat_cmp (start_behind behind) Unbounded far
 
--- those of the slots and of the tree behind a register, or all of them
-abbrev pub all_behind : Option ℕ → ℕ → List Slot → List (ℕ × RegRule) → List (ℕ × RegRule) → List (ℕ × RegRule)
-all_behind behind used near expressions far = listed_near (place_behind behind) used near expressions (far_behind behind far)
-
 -- the registers that are not Unspecified, ascending, with their rules
 abbrev pub entries_of : Entries → List (ℕ × RegRule)
 entries_of e = listed_near 0 e.used e.slots e.expressions.entries e.far.entries
@@ -91,16 +86,11 @@ FirstIn end (Some r) mask place = (place ≤ r) × (r < end) × (bit_at mask r �
 abbrev pub FirstBit : Option ℕ → ℕ → ℕ → Type 0
 FirstBit first mask place = FirstIn 128 first mask place
 
--- the first register of the slots behind one, or of all
-abbrev pub FindsNear : Option (ℕ × RegRule) → Option ℕ → ℕ → List Slot → List (ℕ × RegRule) → Type 0
-FindsNear None behind used near expressions = (far : List (ℕ × RegRule)) → listed_near (place_behind behind) used near expressions far ≡ far
-FindsNear (Some entry) behind used near expressions =
-    (place_behind behind ≤ entry.0) × (entry.0 < 128) × ((far : List (ℕ × RegRule)) → listed_near (place_behind behind) used near expressions far ≡ entry ∷ listed_near (suc entry.0) used near expressions far)
-
--- the same of the tree
-abbrev pub FindsFar : Option (ℕ × RegRule) → Option ℕ → List (ℕ × RegRule) → Type 0
-FindsFar None behind far = far_behind behind far ≡ []
-FindsFar (Some entry) behind far = (128 ≤ entry.0) × (far_behind behind far ≡ entry ∷ far_behind (Some entry.0) far)
+-- the first register of the slots from a place on
+abbrev pub FindsNear : Option (ℕ × RegRule) → ℕ → ℕ → List Slot → List (ℕ × RegRule) → Type 0
+FindsNear None at used near expressions = (far : List (ℕ × RegRule)) → listed_near at used near expressions far ≡ far
+FindsNear (Some entry) at used near expressions =
+    (entry.0 < 128) × ((far : List (ℕ × RegRule)) → listed_near at used near expressions far ≡ entry ∷ listed_near (suc entry.0) used near expressions far)
 
 -- what a test of entries leaves of a register's rule
 abbrev pub left : (ℕ × RegRule → Bool) → ℕ → RegRule → RegRule
