@@ -19,7 +19,7 @@ BUDGET = {
     "dw_num": (1040, 1802),
     "dw_op": (2495, 4643),
     "dw_eval": (1675, 1556),
-    "dw_cfa": (5919, 6420),
+    "dw_cfa": (5865, 6408),
     "dw_section": (3364, 5960),
     "dw_canon": (55, 4220),
     "dw_normal": (2964, 3649),
@@ -27,7 +27,7 @@ BUDGET = {
     "dw_words": (984, 1310),
     "dw_command": (2417, 2453),
     "dwframe": (278, 0),
-    "dw_library": (2274, 968),
+    "dw_library": (2245, 955),
 }
 COLUMNS = ["sources", "functions", "public", "specs", "inner", "proofs", "longest"]
 FUNCTION = re.compile(r'^\s*(pub(?:\([a-z]+\))? )?(?:extern "C" )?fn ', re.M)

@@ -1,8 +1,8 @@
 -- The first register whose rule differs between two rows.
-use Rattle.dw_cfa.proofs.Words.{◌≡◌, ℕ, suc, ◌+◌, ◌<◌, ◌≤◌, Bool, true, false, List, [], ◌∷◌, Option, Some, None, refl, sym, ap, ◌∙◌, subst, arith, bit_or, bit_at, filter, nat_cmp, range_contains, Unbounded}
-use Rattle.dw_cfa.proofs.Words.{if◌then◌else◌, nat_lt, nat_tests, Entries, Unspecified, AreSpecified, rule_in, entries_of, EntriesSo, SameBetween, DiffersFirst, FirstDifference, place_behind, SameUnset, start_behind}
+use Rattle.dw_cfa.proofs.Words.{◌≡◌, ℕ, suc, ◌+◌, ◌<◌, ◌≤◌, Bool, true, false, List, [], ◌∷◌, length, Option, Some, None, refl, sym, ap, ◌∙◌, subst, arith, bit_or, bit_at, filter, nat_cmp, range_contains, Bound, Unbounded}
+use Rattle.dw_cfa.proofs.Words.{if◌then◌else◌, nat_lt, nat_tests, Entries, Unspecified, AreSpecified, far_behind, rule_in, entries_of, EntriesSo, SameBetween, DiffersFirst, FirstDifference, place_behind, SameUnset, start_behind}
 use Rattle.dw_cfa.proofs.Lent.RowLists.{Entry, lower, unlisted}
-use Rattle.dw_cfa.proofs.Lent.SameRows.{first_rule, not_specified}
+use Rattle.dw_cfa.proofs.Lent.SameRows.{first_rule, not_specified, same_entries}
 use Rattle.dw_cfa.proofs.Slots.{behind_slots, neither, not_set}
 use Rattle.dw_cfa.proofs.Lent.Narrowed.{filter_keeps, filter_rule}
 
@@ -90,7 +90,7 @@ abbrev pub FromOn : (Entry → Bool) → ℕ → Type 0
 FromOn p from = (x : Entry) → ((from ≤ x.0) → p x ≡ true) × ((x.0 < from) → p x ≡ false)
 
 module _ (p : Entry → Bool) (from low : ℕ) (on : FromOn p from) where
-  part_rule : (xs left : List Entry) → AreSpecified low xs → left ≡ filter p xs → (r : ℕ) → rule_in left r ≡ (if nat_lt r from then Unspecified else rule_in xs r)
+  pub part_rule : (xs left : List Entry) → AreSpecified low xs → left ≡ filter p xs → (r : ℕ) → rule_in left r ≡ (if nat_lt r from then Unspecified else rule_in xs r)
   part_rule xs left up e r = grind (arith, nat_tests, on (r, rule_in xs r), filter_rule p low xs r up, ap (λ (l : List Entry). rule_in l r) e)
 
   pub first_from : (xs ys xs' ys' : List Entry) → AreSpecified low xs → AreSpecified low ys → xs' ≡ filter p xs → ys' ≡ filter p ys → (o : Option ℕ) → FirstDifference 0 xs' ys' o → FirstDifference from xs ys o
@@ -104,6 +104,25 @@ module _ (p : Entry → Bool) (from low : ℕ) (on : FromOn p from) where
 pub range_on : (behind : Option ℕ) → FromOn (λ x. range_contains nat_cmp (start_behind behind) Unbounded x.0) (place_behind behind)
 range_on None x = ((λ le. refl), (λ lt. absurd (omega arith)))
 range_on (Some r) x = ((λ le. grind (arith, nat_tests)), (λ lt. grind (arith, nat_tests)))
+
+-- behind the first of that part are its others
+pub next_behind : (behind : Option ℕ) (far rest : List Entry) (x : Entry) → AreSpecified 128 far → far_behind behind far ≡ x ∷ rest → far_behind (Some x.0) far ≡ rest
+next_behind behind far rest x up e =
+    let inside = λ (b : Bound ℕ) (y : Entry). range_contains nat_cmp b Unbounded y.0 in
+    let part = part_rule (inside (start_behind behind)) (place_behind behind) 128 (range_on behind) far (x ∷ rest) up (sym e) in
+    let after = part_rule (inside (start_behind (Some x.0))) (suc x.0) 128 (range_on (Some x.0)) far (far_behind (Some x.0) far) up refl in
+    let here = subst (AreSpecified 128) e (filter_keeps (inside (start_behind behind)) 128 far up) in
+    let from : place_behind behind ≤ x.0 = grind (arith, nat_tests, part x.0, not_specified x.1 here.1) in
+    same_entries 128 (far_behind (Some x.0) far) rest (filter_keeps (inside (start_behind (Some x.0))) 128 far up) (lower (suc x.0) 128 rest (omega (arith, here.0)) here.2)
+    (λ r. grind (arith, nat_tests, part r, after r, unlisted r (suc x.0) rest here.2, from))
+
+pub none_behind : (behind : Option ℕ) (far : List Entry) → length far ≡ 0 → far_behind behind far ≡ []
+none_behind behind [] e = refl
+none_behind behind (x ∷ xs) e = absurd cc
+
+pub all_behind : (far : List Entry) → far_behind None far ≡ far
+all_behind [] = refl
+all_behind (x ∷ xs) = ap (λ (l : List Entry). x ∷ l) (all_behind xs)
 
 -- a part of a tree ascends
 pub part_up : (p : Entry → Bool) (far part : List Entry) → part ≡ filter p far → AreSpecified 128 far → AreSpecified 0 part

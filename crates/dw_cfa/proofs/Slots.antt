@@ -1,14 +1,14 @@
 -- Registers in slots: what is set in one register's slot is what setting that register leaves.
 use Rattle.dw_cfa.proofs.Words.{if◌then◌else◌, nat_lt, ◌≡◌, ◌⊎◌, Bool, true, false, inl, inr, cases_eq, cases_lt, ℕ, zero, suc, ◌+◌, ◌<◌, ◌≤◌, cond, Some, None, List, [], ◌∷◌, length, get_or, refl, sym, ap, ◌∙◌, subst, arith, get_or-set_same}
 use Rattle.dw_cfa.proofs.Words.{get_or-set_other, nat_tests, IsTrue, nat_eq, ℤ, ◌-◌, ◌*◌, ◌/◌, ◌%◌, ◌^◌, bit_or, bit_and, bit_at, bit_not, trailing_zeros, w64, w128, Option, not, div-le_self, bit_at-zero, bit_at_above}
-use Rattle.dw_cfa.proofs.Words.{bit_at-trailing_zeros, bit_at_set_same, bit_at_set_other, bit_at_clear_other, bit_at_clear_same, bit_at_or, Entries, Kind, RegRule, Slot, Unspecified, is_specified, AreSpecified, HasFar, rule_in, listed, put}
+use Rattle.dw_cfa.proofs.Words.{bit_at-trailing_zeros, bit_at_set_same, bit_at_set_other, bit_at_clear_other, bit_at_clear_same, bit_at_or, Entries, Kind, RegRule, Slot, Unspecified, is_specified, AreSpecified, rule_in, listed, put}
 use Rattle.dw_cfa.proofs.Words.{EntriesSo, entries_of, kind_rule, slot_rule, listed_from, listed_near, near_rule, no_slot, rule_if, FirstBit, FirstIn, Holds, HoldsRule, IsSlotOf}
 use Rattle.std.proofs.Common.{set}
 use Rattle.std.proofs.lemmas.Nat.{one_shl, pow-add, pow_pos, shr-shr}
 use Rattle.std.proofs.lemmas.Nat.Bits.{bit_at-lt, bit_at_and, bit_at_cat_low, and_pow}
 use Rattle.dw_cfa.specs.declared.slot.Kind.TheVariants as kinds
 use Rattle.dw_cfa.proofs.Lent.RowLists.{Entry, lower, listed_is, listed_keeps, listed_rule, other_rule, put_keeps, put_rule, same_rule_set, unlisted}
-use Rattle.dw_cfa.proofs.Lent.SameRows.{first_rule, same_entries}
+use Rattle.dw_cfa.proofs.Lent.SameRows.{same_entries}
 
 -- ---- registers from one on, and those behind them
 
@@ -48,13 +48,6 @@ slot_rule_is e so q lt = near_is (near_rule e.used e.slots e.expressions.entries
 
 pub behind_slots : (e : Entries) → EntriesSo e → (q : ℕ) → 128 ≤ q → rule_in (entries_of e) q ≡ rule_in e.far.entries q
 behind_slots e so q le = far_is (near_rule e.used e.slots e.expressions.entries) e.far.entries so.far q le
-
--- an entry of the tree is a rule of the row
-pub has_far : (f : ℕ → RegRule) (far : List Entry) → AreSpecified 128 far → (far ≡ [] → ⊥) → HasFar (listed_from 0 128 f far)
-has_far f [] up some = absurd (some refl)
-has_far f (entry ∷ rest) up some =
-    let high : 128 ≤ entry.0 = up.0 in
-    (entry.0, omega arith, subst (λ (rule : RegRule). IsTrue (is_specified rule)) (sym (far_is f (entry ∷ rest) up entry.0 high ∙ first_rule entry rest)) up.1)
 
 pub put_so : (r low : ℕ) (rule : RegRule) (old new : List Entry) → new ≡ put r rule old → AreSpecified low old → low ≤ r → AreSpecified low new
 put_so r low rule old new is up le = subst (AreSpecified low) (sym is) (put_keeps r rule low old up le)

@@ -10,7 +10,7 @@ pub use Rattle.dw_cfa.specs.Inner.Agreement.{agreed, is_agreed, same_cfa, same_r
 pub use Rattle.dw_cfa.specs.Inner.Coverage.{is_unset, lacks_from, leaves_one}
 pub use Rattle.dw_cfa.specs.Inner.Difference.{SameUnset, start_behind}
 unfoldable pub use Rattle.dw_cfa.specs.Inner.Entries.{listed_from}
-pub use Rattle.dw_cfa.specs.Inner.Entries.{EntriesSo, FirstBit, FirstIn, Holds, HoldsRule, IsSlotOf, LeavesAmong, LeavesAt, LeavesBelow, entries_of, kind_rule, left, SameSlots, listed_near, near_rule, no_slot, rule_if, slot_rule}
+pub use Rattle.dw_cfa.specs.Inner.Entries.{EntriesSo, FirstBit, FirstIn, Holds, HoldsRule, IsSlotOf, LeavesAmong, LeavesAt, LeavesBelow, entries_of, far_behind, kind_rule, left, SameSlots, listed_near, near_rule, no_slot, rule_if, slot_rule}
 pub use Rattle.dw_cfa.specs.Inner.Exact.{BehindGives, BehindRefused, GivesRows, InitialLeaves, InitialRefused, LeavesInitial}
 unfoldable pub use Rattle.dw_cfa.specs.Inner.FrontInstr.{block_at, expression_in, instr_at}
 pub use Rattle.dw_cfa.specs.Inner.FrontInstr.{after_code, after_length, block_in, expression_of, form_at, judged, known_at, leaving, operand_at, then_operand, with_instr}
@@ -43,7 +43,7 @@ pub use Rattle.dw_cfa.specs.RegisterSets.{AgreesBeside, Registers, SameBeside, h
 pub use Rattle.dw_cfa.specs.RowLaws.{BehindWhereFault, FirstRowIsBegin, GivesWhereKept, LastHolds, LeavesWhereKept, NoneFalls, OneBehind, OneCount, OneHolds, OneInitial, OneRun, RefusedWhereFault, RowsWhereKept}
 pub use Rattle.dw_cfa.specs.RowSteps.{Stepping, program_input, stepping}
 pub use Rattle.dw_cfa.specs.RowWalk.{AllKeep, StandsOn, Walking}
-pub use Rattle.dw_cfa.specs.Rows.{AreSpecified, HasFar, Rules, blank, is_specified, rule, rule_in}
+pub use Rattle.dw_cfa.specs.Rows.{AreSpecified, Rules, blank, is_specified, rule, rule_in}
 pub use Rattle.dw_cfa.specs.RuleAt.{NeverFalls, last_at, left_above, or_here, rows_above}
 pub use Rattle.dw_cfa.specs.RulesBehind.{RulesBehind}
 pub use Rattle.dw_cfa.specs.Runs.{Outcome, fails, finished, row_then}

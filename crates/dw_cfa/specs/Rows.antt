@@ -25,10 +25,6 @@ abbrev pub rule_in : List (ℕ × RegRule) → ℕ → RegRule
 rule_in [] r = Unspecified
 rule_in (entry ∷ rest) r = if nat_eq entry.0 r then entry.1 else rule_in rest r
 
--- a register from 32 on has a rule
-abbrev pub HasFar : List (ℕ × RegRule) → Type 0
-HasFar entries = (r : ℕ) × (32 ≤ r) × IsTrue (is_specified (rule_in entries r))
-
 -- the rule of a register
 abbrev pub rule : Rules → ℕ → RegRule
 rule row r = rule_in row.registers r

@@ -1,9 +1,9 @@
 //! The registers of a row with their rules (6.4.1).
 
-ghost use Rattle.std.specs.Prelude.{◌≡◌, ◌<◌, ℤ, [], None, IfOk, IfSome, OnOk, OnErr, MatchOption, IsTrue, ◌↔◌};
+ghost use Rattle.std.specs.Prelude.{◌≡◌, ◌<◌, ℤ, [], IfOk, IfSome, OnOk, OnErr, MatchOption, IsTrue, ◌↔◌};
 ghost use Rattle.dw_cfa.specs.declared.rule.RegRule.TheVariants.{Offset, Unspecified};
 ghost use Rattle.dw_cfa.specs.declared.slot.Kind.TheVariants.{Expression};
-ghost use Rattle.dw_cfa.specs.Rows.{HasFar, rule_in, is_specified};
+ghost use Rattle.dw_cfa.specs.Rows.{rule_in, is_specified};
 ghost use Rattle.dw_cfa.specs.Inner.Rows.{put};
 ghost use Rattle.dw_cfa.specs.Inner.Agreement.{same_rule};
 ghost use Rattle.dw_cfa.specs.Inner.Entries.{entries_of, EntriesSo, IsSlotOf, slot_rule};
@@ -12,7 +12,7 @@ ghost use Rattle.dw_cfa.specs.Difference.{FirstDifference, place_behind};
 ghost use Rattle.dw_cfa.specs.Inner.Difference.{FirstBelow, SameUnset};
 
 use crate::behind::{place_behind, start_behind};
-use crate::near_slots::{NearRules, bit_of, copy_slots, is_in, next_in, same_slots};
+use crate::near_slots::{bit_of, copy_slots, is_in, next_in, same_slots};
 use crate::row::Specified;
 use crate::rule::RegRule;
 use crate::slot::{Kind, Slot, UNWRITTEN, offset_in, rule_of, slot_of};
@@ -133,6 +133,7 @@ impl<'a> Entries<'a> {
     }
 
     #[inline(always)]
+    #[tactic(auto, using(crate::proofs::Difference::all_behind))]
     pub(crate) fn all(&self) -> Specified<'_, 'a>
         requires { EntriesSo self.now }
         ensures { result ≡ entries_of self.now }
@@ -142,27 +143,9 @@ impl<'a> Entries<'a> {
             slots: &self.slots,
             used: self.used,
             expressions: &self.expressions,
-            far: self.far.iter(),
+            far: &self.far,
+            last: None,
         }
-    }
-
-    // The same where every register has a slot.
-    #[inline(always)]
-    #[tactic(auto, using(crate::proofs::Slots::has_far))]
-    pub(crate) fn all_near(&self) -> Option<NearRules<'_, 'a>>
-        requires { EntriesSo self.now }
-        ensures near { IfSome result (λ near. near ≡ entries_of self.now) }
-        ensures none { result ≡ None → HasFar (entries_of self.now) }
-    {
-        if !self.far.is_empty() {
-            return None;
-        }
-        Some(NearRules {
-            at: 0,
-            slots: &self.slots,
-            used: self.used,
-            expressions: &self.expressions,
-        })
     }
 
     pub(crate) fn is_same(&self, others: &Entries<'_>) -> bool

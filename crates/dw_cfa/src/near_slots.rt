@@ -1,16 +1,13 @@
 //! Slots of registers under a mask: a slot that the mask has not is never read.
 
-ghost use Rattle.std.specs.Prelude.{◌≡◌, ◌<◌, ◌≤◌, ◌↔◌, ◌*◌, ◌^◌, ◌%◌, [], ◌∷◌, false, IsTrue, MatchOption, length, nat_eq};
-ghost use Rattle.std.specs.Iterator.{YieldsFirst, item_count};
+ghost use Rattle.std.specs.Prelude.{◌≡◌, ◌<◌, ◌≤◌, ◌↔◌, ◌*◌, ◌^◌, ◌%◌, false, IsTrue, length, nat_eq};
 ghost use Rattle.std.specs.Int.{bit_at};
 ghost use Rattle.dw_cfa.specs.Rows.{rule_in};
 ghost use Rattle.dw_cfa.specs.Inner.Entries.{FindsNear, FirstBit, FirstIn, Holds, SameSlots, slot_rule};
 
-use crate::entries::NEAR;
 use crate::rule::RegRule;
 use crate::slot::{Kind, Slot, rule_of};
 use std::collections::BTreeMap;
-use std::marker::Model;
 
 // What stands before the upper half of a mask.
 const HALF: u128 = 1 << 64;
@@ -151,59 +148,5 @@ pub(crate) fn same_slots(
         (Kind::ValOffset, Kind::ValOffset) => slot.offset == other.offset,
         (Kind::Register, Kind::Register) => slot.register == other.register,
         _ => false,
-    }
-}
-
-/// An iterator over the registers that a row specifies where all of them are below 128, ascending, with their rules. Takes no
-/// memory.
-#[derive(Drop)]
-pub struct NearRules<'r, 'a> {
-    pub(crate) at: u16,
-    pub(crate) slots: &'r [Slot; 128],
-    pub(crate) used: u128,
-    pub(crate) expressions: &'r BTreeMap<u16, RegRule<'a>>,
-}
-
-impl<'r, 'a> Model for NearRules<'r, 'a> {
-    ghost use Rattle.std.specs.Prelude.{◌≡◌, List, [], ℕ, length};
-    ghost use Rattle.dw_cfa.specs.declared.rule.RegRule.{RegRule as Rule};
-    ghost use Rattle.dw_cfa.specs.Inner.Entries.{listed_near, Holds};
-
-    ghost Value = { List (ℕ × Rule) };
-
-    ghost view = { λ s. listed_near s.at s.used s.slots.now s.expressions.now.entries [] };
-
-    ghost invariant = { λ s. (length s.slots.now ≡ 128) × Holds s.used s.slots.now s.expressions.now.entries };
-}
-
-impl<'r, 'a> NearRules<'r, 'a> {
-    #[inline(always)]
-    fn step(&mut self) -> Option<(u16, RegRule<'a>)>
-        ensures { MatchOption result ((self.old ≡ []) × (self.new ≡ [])) (λ entry. self.old ≡ entry ∷ self.new) }
-    {
-        if let Some((register, rule)) = next_near(
-            self.at,
-            self.slots,
-            self.used,
-            self.expressions,
-        ) {
-            self.at = register + 1;
-            return Some((register, rule));
-        }
-        self.at = NEAR;
-        None
-    }
-}
-
-impl<'r, 'a> Iterator for NearRules<'r, 'a> {
-    type Item = (u16, RegRule<'a>);
-
-    ghost next_gives = { YieldsFirst (λ entries. entries) };
-
-    ghost remaining = { item_count (λ entries. entries) };
-
-    #[inline(always)]
-    fn next(&mut self) -> Option<(u16, RegRule<'a>)> {
-        self.step()
     }
 }

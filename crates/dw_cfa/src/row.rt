@@ -1,9 +1,9 @@
 //! Rows of rules (6.4.1).
 
-ghost use Rattle.std.specs.Prelude.{◌≡◌, ◌<◌, ℤ, [], ◌∷◌, None, IfOk, IfSome, OnOk, OnErr, MatchOption, IsTrue, ◌↔◌};
+ghost use Rattle.std.specs.Prelude.{◌≡◌, ◌<◌, ℤ, [], ◌∷◌, IfOk, OnOk, OnErr, MatchOption, IsTrue, ◌↔◌};
 ghost use Rattle.std.specs.Iterator.{YieldsFirst, item_count};
 ghost use Rattle.dw_cfa.specs.declared.rule.RegRule.TheVariants.{Offset};
-ghost use Rattle.dw_cfa.specs.Rows.{AreSpecified, HasFar, rule, rule_in, blank};
+ghost use Rattle.dw_cfa.specs.Rows.{AreSpecified, rule, rule_in, blank};
 ghost use Rattle.dw_cfa.specs.Inner.Rows.{with_cfa, with_rule};
 ghost use Rattle.dw_cfa.specs.Agreement.{IsAgreed, kept};
 ghost use Rattle.dw_cfa.specs.Difference.{FirstDifference, place_behind};
@@ -11,11 +11,12 @@ ghost use Rattle.dw_cfa.specs.Inner.Difference.{FirstBelow, SameUnset};
 ghost use Rattle.dw_cfa.specs.Inner.LookUp.{SpecifiesIn};
 
 use crate::entries::{Entries, NEAR};
-use crate::near_slots::{NearRules, next_near};
+use crate::near_slots::next_near;
 use crate::rule::{CfaRule, RegRule};
 use crate::slot::Slot;
+use crate::tree::next_in_tree;
 use std::alloc::{AllocError, Global};
-use std::collections::{BTreeMap, btree_map};
+use std::collections::BTreeMap;
 use std::marker::Model;
 /// The rules at an address, a row of the table of 6.4.1: how the canonical frame address and the registers of the caller are found. A
 /// contract sees the CFA's rule and the registers that are not Unspecified, ascending, with theirs.
@@ -56,23 +57,27 @@ pub struct Specified<'r, 'a> {
     pub(crate) slots: &'r [Slot; 128],
     pub(crate) used: u128,
     pub(crate) expressions: &'r BTreeMap<u16, RegRule<'a>>,
-    pub(crate) far: btree_map::Iter<'r, u16, RegRule<'a>>,
+    pub(crate) far: &'r BTreeMap<u16, RegRule<'a>>,
+    // The register of the tree that was answered last. An iterator over the tree takes 100 bytes more, which each caller clears.
+    pub(crate) last: Option<u16>,
 }
 
 impl<'r, 'a> Model for Specified<'r, 'a> {
     ghost use Rattle.std.specs.Prelude.{◌≡◌, List, ℕ, length};
     ghost use Rattle.dw_cfa.specs.declared.rule.RegRule.{RegRule as Rule};
-    ghost use Rattle.dw_cfa.specs.Inner.Entries.{listed_near, Holds};
+    ghost use Rattle.dw_cfa.specs.Rows.{AreSpecified};
+    ghost use Rattle.dw_cfa.specs.Inner.Entries.{far_behind, listed_near, Holds};
 
     ghost Value = { List (ℕ × Rule) };
 
-    ghost view = { λ s. listed_near s.at s.used s.slots.now s.expressions.now.entries s.far };
+    ghost view = { λ s. listed_near s.at s.used s.slots.now s.expressions.now.entries (far_behind s.last s.far.now.entries) };
 
-    ghost invariant = { λ s. (length s.slots.now ≡ 128) × Holds s.used s.slots.now s.expressions.now.entries };
+    ghost invariant = { λ s. (length s.slots.now ≡ 128) × Holds s.used s.slots.now s.expressions.now.entries × AreSpecified 128 s.far.now.entries };
 }
 
 impl<'r, 'a> Specified<'r, 'a> {
     #[inline(always)]
+    #[tactic(auto, using(crate::proofs::Slots::slots_end, crate::proofs::Difference::none_behind))]
     fn step(&mut self) -> Option<(u16, RegRule<'a>)>
         ensures { MatchOption result ((self.old ≡ []) × (self.new ≡ [])) (λ entry. self.old ≡ entry ∷ self.new) }
     {
@@ -86,10 +91,14 @@ impl<'r, 'a> Specified<'r, 'a> {
             return Some((register, rule));
         }
         self.at = NEAR;
-        let Some((register, rule)) = self.far.next() else {
+        if self.far.is_empty() {
+            return None;
+        }
+        let Some((register, rule)) = next_in_tree(self.far, self.last) else {
             return None;
         };
-        Some((*register, rule.copied()))
+        self.last = Some(register);
+        Some((register, rule))
     }
 }
 
@@ -222,15 +231,6 @@ impl<'a> Row<'a> {
     {
         self.ascends();
         self.entries.all()
-    }
-
-    /// The same at less cost, where all of them are below 128. None says that one of them is not. Takes no memory.
-    #[inline(always)]
-    pub fn near_rules(&self) -> Option<NearRules<'_, 'a>>
-        ensures near { IfSome result (λ near. near ≡ self.now.registers) }
-        ensures none { result ≡ None → HasFar self.now.registers }
-    {
-        self.entries.all_near()
     }
 
     pub(crate) fn set_cfa(&mut self, cfa: CfaRule<'a>)

@@ -1,13 +1,16 @@
 //! Rules of registers in a tree, ascending.
 
-ghost use Rattle.std.specs.Prelude.{◌≡◌, IfOk, OnOk, OnErr};
+ghost use Rattle.std.specs.Prelude.{◌≡◌, [], ◌∷◌, Some, IfOk, OnOk, OnErr, MatchOption};
 ghost use Rattle.dw_cfa.specs.Difference.{FirstDifference};
 ghost use Rattle.dw_cfa.specs.Rows.{AreSpecified, rule_in};
+ghost use Rattle.dw_cfa.specs.Inner.Entries.{far_behind};
 ghost use Rattle.dw_cfa.specs.Inner.Rows.{put};
 
+use crate::behind::start_behind;
 use crate::rule::RegRule;
 use std::alloc::{AllocError, Global};
 use std::collections::{BTreeMap, btree_map};
+use std::ops::Bound;
 
 /// A tree once more.
 pub(crate) fn tree_of<'a>(
@@ -53,6 +56,24 @@ pub(crate) fn rule_in_tree<'a>(entries: &BTreeMap<u16, RegRule<'a>>, register: u
         Some(rule) => rule.copied(),
         None => RegRule::Unspecified,
     }
+}
+
+/// The first register of a tree behind another one, or of all, and its rule. Out of line: room for a walk is cleared at each
+/// step else.
+#[inline(never)]
+#[tactic(auto, using(crate::proofs::Difference::next_behind))]
+pub(crate) fn next_in_tree<'a>(
+    entries: &BTreeMap<u16, RegRule<'a>>,
+    behind: Option<u16>,
+) -> Option<(u16, RegRule<'a>)>
+    requires { AreSpecified 128 entries.now.entries }
+    ensures { MatchOption result (far_behind behind entries.now.entries ≡ []) (λ entry. far_behind behind entries.now.entries ≡ entry ∷ far_behind (Some entry.0) entries.now.entries) }
+{
+    let mut left = entries.range((start_behind(behind), Bound::Unbounded));
+    let Some((register, rule)) = left.next() else {
+        return None;
+    };
+    Some((*register, rule.copied()))
 }
 
 /// The first register whose rule differs between two parts of trees.

@@ -1,7 +1,6 @@
 //! Look-ups by an index that the caller keeps.
 
 ghost use Rattle.std.specs.Prelude.{◌≡◌, ◌+◌, ◌<◌, ◌≤◌, List, IfOk, IfErr, OnErr, MatchResult, length, map, slice_set};
-ghost use Rattle.dw_cfa.specs.Rows.{AreSpecified};
 ghost use Rattle.dw_num.specs.Refusals.{Refuses};
 ghost use Rattle.dw_section.specs.Accepted.{CheckFault};
 ghost use Rattle.dw_op.specs.Faults.{IsWithin};
@@ -16,7 +15,7 @@ use crate::answer::{
     BAD_ARGUMENT, OK, OUT_OF_MEMORY, REFUSED, Refused, Section, TOO_SHORT, not_refused, target_of,
     told,
 };
-use dw_cfa::{CfaRule, NearRules, RegRule, Row as CfaRow, RowRoom};
+use dw_cfa::{CfaRule, RegRule, Row as CfaRow, RowRoom};
 use dw_num::{ReadError, Target};
 use dw_section::{Fde, LookUpError, Ranged, StandingFde, check, look_up};
 use std::alloc::Global;
@@ -204,9 +203,8 @@ fn put_rule(out: &mut [Rule], place: usize, rule: Rule)
     }
 }
 
-// Writes the rules of a row to the front of a buffer, as many as fit, and tells how many there are.
-#[inline(never)]
-fn put_all_rules(row: &CfaRow<'_>, out: &mut [Rule]) -> usize
+/// Writes the rules of a row to the front of a buffer, as many as fit, and tells how many there are.
+pub(crate) fn put_rules(row: &CfaRow<'_>, out: &mut [Rule]) -> usize
     ensures count { result ≡ length row.now.registers }
     ensures rules { out.new ≡ over (map rule_of row.now.registers) out.old }
 {
@@ -216,33 +214,6 @@ fn put_all_rules(row: &CfaRow<'_>, out: &mut [Rule]) -> usize
         count += 1;
     }
     count
-}
-
-// The same where each of the registers has a slot.
-#[inline(always)]
-fn put_near_rules(rules: NearRules<'_, '_>, out: &mut [Rule]) -> usize
-    requires { AreSpecified 0 rules }
-    ensures count { result ≡ length rules.entry }
-    ensures rules { out.new ≡ over (map rule_of rules.entry) out.old }
-{
-    let mut count: usize = 0;
-    for (number, rule) in rules {
-        put_rule(out, count, rule_of(number, &rule));
-        count += 1;
-    }
-    count
-}
-
-/// Writes the rules of a row to the front of a buffer, as many as fit, and tells how many there are.
-pub(crate) fn put_rules(row: &CfaRow<'_>, out: &mut [Rule]) -> usize
-    ensures count { result ≡ length row.now.registers }
-    ensures rules { out.new ≡ over (map rule_of row.now.registers) out.old }
-{
-    row.ascends();
-    match row.near_rules() {
-        Some(rules) => put_near_rules(rules, out),
-        None => put_all_rules(row, out),
-    }
 }
 
 pub(crate) fn no_row() -> Row

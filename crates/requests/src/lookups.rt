@@ -1,9 +1,7 @@
 //! Look-ups of addresses one after another, to be counted beside those of another reader (`bench/run`).
 
-ghost use Rattle.dw_cfa.specs.Rows.{AreSpecified};
-
 use crate::Calls;
-use dw_cfa::{CfaRule, NearRules, RegRule, Row};
+use dw_cfa::{CfaRule, RegRule, Row};
 use dw_num::Target;
 use dw_section::{Fde, Lookups, Table, check};
 use std::alloc::AllocError;
@@ -61,30 +59,12 @@ fn next_sum(sum: u64, register: u16, rule: &RegRule<'_>) -> u64 {
         .wrapping_add(u64::from(register) ^ told(rule))
 }
 
-fn near_sum(rules: NearRules<'_, '_>) -> u64
-    requires { AreSpecified 0 rules }
-{
-    let mut sum: u64 = 0;
-    for (register, rule) in rules {
-        sum = next_sum(sum, register, &rule);
-    }
-    sum
-}
-
-fn far_sum(row: &Row<'_>) -> u64 {
+fn rules_sum(row: &Row<'_>) -> u64 {
     let mut sum: u64 = 0;
     for (register, rule) in row.specified() {
         sum = next_sum(sum, register, &rule);
     }
     sum
-}
-
-fn rules_sum(row: &Row<'_>) -> u64 {
-    row.ascends();
-    match row.near_rules() {
-        Some(rules) => near_sum(rules),
-        None => far_sum(row),
-    }
 }
 
 // A number that tells the FDE and the rules of all registers at an address too, which a look-up from C writes.

@@ -7,8 +7,12 @@ use Rattle.dw_cfa.specs.declared.slot.Slot.{Slot}
 use Rattle.dw_cfa.specs.declared.slot.Kind.{Kind}
 use Rattle.dw_cfa.specs.declared.slot.Kind.TheVariants as kinds
 use Rattle.std.specs.Int.{bit_at}
+use Rattle.std.specs.Ordering.{nat_cmp}
+use Rattle.std.specs.BTreeMap.Range.{entries_between}
+use Rattle.std.specs.declared.ops.Bound.TheVariants.{Unbounded}
 use Rattle.std.proofs.Math.ListN.{get_or}
 use Rattle.dw_cfa.specs.Rows.{AreSpecified, is_specified, rule_in}
+use Rattle.dw_cfa.specs.Inner.Difference.{start_behind}
 use Rattle.dw_cfa.specs.Inner.Rows.{listed}
 
 abbrev pub kind_rule : Kind → ℕ → ℤ → RegRule → RegRule
@@ -50,6 +54,10 @@ listed_from k (suc n) rule far = listed k (rule k) (listed_from (suc k) n rule f
 -- those below 128 that are left from k on
 abbrev pub listed_near : ℕ → ℕ → List Slot → List (ℕ × RegRule) → List (ℕ × RegRule) → List (ℕ × RegRule)
 listed_near k used near expressions far = listed_from k (128 - k) (near_rule used near expressions) far
+
+-- those of a tree behind a register, or all of them
+abbrev pub far_behind : Option ℕ → List (ℕ × RegRule) → List (ℕ × RegRule)
+far_behind behind far = entries_between nat_cmp (start_behind behind) Unbounded far
 
 -- the registers that are not Unspecified, ascending, with their rules
 abbrev pub entries_of : Entries → List (ℕ × RegRule)

@@ -1,5 +1,0 @@
-use Rattle.dw_library.proofs.Overlays.{Overlaid}
-use Rattle.dw_library.proofs.index.put_near_rules.Given as goal
-
-abbrev pub invariant-loop-number : goal.invariant-loop-number
-invariant-loop-number l = Overlaid l.fn.rules l.number-iterator l.initial.out l.out l.count
