@@ -1,10 +1,10 @@
-/* How much stack the calls of the library for C take that a profiler makes:
+/* How much stack each call of the library for C takes:
  *
  *     stack SIZE ORDER FILE
  *
- * FILE is a well formed section. At addresses of each FDE dwframe_row_at and dwframe_unwind_at run on a stack of their own, which was
- * painted before, and the bytes from the deepest one that changed are counted. Printed is the most of each call. What the C library's
- * malloc takes of the stack, where memory is asked for, is in it. */
+ * FILE is a well formed section. Each call runs on a stack of its own, which was painted before, and the bytes from the deepest one that
+ * changed are counted: the calls by an index at addresses of each FDE, those that judge the whole section at addresses of some. Printed is
+ * the most of each call. What the C library's malloc takes of the stack, where memory is asked for, is in it. */
 #define _XOPEN_SOURCE 700
 #include <stdio.h>
 #include <stdlib.h>
@@ -13,43 +13,126 @@
 
 #include "dwframe.h"
 
-enum { BYTES = 1 << 24, STACK = 1 << 18, PAINT = 0xa5, RULES = 512, GIVEN = 128, REGISTERS = 512, LOOK_UPS = 8 };
+enum { BYTES = 1 << 24, STACK = 1 << 18, PAINT = 0xa5, ROOM = 1 << 16, GIVEN = 128, LOOK_UPS = 8, FEW = 16 };
 
-static uint8_t bytes[BYTES], memory[1 << 16];
+static uint8_t bytes[BYTES], out[BYTES], memory[1 << 16];
 static dwframe_section section;
-static size_t entries;
+static size_t entries, needed;
 static dwframe_entry *table;
 static dwframe_refusal refusal;
+static dwframe_rule rules[ROOM];
+static dwframe_row row;
+static dwframe_register registers[GIVEN], told[ROOM];
+static dwframe_frame frame;
+static dwframe_fault fault;
 static uint64_t address;
 static unsigned char stack[STACK];
 static ucontext_t here, there;
+/* What the calls answer says nothing here. */
+static dwframe_status status;
 
-static void look_up(void)
-{
-    static dwframe_rule rules[RULES];
-    static dwframe_row row;
-    dwframe_row_at(&section, table, entries, address, rules, RULES, &row, &refusal);
-}
-
-/* The frame of a machine whose registers are all in the middle of its memory. */
-static void unwind(void)
-{
-    static dwframe_register registers[GIVEN], out[REGISTERS];
-    static const dwframe_window window = {0x8000, 0, sizeof memory};
-    static dwframe_frame frame;
-    static dwframe_fault fault;
-    for (uint16_t i = 0; i < GIVEN; i++)
-        registers[i] = (dwframe_register){i, 1, 0, 0x10000};
-    dwframe_stop stop = {address, 100, DWFRAME_UNSET_UNCHANGED, 0};
-    dwframe_machine machine = {registers, GIVEN, &window, 1, memory, sizeof memory};
-    dwframe_unwind_at(&section, table, entries, &stop, &machine, out, REGISTERS, &frame, &refusal, &fault);
-}
+/* ---- the calls */
 
 static void nothing(void)
 {
 }
 
-/* What a call takes of a painted stack. */
+static void check(void)
+{
+    dwframe_counts counts;
+    status = dwframe_check(&section, &counts, &refusal);
+}
+
+static void name(void)
+{
+    char text[DWFRAME_NAME_SIZE];
+    needed = dwframe_refusal_name(DWFRAME_REFUSAL_TRUNCATED, text, sizeof text);
+    needed = dwframe_status_name(DWFRAME_REFUSED, text, sizeof text);
+    needed = dwframe_fault_name(DWFRAME_FAULT_UNREADABLE, text, sizeof text);
+}
+
+static void normalise(void)
+{
+    status = dwframe_normalise(&section, out, sizeof out, &needed, &refusal);
+}
+
+static void same(void)
+{
+    uint32_t alike;
+    status = dwframe_same(&section, &section, &alike, &refusal);
+}
+
+static void index_size(void)
+{
+    status = dwframe_index_size(&section, &needed, &refusal);
+}
+
+static void make_index(void)
+{
+    status = dwframe_index(&section, table, entries, &needed, &refusal);
+}
+
+static void row_at(void)
+{
+    status = dwframe_row_at(&section, table, entries, address, rules, ROOM, &row, &refusal);
+}
+
+static void rows_at(void)
+{
+    status = dwframe_rows_at(&section, &address, 1, &row, 1, rules, ROOM, &needed, &refusal);
+}
+
+static void expressions_at(void)
+{
+    static dwframe_block blocks[ROOM];
+    dwframe_blocks all;
+    status = dwframe_expressions_at(&section, table, entries, address, out, sizeof out, blocks, ROOM, &all, &refusal);
+}
+
+static void changes(void)
+{
+    static dwframe_change found[ROOM];
+    dwframe_totals totals;
+    status = dwframe_changes(&section, address, found, ROOM, rules, ROOM, &totals, &refusal);
+}
+
+/* A machine whose registers are all in the middle of its memory. */
+static const dwframe_window window = {0x8000, 0, sizeof memory};
+static const dwframe_machine machine = {registers, GIVEN, &window, 1, memory, sizeof memory};
+
+static void unwind(void)
+{
+    dwframe_stop stop = {address, 100, DWFRAME_UNSET_UNCHANGED, 0};
+    status = dwframe_unwind(&section, &stop, &machine, told, ROOM, &frame, &refusal, &fault);
+}
+
+static void unwind_at(void)
+{
+    dwframe_stop stop = {address, 100, DWFRAME_UNSET_UNCHANGED, 0};
+    status = dwframe_unwind_at(&section, table, entries, &stop, &machine, told, ROOM, &frame, &refusal, &fault);
+}
+
+/* breg7 8; deref. */
+static void evaluate(void)
+{
+    static const uint8_t block[] = {0x77, 0x08, 0x06};
+    dwframe_context context = {.steps = 100, .address_size = section.address_size, .byte_order = section.byte_order};
+    uint64_t value;
+    status = dwframe_evaluate(block, sizeof block, &context, &machine, &value, &refusal, &fault);
+}
+
+static struct {
+    const char *name;
+    void (*call)(void);
+    size_t most;
+} by_index[] = {{"row_at", row_at, 0}, {"expressions_at", expressions_at, 0}, {"unwind_at", unwind_at, 0}},
+  whole[] = {{"rows_at", rows_at, 0}, {"changes", changes, 0}, {"unwind", unwind, 0}, {"check", check, 0},
+      {"index_size", index_size, 0}, {"index", make_index, 0}, {"normalise", normalise, 0}, {"same", same, 0},
+      {"evaluate", evaluate, 0}, {"the names", name, 0}};
+enum { BY_INDEX = sizeof by_index / sizeof *by_index, WHOLE = sizeof whole / sizeof *whole };
+
+/* ---- the painted stack */
+
 static size_t taken(void (*call)(void))
 {
     memset(stack, PAINT, STACK);
@@ -70,6 +153,18 @@ static size_t more(size_t most, size_t found)
     return most < found ? found : most;
 }
 
+static void look_up(const dwframe_entry *fde, int all)
+{
+    uint64_t step = (fde->range - 1) / LOOK_UPS + 1;
+    for (uint64_t at = 0; at < fde->range; at += step) {
+        address = fde->begin + at;
+        for (size_t i = 0; i < BY_INDEX; i++)
+            by_index[i].most = more(by_index[i].most, taken(by_index[i].call));
+    }
+    for (size_t i = 0; all && i < WHOLE; i++)
+        whole[i].most = more(whole[i].most, taken(whole[i].call));
+}
+
 int main(int argc, char **argv)
 {
     FILE *file = argc == 4 ? fopen(argv[3], "rb") : NULL;
@@ -85,16 +180,15 @@ int main(int argc, char **argv)
     table = malloc((entries + 1) * sizeof *table);
     if (!table || dwframe_index(&section, table, entries, &entries, &refusal) != DWFRAME_OK)
         return 5;
-    size_t own = taken(nothing), row = 0, frame = 0;
-    for (size_t i = 0; i < entries; i++) {
-        uint64_t step = (table[i].range - 1) / LOOK_UPS + 1;
-        for (uint64_t at = 0; at < table[i].range; at += step) {
-            address = table[i].begin + at;
-            row = more(row, taken(look_up));
-            frame = more(frame, taken(unwind));
-        }
-    }
-    printf("dwframe_row_at %zu dwframe_unwind_at %zu\n", row - own, frame - own);
+    for (uint16_t i = 0; i < GIVEN; i++)
+        registers[i] = (dwframe_register){i, 1, 0, 0x10000};
+    size_t own = taken(nothing);
+    for (size_t i = 0; i < entries; i++)
+        look_up(&table[i], i % (entries / FEW + 1) == 0);
+    for (size_t i = 0; i < BY_INDEX; i++)
+        printf("%s %zu\n", by_index[i].name, by_index[i].most - own);
+    for (size_t i = 0; i < WHOLE; i++)
+        printf("%s %zu\n", whole[i].name, whole[i].most - own);
     free(table);
     return 0;
 }

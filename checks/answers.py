@@ -40,6 +40,14 @@ def fault(text):
     return 2, b"", f"fault: {text}\n".encode()
 
 
+def wide_frame(count):
+    """A frame of so many registers at the begin of PLAIN's function: the CFA is r7 plus 8, r16 is saved below it, and none else is."""
+    given = {number: 0x100 + number for number in range(count) if number not in (7, 16)}
+    dump = CALLED + "".join(f"\nr{number} {value:#x}" for number, value in given.items())
+    told = sorted({**given, 7: 0x7FFDF0, 16: 0x401288}.items())
+    return PLAIN, "same", dump, frame("cfa 0x7ffdf8", "ra r16", *(f"r{number} {value:#x}" for number, value in told))
+
+
 FRAMES = [
     (
         PLAIN,
@@ -66,6 +74,8 @@ FRAMES = [
     ),
     (RULES, "same", "pc 0x1000\nr7 0x2000", fault("NoRegister in r6")),
     (EMPTY_VALUE, "same", "pc 0x1000\nr7 0x2000", fault("EmptyResult at 1 in r5")),
+    # The room of a frame has place for 64 registers, and asks for memory for more.
+    *map(wide_frame, (64, 65)),
 ]
 
 

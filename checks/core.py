@@ -1,5 +1,5 @@
 #!/usr/bin/env python3
-"""Compares the stacks that examples/core.c finds in core files with gdb's, and with those of eu-stack.
+"""Compares the stacks that examples/core.c finds in core files with gdb's, and with those of eu-stack and of libunwind.
 
     core.py [--time]
 
@@ -62,7 +62,10 @@ SHARED = Way("with a shared object", ("-fPIE", "-pie"), (), NO_TABLE)
 FIXED = Way("at its own addresses, with a shared object linked for others", ("-no-pie",), ("-Wl,-Ttext-segment=0x300000",), NO_TABLE)
 STATIC = Way("static", ("-static",), None, NO_ENTRY)
 STATIC_PIE = Way("static-pie", ("-static-pie",), None, NO_ENTRY)
-WAYS = [(X86_64, SHARED), (X86_64, FIXED), (X86_64, STATIC_PIE), (AARCH64, STATIC), (AARCH64, STATIC_PIE)]
+# libunwind finds the table of a file only where that begins with its code, and has an .eh_frame too.
+BOTH_TABLES = ("-fasynchronous-unwind-tables", "-include", str(CHECKS / "both_tables.h"), "-Wl,-z,noseparate-code")
+FOR_LIBUNWIND = Way("with an .eh_frame too, and one segment", ("-fPIE", "-pie", *BOTH_TABLES), BOTH_TABLES, NO_TABLE)
+WAYS = [(X86_64, SHARED), (X86_64, FIXED), (X86_64, STATIC_PIE), (X86_64, FOR_LIBUNWIND), (AARCH64, STATIC), (AARCH64, STATIC_PIE)]
 # How the program is run: how deep, how many threads, and how it stops.
 RUNS = [("3", "1", "trap"), ("5", "8", "trap"), ("2", "8", "null"), ("3", "1", "constant")]
 
@@ -109,6 +112,16 @@ def build_readers(folder):
     output(build, cwd=ROOT / "bindings/rust", env={**os.environ, "DWFRAME_LIB": str(lent)}, timeout=None)
     readers["rust"] = target / "release/examples/core"
     return readers
+
+
+def build_libunwind_reader(folder):
+    """The reader of core files by libunwind, or none where that is not there."""
+    if missing(["pkg-config"]) or run(["pkg-config", "--exists", "libunwind-coredump"]).returncode != 0:
+        return None
+    reader = folder / "core-libunwind"
+    flags = output(["pkg-config", "--cflags", "--libs", "libunwind-coredump"]).split()
+    output(["gcc", "-O2", *WARNINGS, "-o", reader, CHECKS / "core_libunwind.c", *flags])
+    return reader
 
 
 # ---- programs, and their core files
@@ -213,10 +226,42 @@ def placed(program, core):
     return ["-ex", f"symbol-file -o {loaded - linked:#x} {program.path}"]
 
 
+def segments(core):
+    """The number, the type, the place, the address and the length in the file of each segment."""
+    begin, count = int.from_bytes(core[32:40], "little"), int.from_bytes(core[56:58], "little")
+    for number in range(count):
+        header = core[begin + 56 * number :][:56]
+        words = [int.from_bytes(header[at : at + 8], "little") for at in (8, 16, 32)]
+        yield number, int.from_bytes(header[:4], "little"), *words
+
+
+def mapped_files(core):
+    """The first address and the path of each mapping of a file, by the note NT_FILE."""
+    notes = next(core[place : place + length] for _, kind, place, _, length in segments(core) if kind == 4)
+    while int.from_bytes(notes[8:12], "little") != 0x46494C45:
+        owner, length = (int.from_bytes(notes[at : at + 4], "little") for at in (0, 4))
+        notes = notes[12 + owner + -owner % 4 + length + -length % 4 :]
+    # Behind the owner, `CORE`: how many there are, the size of a page, three numbers of each, and the paths.
+    text = notes[20:]
+    count = int.from_bytes(text[:8], "little")
+    paths = text[16 + 24 * count :].split(b"\0")
+    for number in range(count):
+        yield int.from_bytes(text[16 + 24 * number :][:8], "little"), paths[number].decode()
+
+
 def elfutils_stacks(program, core):
+    return listed_stacks(run(["eu-stack", "-n", "0", "--core", core, "-e", program.path]).stdout)
+
+
+def libunwind_command(reader, core):
+    mapped = [word for address, path in mapped_files(core.read_bytes()) for word in (hex(address), path)]
+    return [reader, core, *mapped]
+
+
+def listed_stacks(text):
     stacks = {}
-    for line in run(["eu-stack", "-n", "0", "--core", core, "-e", program.path]).stdout.splitlines():
-        if thread := re.match(r"TID (\d+):", line):
+    for line in text.splitlines():
+        if thread := re.match(r"(?:TID|thread) (\d+)", line):
             stack = stacks.setdefault(int(thread[1]), Stack())
         elif stacks and (frame := re.match(r"#\d+ +0x([0-9a-f]+)", line)):
             stack.frames.append(int(frame[1], 16))
@@ -229,15 +274,15 @@ def elfutils_stacks(program, core):
 class Tally:
     def __init__(self):
         self.wrong = 0
-        self.frames = self.stacks = self.other = 0
+        self.frames = self.stacks = self.elfutils = self.libunwind = 0
 
     def fail(self, what):
         self.wrong += 1
         print(f"core: {what}", flush=True)
 
 
-def compare(tally, readers, program, words, core):
-    """Whether each build prints the same, and the stacks are those of gdb and of eu-stack."""
+def compare(tally, readers, libunwind, program, words, core):
+    """Whether each build prints the same, and the stacks are those of gdb, of eu-stack and of libunwind."""
     printed = {name: output([reader, program.path, core]) for name, reader in readers.items()}
     first = next(iter(printed.values()))
     for name, text in printed.items():
@@ -252,23 +297,24 @@ def compare(tally, readers, program, words, core):
             tally.fail(f"{program}, {' '.join(words)}, thread {thread}: {stack}, and gdb has {other}")
         tally.frames += len(stack.frames)
     tally.stacks += len(found)
-    compare_elfutils(tally, program, words, core, found)
+    # eu-stack does not find a program of qemu-user. And where a CFA reads the program's text, which the core file does not have, it goes
+    # round for ever.
+    if not missing(["eu-stack"]) and program.target is not AARCH64 and words[2] != "constant":
+        tally.elfutils += compare_others(tally, f"{program}, eu-stack", found, elfutils_stacks(program, core))
+    if libunwind and program.way is FOR_LIBUNWIND:
+        others = listed_stacks(output(libunwind_command(libunwind, core)))
+        tally.libunwind += compare_others(tally, f"{program}, libunwind", found, others)
 
 
-def compare_elfutils(tally, program, words, core, found):
-    """Three kinds of stacks are eu-stack's own (elfutils 0.188). It goes by the frame pointer after a call of address 0, and misses the first
-    callers; and in a core file of qemu-user, in which it does not find the program. And where a CFA reads the program's text, which the core
-    file does not have, it goes round for ever."""
-    if missing(["eu-stack"]) or program.target is AARCH64 or words[2] == "constant":
-        return
-    others = elfutils_stacks(program, core)
-    for thread, stack in found.items():
+def compare_others(tally, what, found, others):
+    """How many stacks another reader has, which has to find the same frames. After a call of address 0 eu-stack (elfutils 0.188) and libunwind
+    (1.6.2) go by the frame pointer, and miss the first callers."""
+    compared = {thread: stack for thread, stack in found.items() if stack.frames[0] != 0}
+    for thread, stack in compared.items():
         other = others.get(thread, Stack())
-        if stack.frames[0] == 0:
-            continue
         if other.frames[: len(stack.frames)] != stack.frames:
-            tally.fail(f"{program}, thread {thread}: {stack}, and eu-stack has {other}")
-        tally.other += 1
+            tally.fail(f"{what}, thread {thread}: {other}, and not {stack}")
+    return len(compared)
 
 
 # ---- other files than those that were mapped
@@ -310,15 +356,6 @@ def told(tally, readers, words, status, end):
 
 
 # ---- made core files
-
-
-def segments(core):
-    """The number, the type, the place, the address and the length in the file of each segment."""
-    begin, count = int.from_bytes(core[32:40], "little"), int.from_bytes(core[56:58], "little")
-    for number in range(count):
-        header = core[begin + 56 * number :][:56]
-        words = [int.from_bytes(header[at : at + 8], "little") for at in (8, 16, 32)]
-        yield number, int.from_bytes(header[:4], "little"), *words
 
 
 def signed_core(core, addresses):
@@ -412,7 +449,7 @@ def compare_times(tally, readers, program):
         print(f"core: {frames} frames by {name}: {milliseconds:.3f} ms")
 
 
-def tell_times(readers, program):
+def tell_times(readers, libunwind, program):
     """The whole run of each reader of a core file, in milliseconds."""
     core = program.core(("47", "1", "trap"))
     batch = ["gdb", "-nx", "-batch", *QUIET, "-ex", "thread apply all bt"]
@@ -420,6 +457,8 @@ def tell_times(readers, program):
     commands["gdb"] = [*batch, program.path, core]
     if not missing(["eu-stack"]):
         commands["eu-stack"] = ["eu-stack", "--core", core, "-e", program.path]
+    if libunwind:
+        commands["libunwind"] = libunwind_command(libunwind, core)
     for name, command in commands.items():
         times = []
         for _ in range(10):
@@ -452,25 +491,27 @@ def main():
     tally = Tally()
     with tempfile.TemporaryDirectory() as name:
         folder = pathlib.Path(name)
-        readers = build_readers(folder)
+        readers, libunwind = build_readers(folder), build_libunwind_reader(folder)
         built = list(programs(folder))
         for program in built:
             for words in RUNS:
-                compare(tally, readers, program, words, program.core(words))
+                compare(tally, readers, libunwind, program, words, program.core(words))
         told = f"{tally.frames} frames of {tally.stacks} stacks of {len(built)} programs, by {', '.join(readers)}"
         print(f"core: {told}: {'NOT ' if tally.wrong else ''}as gdb's", flush=True)
-        without = "left out, for there is no eu-stack" if missing(["eu-stack"]) else f"{tally.other} of these stacks compared"
-        print(f"core beside eu-stack: {without}", flush=True)
+        for name, is_there, count in [("eu-stack", not missing(["eu-stack"]), tally.elfutils), ("libunwind", libunwind, tally.libunwind)]:
+            told = f"{count} of these stacks compared" if is_there else "left out, for it is not there"
+            print(f"core beside {name}: {told}", flush=True)
         for program in [program for program in built if program.target is AARCH64]:
             compare_signed(tally, readers, program, folder)
         for first in [program for program in built if program.target is X86_64][:1]:
             first.let_gdb_write(RUNS[1], folder / "by-gdb")
-            compare(tally, readers, first, RUNS[1], folder / "by-gdb")
+            compare(tally, readers, libunwind, first, RUNS[1], folder / "by-gdb")
             compare_changed(tally, readers, first, folder)
             compare_damaged(tally, readers, first, folder)
             compare_times(tally, readers, first)
+        for program in [program for program in built if program.way is FOR_LIBUNWIND][:1]:
             if "--time" in sys.argv[1:]:
-                tell_times(readers, first)
+                tell_times(readers, libunwind, program)
     return 1 if tally.wrong else 0
 
 

@@ -88,9 +88,11 @@ def exports(text):
 
 
 def declared(text):
-    """The calls of the header. A char is a byte, and a status its number."""
+    """The calls of the header. A char is a byte, and a status its number, which compilers want to be looked at (DWFRAME_CALL)."""
     calls = {}
-    for answer, name, inside in re.findall(r"(\w+) (dwframe_\w+)\(([^)]*)\) DWFRAME_(?:NONNULL|CALL);", text):
+    for answer, name, inside, attributes in re.findall(r"(\w+) (dwframe_\w+)\(([^)]*)\) DWFRAME_(NONNULL|CALL);", text):
+        if attributes != ("CALL" if answer == "dwframe_status" else "NONNULL"):
+            sys.exit(f"header: {name} answers {answer}, and is DWFRAME_{attributes}")
         kinds = [re.sub(r"\w+$", "", part).strip().replace("char *", "uint8_t *") for part in parts(inside)]
         kinds = [kind.replace("dwframe_status", "uint32_t") for kind in kinds]
         calls[name] = (answer.replace("dwframe_status", "uint32_t"), kinds)

@@ -262,20 +262,29 @@ sections "$root/examples" "$folder/small" >few
 while read -r size order section; do ./refused-sanitized "$size" "$order" "$section"; done <few >requests
 echo "library: $(awk '{ calls += $1; requests += $3 } END { print calls " calls, " requests " requests for memory refused, each once" }' requests)"
 
-# ---- requests for memory that are made: none by a look-up in a plain FDE, unless it remembers rows and changes many rules behind them;
-# none by a frame beyond those of its look-up
+# ---- requests for memory that are made: none by a look-up or a frame in a plain FDE, also behind up to four rows that are remembered one
+# above the other, with 6 to 8 registers changed behind each
 
 gcc "${flags[@]}" -o requests -Wl,--wrap=malloc,--wrap=realloc "$root/checks/requests.c" "$library"
+mkdir remembered
+"$root/checks/remembered.py" remembered
+sections "$folder/remembered" >nested
+cat all nested >plain
 while read -r size order section; do
     status=0
-    ./requests "$size" "$order" "$section" || status=$?
+    counts=$(./requests "$size" "$order" "$section") || status=$?
     # A refused section has no index.
     [ "$status" = 0 ] || [ "$status" = 2 ] || { echo "library: requests $section: status $status" >&2 && exit 1; }
-done <all >counted
-awk '{ rows += $1; asking += $2; frames += $3; if ($4 > most) most = $4 }
+    echo "${counts:-0 0 0 0} $section"
+done <plain >counted
+awk '
+    { look_ups += $1; frames += $3 }
+    $2 || $4 { print "library: with requests for memory: " $2 " of " $1 " look-ups, " $4 " of " $3 " frames: " $5; wrong = 1 }
+    # Each address of these has a row and a frame.
+    $5 ~ /remembered-/ && (!$1 || $1 != $3) { print "library: " $1 " look-ups, " $3 " frames: " $5; wrong = 1 }
     END {
-        print "library: " rows " look-ups in plain FDEs, " asking + 0 " of them with requests for memory; " frames " frames, with " most + 0 " requests at most beyond those of their look-ups"
-        exit asking * 1000 > rows || most > 0 || !frames
+        if (wrong || !frames) exit 1
+        print "library: " look_ups " look-ups and " frames " frames in plain FDEs, none of them with a request for memory"
     }' counted
 
 # ---- damaged sections, indexes, registers and windows: a status each time

@@ -133,13 +133,13 @@ static dwframe_status call_changes(void)
 /* A machine whose registers are all in the middle of what is known of its memory. */
 static const uint8_t memory[4096];
 static const dwframe_window windows[] = {{0x7000, 2048, 2048}, {0x6800, 0, 2048}};
-static dwframe_register registers[32];
-enum { GIVEN = sizeof registers / sizeof *registers, WINDOWS = sizeof windows / sizeof *windows };
+enum { GIVEN = 32, MANY = 80, WINDOWS = sizeof windows / sizeof *windows };
+static dwframe_register registers[MANY];
 static const dwframe_machine machine = {registers, GIVEN, windows, WINDOWS, memory, sizeof memory};
 
 static dwframe_stop stop_here(void)
 {
-    for (uint16_t i = 0; i < GIVEN; i++)
+    for (uint16_t i = 0; i < MANY; i++)
         registers[i] = (dwframe_register){i, 1, 0, 0x7000};
     return (dwframe_stop){address, 100, DWFRAME_UNSET_UNCHANGED, 0};
 }
@@ -155,6 +155,15 @@ static dwframe_status call_unwind_at(void)
 {
     dwframe_stop stop = stop_here();
     return dwframe_unwind_at(&section, table, entries, &stop, &machine, rooms.registers, REGISTERS, &told.frame, &told.refusal,
+        &told.fault);
+}
+
+/* The same of a frame with more registers than take no memory. */
+static dwframe_status call_unwind_wide(void)
+{
+    dwframe_stop stop = stop_here();
+    dwframe_machine wide = dwframe_machine_of(registers, MANY, windows, WINDOWS, memory, sizeof memory);
+    return dwframe_unwind_at(&section, table, entries, &stop, &wide, rooms.registers, REGISTERS, &told.frame, &told.refusal,
         &told.fault);
 }
 
@@ -300,6 +309,7 @@ int main(int argc, char **argv)
         each_refused("dwframe_changes", call_changes);
         each_refused("dwframe_unwind", call_unwind);
         each_refused("dwframe_unwind_at", call_unwind_at);
+        each_refused("dwframe_unwind_at of many registers", call_unwind_wide);
         each_refused("dwframe_unwind_at without memory", call_unwind_blind);
     }
     printf("%lu calls, %lu requests refused\n", calls, all_requests);

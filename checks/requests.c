@@ -2,11 +2,10 @@
  *
  *     requests SIZE ORDER FILE
  *
- * FILE is a well formed section. It is linked with --wrap=malloc and --wrap=realloc. At addresses of each FDE dwframe_row_at and
- * dwframe_unwind_at are called. Look-ups are counted where the FDE is a plain one: in its rows all registers are below 32, and no rule is
- * an expression; frames where all are below 128, no rule is an expression, and at most 64 registers are told. Printed is how many look-ups
- * there were, and how many of them asked for memory; how many frames, and how many requests a frame made at most beyond those of its
- * look-up. */
+ * FILE is a well formed section. It is linked with --wrap=malloc and --wrap=realloc. At addresses of each plain FDE dwframe_row_at and
+ * dwframe_unwind_at are called: one in whose rows all registers are below 128, and no rule is an expression or has an offset beyond 16
+ * bits. Printed is how many look-ups there were, and how many of them asked for memory; and the same of frames, where at most 64
+ * registers are told. */
 #include <stdio.h>
 #include <stdlib.h>
 #include <string.h>
@@ -39,31 +38,26 @@ static size_t entries;
 static dwframe_entry *table;
 static dwframe_refusal refusal;
 
-/* What the registers of a row are below: 32, 128, or 0 for neither, or where a rule is an expression. */
-static unsigned below(const dwframe_row *row, const dwframe_rule *rules)
+static int is_plain(const dwframe_row *row, const dwframe_rule *rules)
 {
-    unsigned least = 32;
     if (row->cfa_kind != DWFRAME_CFA_REGISTER || row->count > RULES)
         return 0;
-    for (size_t i = 0; i < row->count; i++) {
-        if (rules[i].number >= 128 || rules[i].kind >= DWFRAME_RULE_EXPRESSION)
+    for (size_t i = 0; i < row->count; i++)
+        if (rules[i].number >= 128 || rules[i].kind >= DWFRAME_RULE_EXPRESSION || rules[i].offset != (int16_t)rules[i].offset)
             return 0;
-        if (rules[i].number >= 32)
-            least = 128;
-    }
-    return least;
+    return 1;
 }
 
-static unsigned long look_ups, asking, frames, most;
+static unsigned long look_ups, asking_look_ups, frames, asking_frames;
 
-/* What the registers of the row are below. */
-static unsigned look_up(uint64_t address)
+/* Whether the row is a plain one. */
+static int look_up(uint64_t address)
 {
     static dwframe_rule rules[RULES];
     dwframe_row row;
     requests = 0;
     dwframe_status status = dwframe_row_at(&section, table, entries, address, rules, RULES, &row, &refusal);
-    return status == DWFRAME_OK ? below(&row, rules) : 0;
+    return status == DWFRAME_OK && is_plain(&row, rules);
 }
 
 /* The frame of a machine whose registers are all in the middle of its memory. */
@@ -78,35 +72,26 @@ static void unwind(uint64_t address)
     dwframe_machine machine = {registers, GIVEN, &window, 1, memory, sizeof memory};
     dwframe_frame frame;
     dwframe_fault fault;
-    look_up(address);
-    unsigned long before = requests;
     requests = 0;
     dwframe_status status =
         dwframe_unwind_at(&section, table, entries, &stop, &machine, out, REGISTERS, &frame, &refusal, &fault);
     if (status != DWFRAME_OK || frame.count > TOLD)
         return;
     frames++;
-    if (requests > before && most < requests - before)
-        most = requests - before;
+    asking_frames += requests != 0;
 }
 
 static void count(const dwframe_entry *fde)
 {
     uint64_t step = (fde->range - 1) / LOOK_UPS + 1, count = (fde->range - 1) / step + 1;
     unsigned long asked = 0;
-    unsigned all = 32;
     for (uint64_t i = 0; i < count; i++) {
-        unsigned found = look_up(fde->begin + i * step);
-        asked += requests != 0;
-        if (!found)
+        if (!look_up(fde->begin + i * step))
             return;
-        if (found > all)
-            all = found;
+        asked += requests != 0;
     }
-    if (all == 32) {
-        look_ups += count;
-        asking += asked;
-    }
+    look_ups += count;
+    asking_look_ups += asked;
     for (uint64_t i = 0; i < count; i += count / 16 + 1)
         unwind(fde->begin + i * step);
 }
@@ -128,7 +113,7 @@ int main(int argc, char **argv)
         return 5;
     for (size_t i = 0; i < entries; i++)
         count(&table[i]);
-    printf("%lu %lu %lu %lu\n", look_ups, asking, frames, most);
+    printf("%lu %lu %lu %lu\n", look_ups, asking_look_ups, frames, asking_frames);
     free(table);
     return 0;
 }

@@ -24,9 +24,10 @@
  * - Memory comes from the program's malloc, realloc and free, and is given back before a call returns. A program that brings its
  *   own lets the three be of one allocator, and aligns each block for any type: to 16 bytes, or where 16 does not divide its size
  *   to the greatest power of two that does. No call is made in a signal handler, nor in the child of a fork of a process with
- *   threads, where these may not be called. dwframe_row_at and dwframe_unwind_at ask for none where the rules up to the address
- *   are for registers below 128 and have no expression and no offset beyond 16 bits, rows are remembered one at a time, and the
- *   frame has at most 64 registers, all below 128. No clause says so: the requests are counted.
+ *   threads, where these may not be called, but for dwframe_row_at and dwframe_unwind_at where they ask for no memory: where the
+ *   rules up to the address are for registers below 128 and have no expression and no offset beyond 16 bits, at most four rows are
+ *   remembered at once, with up to eight registers changed behind each, and the frame has at most 64 registers, all below 128. No
+ *   clause says so: the requests are counted. Where malloc answers null, the status is DWFRAME_OUT_OF_MEMORY.
  * - There is stack, in KB at most: 5 for dwframe_row_at and dwframe_evaluate, 8 for dwframe_unwind_at, 20 for dwframe_check and
  *   dwframe_unwind, 25 for dwframe_rows_at and dwframe_normalise, 30 for dwframe_changes and dwframe_same. This was measured over
  *   tables of compilers and rules with expressions; no bound is proved.
@@ -34,8 +35,9 @@
  * All else is answered: any bytes, any size, order, number and length of room have a status. No call keeps anything when it has
  * returned, so any number of threads may make calls at once.
  *
- * A DWARF number of a register is a uint16_t. A length, a count and a place in what is given is a size_t. What belongs to the machine
- * that a section is of (addresses, how many of them there are, values, steps) is a uint64_t.
+ * A DWARF number of a register is a uint16_t. A length, a count and a place in what is given is a size_t, but for the place in an
+ * entry of an index, which is a uint32_t: a section has less than 2^31 bytes. What belongs to the machine that a section is of
+ * (addresses, how many of them there are, values, steps) is a uint64_t.
  */
 #ifndef DWFRAME_H
 #define DWFRAME_H

@@ -3,7 +3,8 @@
 //! The functions here are safe, and keep what the library for C asks of its callers (`include/dwframe.h`): slices are never
 //! null, do not change while they are lent, and do not overlap one that is written to. They need `malloc`, `realloc` and `free`
 //! of the program, and neither `std` nor `alloc`. So unsafe code that runs in a signal handler, or in the child of a fork of a
-//! process with threads, must not call them.
+//! process with threads, must not call them, but for `Index::row_at` and `Index::unwind_at` where these ask for no memory: the
+//! header says where.
 //!
 //! Each call that fails may answer `Failure::OutOfMemory`, and each that judges a section or an entry `Failure::Refused`.
 //!

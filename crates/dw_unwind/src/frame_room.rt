@@ -7,7 +7,7 @@ use std::alloc::{AllocError, Global};
 use std::marker::Model;
 
 // So many registers take no memory.
-const NEAR: usize = 64;
+const IN_PLACE: usize = 64;
 
 /// Registers of the caller, ascending, each with its value, or None where it has none that can be recovered.
 #[derive(Debug, Drop)]
@@ -96,7 +96,7 @@ impl FrameRoom {
     pub(crate) fn push(&mut self, register: u16, value: Option<u64>) -> Result<(), AllocError>
         ensures { OnOk result (self.new ≡ self.old ++ (register, value) ∷ []) }
     {
-        if self.len == NEAR {
+        if self.len == IN_PLACE {
             return push_far(&self.near, &mut self.more, (register, value));
         }
         self.near[self.len] = (register, value);

@@ -92,10 +92,16 @@ fn frame_text(alloc: Global, frame: &Frame<'_>) -> Result<String, Fail> {
 }
 
 /// A section, a dump, the read of memory that fails, where one does, and the frame or the fault.
-type Row = (&'static str, &'static str, u64, &'static str);
+type Row<'a> = (&'a str, &'a str, u64, &'a str);
 
 // Fails where the frame is another.
-fn agree(alloc: Global, row: Row, target: Target, default: Policy) -> Result<(), Fail> {
+fn agree(
+    alloc: Global,
+    room: &mut FrameRoom,
+    row: Row<'_>,
+    target: Target,
+    default: Policy,
+) -> Result<(), Fail> {
     let (section, dump, failing, wanted) = row;
     let bytes = hex::decode(alloc, section)?;
     let table = check(alloc, &bytes, target)?;
@@ -107,13 +113,12 @@ fn agree(alloc: Global, row: Row, target: Target, default: Policy) -> Result<(),
         reads: 0,
         failures: 0,
     };
-    let mut room = FrameRoom::new(alloc);
     let answer = match unwind(
         alloc,
         &table,
         target,
         pc,
-        &mut room,
+        room,
         &dump.registers,
         &mut memory,
         default,
@@ -129,7 +134,7 @@ fn agree(alloc: Global, row: Row, target: Target, default: Policy) -> Result<(),
 }
 
 // At size 8, with the value of a register that has no rule.
-const FRAMES: [Row; 19] = [
+const FRAMES: [Row<'static>; 19] = [
     (
         PLAIN,
         DUMP,
@@ -218,33 +223,83 @@ const FRAMES: [Row; 19] = [
 ];
 
 // Addresses have 32 bits: the CFA goes on at 0, and no read does.
-const WRAPPED: Row = (
+const WRAPPED: Row<'static> = (
     BIG_ENDIAN,
     "pc 0x10000408\nr1 0xfffffff8\nmem 0xc 00010203",
     0,
     "cfa 0x8 ra r65 r1 0xfffffff8 r65 0x10203",
 );
 
-const PAST_THE_END: Row = (
+const PAST_THE_END: Row<'static> = (
     BIG_ENDIAN,
     "pc 0x10000408\nr1 0xffffffeb\nmem 0xffffffff 00\nmem 0x0 010203",
     0,
     "Unreadable { column: Register(65), address: 4294967295, len: 4 }",
 );
 
-const UNDEFINED: Row = (
+const UNDEFINED: Row<'static> = (
     PLAIN,
     DUMP,
     0,
     "cfa 0x7ffe10 ra r16 r6 0x200 r7 undefined r16 0x401288",
 );
 
+// From 0x1004 on r64 is the CFA less 8, and from 0x1008 on r70 is saved 32 below the CFA.
+const WIDE: &str =
+    "14000000ffffffff040008000178100c07089001000000001c00000000000000001000000000000010000000000000004414400144054604";
+
+// Registers 0 to 63 but for that of the return address, which the memory has.
+const FULL: &str = "\
+r0 0x100\nr1 0x101\nr2 0x102\nr3 0x103\nr4 0x104\nr5 0x105\nr6 0x106\nr7 0x2000\nr8 0x108\nr9 0x109\nr10 0x10a\n\
+r11 0x10b\nr12 0x10c\nr13 0x10d\nr14 0x10e\nr15 0x10f\nr17 0x111\nr18 0x112\nr19 0x113\nr20 0x114\nr21 0x115\n\
+r22 0x116\nr23 0x117\nr24 0x118\nr25 0x119\nr26 0x11a\nr27 0x11b\nr28 0x11c\nr29 0x11d\nr30 0x11e\nr31 0x11f\n\
+r32 0x120\nr33 0x121\nr34 0x122\nr35 0x123\nr36 0x124\nr37 0x125\nr38 0x126\nr39 0x127\nr40 0x128\nr41 0x129\n\
+r42 0x12a\nr43 0x12b\nr44 0x12c\nr45 0x12d\nr46 0x12e\nr47 0x12f\nr48 0x130\nr49 0x131\nr50 0x132\nr51 0x133\n\
+r52 0x134\nr53 0x135\nr54 0x136\nr55 0x137\nr56 0x138\nr57 0x139\nr58 0x13a\nr59 0x13b\nr60 0x13c\nr61 0x13d\n\
+r62 0x13e\nr63 0x13f\nmem 0x2000 8812400000000000\n";
+
+const FULL_FRAME: &str = "\
+cfa 0x2008 ra r16 r0 0x100 r1 0x101 r2 0x102 r3 0x103 r4 0x104 r5 0x105 r6 0x106 r7 0x2000 r8 0x108 r9 0x109 \
+r10 0x10a r11 0x10b r12 0x10c r13 0x10d r14 0x10e r15 0x10f r16 0x401288 r17 0x111 r18 0x112 r19 0x113 r20 0x114 \
+r21 0x115 r22 0x116 r23 0x117 r24 0x118 r25 0x119 r26 0x11a r27 0x11b r28 0x11c r29 0x11d r30 0x11e r31 0x11f \
+r32 0x120 r33 0x121 r34 0x122 r35 0x123 r36 0x124 r37 0x125 r38 0x126 r39 0x127 r40 0x128 r41 0x129 r42 0x12a \
+r43 0x12b r44 0x12c r45 0x12d r46 0x12e r47 0x12f r48 0x130 r49 0x131 r50 0x132 r51 0x133 r52 0x134 r53 0x135 \
+r54 0x136 r55 0x137 r56 0x138 r57 0x139 r58 0x13a r59 0x13b r60 0x13c r61 0x13d r62 0x13e r63 0x13f";
+
+// What else the dump of 64 registers has, and what the frame tells behind these.
+const WIDE_FRAMES: [(&str, &str); 4] = [
+    ("pc 0x1003", ""),
+    ("pc 0x1003\nr64 0x140", " r64 0x140"),
+    ("pc 0x1004", " r64 0x2000"),
+    (
+        "pc 0x1008\nr80 0x150\nmem 0x1fe8 0807060504030201",
+        " r64 0x2000 r70 0x102030405060708 r80 0x150",
+    ),
+];
+
 #[test]
 fn worked_frames(rt: HostRuntime) -> Result<(), Fail> {
+    let alloc = rt.alloc();
+    let mut room = FrameRoom::new(alloc);
     for row in FRAMES {
-        agree(rt.alloc(), row, LITTLE, Policy::SameValue)?;
+        agree(alloc, &mut room, row, LITTLE, Policy::SameValue)?;
     }
-    agree(rt.alloc(), UNDEFINED, LITTLE, Policy::Undefined)?;
-    agree(rt.alloc(), WRAPPED, BIG, Policy::SameValue)?;
-    agree(rt.alloc(), PAST_THE_END, BIG, Policy::SameValue)
+    agree(alloc, &mut room, UNDEFINED, LITTLE, Policy::Undefined)?;
+    agree(alloc, &mut room, WRAPPED, BIG, Policy::SameValue)?;
+    agree(alloc, &mut room, PAST_THE_END, BIG, Policy::SameValue)
+}
+
+// Frames of 64, 65, 65 and 67 registers, and behind each one of three in the same room.
+#[test]
+fn worked_wide_frames(rt: HostRuntime) -> Result<(), Fail> {
+    let alloc = rt.alloc();
+    let mut room = FrameRoom::new(alloc);
+    for (given, told) in WIDE_FRAMES {
+        let dump = format!(in alloc; "{FULL}{given}")?;
+        let wanted = format!(in alloc; "{FULL_FRAME}{told}")?;
+        let row = (WIDE, dump.as_str(), 0, wanted.as_str());
+        agree(alloc, &mut room, row, LITTLE, Policy::SameValue)?;
+        agree(alloc, &mut room, FRAMES[0], LITTLE, Policy::SameValue)?;
+    }
+    Ok(())
 }
