@@ -44,7 +44,7 @@ step name m n rest later h = of (bytes_eq name (text_of m)) (bytes_eq-Decides na
     of true is h = let it : m ≡ n = cc in is.0 refl ∙ ap text_of it
     of false is h = later h
 
-named : (name : Text) (n : Name) → name_of name ≡ Some n → name ≡ text_of n
+pub named : (name : Text) (n : Name) → name_of name ≡ Some n → name ≡ text_of n
 named name n =
     step name names.At n _ (step name names.Check n _ (step name names.Cost n _ (step name names.Entries n _ (step name names.Eval n _ (step name names.Expr n _
     (step name names.Normal n _ (step name names.Rows n _ (step name names.Same n _ (step name names.Unwind n None (λ h. absurd cc))))))))))

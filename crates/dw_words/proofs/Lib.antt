@@ -4,4 +4,5 @@ mod AllRead
 mod Rows
 mod Subcommands
 mod Jobs
+mod Asked
 mod Plans

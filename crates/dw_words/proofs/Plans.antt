@@ -1,8 +1,7 @@
 -- From what clap says of words to what is planned.
 use Rattle.std.proofs.Common.{◌≡◌, ◌∙◌, true, false, List, [], Option, Some, None, option_map, Result, Ok, Err, refl, ap, ap₂, sym, inl, inr}
-use Rattle.clap.proofs.OnLiterals.{clap_on_literals}
 use Rattle.clap.specs.declared.error.Error.{Error}
-use Rattle.clap.specs.Words.{HasKind, Row, Text, fault_of, is_simple, is_simple_and_free, subcommand_of}
+use Rattle.clap.specs.Words.{HasKind, Row, Text, fault_of, subcommand_of}
 use Rattle.dw_words.specs.CommandLine.{dwframe}
 use Rattle.dw_words.specs.declared.request.PlanError.{PlanError}
 use Rattle.dw_words.specs.declared.request.PlanError.TheVariants as errors
@@ -12,14 +11,6 @@ use Rattle.dw_words.specs.Plan.{Planned, is_help}
 use Rattle.dw_words.specs.Inner.Plan.{Fails, FromFault, IsSupplied, run_in}
 use Rattle.dw_words.proofs.Jobs.{none_asked}
 use Rattle.dw_words.proofs.Subcommands.{supplied}
-
-pub free : is_simple_and_free dwframe ≡ true
-unfolding clap_on_literals
-free = refl
-
-pub simple : is_simple dwframe ≡ true
-unfolding clap_on_literals
-simple = refl
 
 module _ {X : Type 0} (f : X → Text) (g : X → List Row) where
   abbrev both : X → Text × List Row

@@ -1,14 +1,29 @@
 //! The command line as `clap` reads it, with its texts of help.
 
 ghost use Rattle.std.specs.Prelude.{◌≡◌, IfOk};
-ghost use Rattle.clap.specs.Words.{App, app_of, with_subcommand};
+ghost use Rattle.clap.specs.Words.{app_of};
 ghost use Rattle.clap.specs.declared.builder.command.Command.TheViews.{out-Command};
-ghost use Rattle.dw_words.specs.CommandLine.{dwframe, flag, operand, operands, program};
-ghost use Rattle.dw_words.specs.Inner.CommandLine.{IsArg, IsCommand, at, choice, eval, expr, needed, normal, over_file, same, subcommand, unwind, with_expressions, with_normal_forms, with_sections};
+ghost use Rattle.dw_words.specs.CommandLine.{flag, operand, operands, program};
+ghost use Rattle.dw_words.specs.Inner.CommandLine.{IsArg, IsCommand, asked, at, choice, eval, expr, needed, normal, over_file, same, subcommand, subcommand_named, unwind, with_subcommands};
 
 use crate::help;
+use crate::request::Name;
 use clap::{Arg, ArgAction, Command};
 use std::alloc::{AllocError, Global};
+
+// In the order in which help lists them.
+const NAMES: [Name; 10] = [
+    Name::Check,
+    Name::Rows,
+    Name::At,
+    Name::Entries,
+    Name::Expr,
+    Name::Eval,
+    Name::Unwind,
+    Name::Normal,
+    Name::Same,
+    Name::Cost,
+];
 
 fn choice<'a>(alloc: Global, name: &'a str, value: &'a str, help: &'a str) -> Arg<'a>
     ensures { IsArg (choice name.entry.now) result }
@@ -141,49 +156,21 @@ fn same<'a>(alloc: Global) -> Result<Command<'a>, AllocError>
     ))
 }
 
-// A command with one more subcommand, where there was memory to make it.
-fn added<'a>(
-    command: Command<'a>,
-    made: Result<Command<'a>, AllocError>,
-) -> Result<Command<'a>, AllocError>
-    ensures { IfOk result (λ c. (a b : App) → IsCommand a command.entry → IfOk made.entry (IsCommand b) → IsCommand (with_subcommand a b.top) c) }
+fn subcommand_named<'a>(alloc: Global, name: Name) -> Result<Command<'a>, AllocError>
+    ensures { IfOk result (λ c. IsCommand (subcommand_named name) c) }
 {
-    command.subcommand(made?)
-}
-
-fn with_sections<'a>(alloc: Global, command: Command<'a>) -> Result<Command<'a>, AllocError>
-    ensures { IfOk result (λ c. (a : App) → IsCommand a command.entry → IsCommand (with_sections a) c) }
-{
-    let command = added(
-        command,
-        over_file(alloc, "check", help::CHECK, help::AFTER_CHECK),
-    )?;
-    let command = added(
-        command,
-        over_file(alloc, "rows", help::ROWS, help::AFTER_ROWS),
-    )?;
-    let command = added(command, at(alloc))?;
-    let entries = over_file(alloc, "entries", help::ENTRIES, help::AFTER_ENTRIES);
-    added(command, entries)
-}
-
-fn with_expressions<'a>(alloc: Global, command: Command<'a>) -> Result<Command<'a>, AllocError>
-    ensures { IfOk result (λ c. (a : App) → IsCommand a command.entry → IsCommand (with_expressions a) c) }
-{
-    let command = added(command, expr(alloc))?;
-    let command = added(command, eval(alloc))?;
-    added(command, unwind(alloc))
-}
-
-fn with_normal_forms<'a>(alloc: Global, command: Command<'a>) -> Result<Command<'a>, AllocError>
-    ensures { IfOk result (λ c. (a : App) → IsCommand a command.entry → IsCommand (with_normal_forms a) c) }
-{
-    let command = added(command, normal(alloc))?;
-    let command = added(command, same(alloc))?;
-    added(
-        command,
-        over_file(alloc, "cost", help::COST, help::AFTER_COST),
-    )
+    match name {
+        Name::At => at(alloc),
+        Name::Check => over_file(alloc, "check", help::CHECK, help::AFTER_CHECK),
+        Name::Cost => over_file(alloc, "cost", help::COST, help::AFTER_COST),
+        Name::Entries => over_file(alloc, "entries", help::ENTRIES, help::AFTER_ENTRIES),
+        Name::Eval => eval(alloc),
+        Name::Expr => expr(alloc),
+        Name::Normal => normal(alloc),
+        Name::Rows => over_file(alloc, "rows", help::ROWS, help::AFTER_ROWS),
+        Name::Same => same(alloc),
+        Name::Unwind => unwind(alloc),
+    }
 }
 
 fn program<'a>(alloc: Global) -> Command<'a>
@@ -195,11 +182,24 @@ fn program<'a>(alloc: Global) -> Command<'a>
     described(command, help::PROGRAM, help::AFTER_PROGRAM)
 }
 
-/// The whole command.
-pub(crate) fn command_line<'a>(alloc: Global) -> Result<Command<'a>, AllocError>
-    ensures { IfOk result (λ c. IsCommand dwframe c) }
+// The command with these subcommands, in their order.
+fn with_subcommands<'a>(alloc: Global, names: &[Name]) -> Result<Command<'a>, AllocError>
+    ensures { IfOk result (λ c. IsCommand (with_subcommands names.now) c) }
 {
-    let command = with_sections(alloc, program(alloc))?;
-    let command = with_expressions(alloc, command)?;
-    with_normal_forms(alloc, command)
+    let mut command = program(alloc);
+    for name in names {
+        command = command.subcommand(subcommand_named(alloc, *name)?)?;
+    }
+    Ok(command)
+}
+
+/// The command line for words that begin with this subcommand's name: it has no other one, since none could be met. Words
+/// that begin with no subcommand's name need them all.
+pub(crate) fn command_line<'a>(alloc: Global, name: Option<Name>) -> Result<Command<'a>, AllocError>
+    ensures { IfOk result (λ c. IsCommand (asked name) c) }
+{
+    match name {
+        Some(name) => with_subcommands(alloc, &[name]),
+        None => with_subcommands(alloc, &NAMES),
+    }
 }

@@ -5,7 +5,7 @@ ghost use Rattle.clap.specs.Words.{all_of, first_of, found_of, rows_of};
 ghost use Rattle.dw_words.specs.Plan.{Planned, is_help};
 ghost use Rattle.dw_words.specs.Values.{address, all_read};
 ghost use Rattle.dw_words.specs.declared.request.Name.TheVariants.{At, Check, Eval, Expr, Normal, Same, Unwind};
-ghost use Rattle.dw_words.specs.Inner.Plan.{Answers, FromFault, Given, GivenAt, IsSupplied, addresses_in, at_in, block_in, cap_in, default_in, eval_in, expr_in, file_in, name_of, normal_in, options, own, profile_in, run_held, run_in, same_in, start_in, steps_in, target_in, task_held, task_in, unwind_in};
+ghost use Rattle.dw_words.specs.Inner.Plan.{Answers, FromFault, Given, GivenAt, IsSupplied, addresses_in, asked_by, at_in, block_in, cap_in, default_in, eval_in, expr_in, file_in, name_of, normal_in, options, own, profile_in, run_held, run_in, same_in, start_in, steps_in, target_in, task_held, task_in, unwind_in};
 
 use crate::command_line::command_line;
 use crate::request::{Evaluation, Job, Lookup, Name, PlanError, Request, Task, Unwinding, Writing};
@@ -313,6 +313,16 @@ fn plan_of_fault<'a>(error: clap::Error) -> Result<Request<'a>, PlanError>
     }
 }
 
+// The subcommand whose name stands behind the program's.
+fn asked_by(words: &[String]) -> Option<Name>
+    ensures { result ≡ asked_by (map string_bytes words.now) }
+{
+    match words.get(1) {
+        Some(word) => name_of(word.as_str()),
+        None => None,
+    }
+}
+
 /// What the words ask for, before any file is read. The first word is the program's name.
 ///
 /// A run is answered exactly where `clap` reads the words as that subcommand with that size, order, options and operands, and
@@ -322,7 +332,7 @@ fn plan_of_fault<'a>(error: clap::Error) -> Result<Request<'a>, PlanError>
 pub fn plan<'a>(alloc: Global, words: &'a [String]) -> Result<Request<'a>, PlanError>
     ensures { Planned (map string_bytes words.entry.now) result }
 {
-    let command = command_line(alloc)?;
+    let command = command_line(alloc, asked_by(words))?;
     let matches = match command.try_get_matches_from(words) {
         Ok(matches) => matches,
         Err(error) => return plan_of_fault(error),

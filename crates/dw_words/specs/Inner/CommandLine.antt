@@ -1,10 +1,12 @@
 -- What the code and its proofs say beside CommandLine.
-use Rattle.std.specs.Prelude.{◌≡◌, true, false, codes}
+use Rattle.std.specs.Prelude.{◌≡◌, true, false, List, [], ◌∷◌, Option, Some, None, codes, fold}
 use Rattle.clap.specs.declared.builder.arg.Arg.{Arg}
 use Rattle.clap.specs.declared.builder.command.Command.{Command}
 use Rattle.clap.specs.declared.builder.command.Command.TheViews.{out-Command}
 use Rattle.clap.specs.Words.{App, Rule, Text, app_of, new_app, rule_of, with_rule, with_subcommand}
-use Rattle.dw_words.specs.CommandLine.{file, flag, operand, operands, option, program}
+use Rattle.dw_words.specs.CommandLine.{dwframe, file, flag, operand, operands, option, program}
+use Rattle.dw_words.specs.declared.request.Name.{Name}
+use Rattle.dw_words.specs.declared.request.Name.TheVariants as names
 
 -- an argument has this rule, and is no global one
 abbrev pub IsArg : Rule → Arg → Type 0
@@ -46,18 +48,23 @@ normal = with_rule (with_rule (subcommand (codes "normal")) (choice (codes "cap"
 abbrev pub same : App
 same = with_rule (over_file (codes "same")) (operand true (codes "FILE2"))
 
-abbrev pub cost : App
-cost = over_file (codes "cost")
+abbrev pub subcommand_named : Name → App
+subcommand_named names.At = at
+subcommand_named names.Check = over_file (codes "check")
+subcommand_named names.Cost = over_file (codes "cost")
+subcommand_named names.Entries = over_file (codes "entries")
+subcommand_named names.Eval = eval
+subcommand_named names.Expr = expr
+subcommand_named names.Normal = normal
+subcommand_named names.Rows = over_file (codes "rows")
+subcommand_named names.Same = same
+subcommand_named names.Unwind = unwind
 
-abbrev pub with_sections : App → App
-with_sections a = with_subcommand (with_subcommand (with_subcommand (with_subcommand a (over_file (codes "check")).top) (over_file (codes "rows")).top) at.top) (over_file (codes "entries")).top
+-- the command with these subcommands
+abbrev pub with_subcommands : List Name → App
+with_subcommands = fold (λ a name. with_subcommand a (subcommand_named name).top) program
 
-abbrev pub with_expressions : App → App
-with_expressions a = with_subcommand (with_subcommand (with_subcommand a expr.top) eval.top) unwind.top
-
-abbrev pub with_normal_forms : App → App
-with_normal_forms a = with_subcommand (with_subcommand (with_subcommand a normal.top) same.top) cost.top
-
--- all of it
-abbrev pub put_together : App
-put_together = with_normal_forms (with_expressions (with_sections program))
+-- where words begin with a subcommand's name, the command with that one alone
+abbrev pub asked : Option Name → App
+asked None = dwframe
+asked (Some name) = with_subcommands (name ∷ [])

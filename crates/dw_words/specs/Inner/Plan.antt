@@ -1,5 +1,5 @@
 -- What the code and its proofs say beside Plan: the run of a subcommand with its values, as a function.
-use Rattle.std.specs.Prelude.{◌≡◌, ◌≢◌, ⊤, ℕ, ◌||◌, Bool, true, false, not, List, [], ◌∷◌, Option, Some, None, is_some, codes, option_and_then, option_map, if◌then◌else◌, Result, Ok, Err, MatchResult}
+use Rattle.std.specs.Prelude.{◌≡◌, ◌≢◌, ⊤, ℕ, ◌||◌, Bool, true, false, not, List, [], ◌∷◌, Option, Some, None, is_some, codes, slice_get, option_and_then, option_map, if◌then◌else◌, Result, Ok, Err, MatchResult}
 use Rattle.std.specs.Option.{option_map_or}
 use Rattle.std.specs.Str.{bytes_eq}
 use Rattle.clap.specs.declared.error.Error.{Error}
@@ -48,6 +48,10 @@ name_of text =
     else (if bytes_eq text (codes "rows") then Some names.Rows
     else (if bytes_eq text (codes "same") then Some names.Same
     else (if bytes_eq text (codes "unwind") then Some names.Unwind else None)))))))))
+
+-- the subcommand whose name stands behind the program's
+abbrev pub asked_by : List Text → Option Name
+asked_by words = option_and_then name_of (slice_get words 1)
 
 -- the target that the options give
 abbrev pub target_in : List Row → Option Target

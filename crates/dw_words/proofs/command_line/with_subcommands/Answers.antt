@@ -1,0 +1,17 @@
+use Rattle.std.proofs.Common.{get_or, take}
+use Rattle.std.proofs.lemmas.List.Sums.{fold_more}
+use Rattle.clap.specs.Words.{App, with_subcommand}
+use Rattle.dw_words.specs.CommandLine.{program}
+use Rattle.dw_words.specs.declared.request.Name.{Name}
+use Rattle.dw_words.specs.declared.request.Name.TheVariants.{At}
+use Rattle.dw_words.specs.Inner.CommandLine.{subcommand_named, with_subcommands}
+use Rattle.dw_words.proofs.Commands.{listed}
+use Rattle.dw_words.proofs.command_line.with_subcommands.Goals as goal
+
+pub loop-name-preserved : goal.loop-name-preserved
+loop-name-preserved c =
+    let names = c.args.names.now in
+    let i = c.loop-name.name-index in
+    let one = listed (with_subcommands (take i names)) (subcommand_named (get_or names i At)) c.loop-name.command c.in_ok-subcommand_named.field-0 c.in_ok-command.command c.loop-name.invariant
+    c.in_ok-subcommand_named.ensures c.in_ok-command.ensures in
+    rw (fold_more (λ (a : App) (n : Name). with_subcommand a (subcommand_named n).top) program names i At c.loop-name-test.true) one
