@@ -1,7 +1,7 @@
 -- The registers that were set since a row was kept: those without a mark have the same rules in both rows.
 use Rattle.dw_cfa.proofs.Words.{◌≡◌, ℕ, suc, ◌+◌, ◌<◌, ◌≤◌, Bool, List, [], ◌∷◌, Option, refl, sym, ap, ◌∙◌, subst, arith, inl, inr, ◌*◌, ◌%◌, ◌^◌, bit_or, not, is_some, IsTrue, Result, Ok, Err, OnOk, OnErr, bit_at, filter, nat_tests}
 use Rattle.dw_cfa.proofs.Words.{cases_lt, IsAdded, Marks, RegRule, Rules, Unspecified, SameValue, AreSpecified, rule_in, put, with_rule, DiffersFirst, FirstDifference, SameBetween, SameUnset, CopiedUpTo, MarksMore, MarksSo}
-use Rattle.dw_cfa.proofs.Words.{SameUnlisted, SameUnmarked, Unmarked, WatchedSo}
+use Rattle.dw_cfa.proofs.Words.{KeptSo, SameUnlisted, SameUnmarked, Unmarked}
 use Rattle.dw_cfa.proofs.Lent.RowLists.{Entry, lower, other_rule, put_rule, same_rule_set, unlisted}
 use Rattle.dw_cfa.proofs.Difference.{FromOn}
 use Rattle.dw_cfa.proofs.Slots.{bit_set_other, bit_set_same, neither}
@@ -34,13 +34,21 @@ far_added near r far far' le up e q = grind (arith, nat_tests, put_rule r SameVa
 
 -- ---- a register that is set
 
-pub set_so : {X E : Type 0} (result : Result X E) (old new : Marks) (kept row row' : Rules) (r : ℕ) (rule : RegRule) → WatchedSo old kept row → AreSpecified 0 row.registers
-    → MarksSo new → MarksMore old new → (Unmarked new r → ⊥) → OnOk result (row' ≡ with_rule r rule row) → OnErr result (row' ≡ row) → WatchedSo new kept row'
+pub more_so : (old new : Marks) (kept xs : List Entry) → KeptSo old kept xs → MarksSo new → MarksMore old new → KeptSo new kept xs
+more_so old new kept xs h so more = record { marks = so; same = λ q none. h.same q (more q none) }
+
+pub set_so : {X E : Type 0} (result : Result X E) (old new : Marks) (kept : List Entry) (row row' : Rules) (r : ℕ) (rule : RegRule) → KeptSo old kept row.registers → AreSpecified 0 row.registers
+    → MarksSo new → MarksMore old new → (Unmarked new r → ⊥) → OnOk result (row' ≡ with_rule r rule row) → OnErr result (row' ≡ row) → KeptSo new kept row'.registers
 set_so (Ok x) old new kept row row' r rule h up so more marked is err = record {
   marks = so;
   same = λ q none. rw is (h.same q (more q none) ∙ sym (other_rule r q rule row.registers up (λ e. marked (subst (Unmarked new) e none))));
 }
-set_so (Err x) old new kept row row' r rule h up so more marked ok is = record { marks = so; same = λ q none. rw is (h.same q (more q none)) }
+set_so (Err x) old new kept row row' r rule h up so more marked ok is = rw is (more_so old new kept row.registers h so more)
+
+-- the row becomes one that was saved, and what was set since is marked
+pub back_so : (old since new : Marks) (kept : List Entry) (saved row row' : Rules) → KeptSo old kept row.registers → KeptSo since saved.registers row.registers → MarksSo new → MarksMore old new → MarksMore since new → row' ≡ saved
+    → KeptSo new kept row'.registers
+back_so old since new kept saved row row' h back so more more' is = record { marks = so; same = λ q none. rw is (h.same q (more q none) ∙ sym (back.same q (more' q none))) }
 
 -- ---- both rows
 

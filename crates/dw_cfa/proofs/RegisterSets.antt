@@ -1,7 +1,7 @@
 -- Sets of registers: one register more, all of another set, and what two rows have in common among them.
 use Rattle.dw_cfa.proofs.Words.{◌≡◌, ◌⊎◌, ℕ, suc, ◌<◌, ◌||◌, Bool, true, false, List, ◌∷◌, Result, Ok, Err, OnErr, OnOk, refl, sym, ap, ◌∙◌, subst, arith, inl, inr, if◌then◌else◌, bit_or, bit_at_or, nat_tests, cases_Bool, IsTrue, ◌↔◌}
 use Rattle.dw_cfa.proofs.Words.{CfaRule, RegRule, Rules, Unset, Unspecified, AreSpecified, rule, rule_in, with_cfa, with_rule, InCommon, IsAgreed, is_agreed, same_rule, rule_tells, left, LeavesAmong, LeavesAt}
-use Rattle.dw_cfa.proofs.Words.{IsAdded, Marks, MarksSo, Registers, AgreesBeside, has, in_mask, in_tree, marked}
+use Rattle.dw_cfa.proofs.Words.{IsAdded, Marks, MarksMore, MarksSo, Unmarked, Registers, is_specified, AgreesBeside, has, in_mask, in_tree, marked}
 use Rattle.std.proofs.lemmas.Nat.Bits.{bit_at-lt}
 use Rattle.std.proofs.lemmas.Result.{on_err_weaker, on_ok_weaker}
 use Rattle.dw_cfa.proofs.Lent.RowLists.{Entry, lower, unlisted}
@@ -51,6 +51,30 @@ module _ {X E : Type 0} (result : Result X E) (m n : Marks) (old other new : Reg
   pub no_others : OnErr result ((r : ℕ) → has new r ≡ true → (in_tree n.far.entries r || has (record { near = bit_or m.near n.near; far = m.far.entries }) r) ≡ true)
       → OnErr result ((r : ℕ) → has new r ≡ true → (has other r || has old r) ≡ true)
   no_others = on_err_weaker result (λ is r now. sym (both_in r) ∙ is r now)
+
+-- ---- the same of marks
+
+no_rule : (x : RegRule) → is_specified x ≡ false → x ≡ Unspecified
+no_rule Unspecified e = refl
+no_rule x e = absurd cc
+
+not_had : (m : Marks) (r : ℕ) → Unmarked m r → has (marked m) r ≡ false
+not_had m r u = grind (arith, nat_tests, u.near, u.far)
+
+unmarked : (m : Marks) (r : ℕ) → IsTrue m.watched → has (marked m) r ≡ false → Unmarked m r
+unmarked m r on none = record { watched = on; near = λ lt. grind (arith, nat_tests, none, lt, bit_at-lt m.near r); far = λ le. no_rule (rule_in m.far.entries r) (grind (arith, nat_tests, none, le)) }
+
+had_more : (m new : Marks) → IsTrue m.watched → ((r : ℕ) → has (marked m) r ≡ true → has (marked new) r ≡ true) → MarksMore m new
+had_more m new on stays r u = elim (cases_Bool (has (marked m) r)) [ inl had ↦ absurd (let e = sym (stays r had) ∙ not_had new r u in cc) | inr none ↦ unmarked m r on none ]
+
+module _ {X E : Type 0} (m n new : Marks) (on : IsTrue m.watched) (so : MarksSo n) where
+  pub more_marked : (result : Result X E) → OnOk result ((r : ℕ) → has (marked new) r ≡ (in_tree n.far.entries r || has (record { near = bit_or m.near n.near; far = m.far.entries }) r))
+      → OnErr result ((r : ℕ) → has (record { near = bit_or m.near n.near; far = m.far.entries }) r ≡ true → has (marked new) r ≡ true) → MarksMore m new
+  more_marked (Ok x) added stay = had_more m new on (λ r had. let all = all_added {X = X} {E = E} (Ok x) m n (marked m) (marked n) (marked new) refl refl so added in grind (arith, all r, had))
+  more_marked (Err x) added stay = had_more m new on (all_stay {X = X} {E = E} (Err x) m n (marked m) (marked new) refl stay)
+
+  pub all_marked : (result : Result X E) → IsTrue n.watched → OnOk result ((r : ℕ) → has (marked new) r ≡ (in_tree n.far.entries r || has (record { near = bit_or m.near n.near; far = m.far.entries }) r)) → OnOk result (MarksMore n new)
+  all_marked result on' added = on_ok_weaker result (λ all. had_more n new on' (λ r had. grind (arith, all r, had))) (all_added result m n (marked m) (marked n) (marked new) refl refl so added)
 
 -- ---- registers that are dropped where another row gives them another rule
 

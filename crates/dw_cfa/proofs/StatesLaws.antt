@@ -1,33 +1,44 @@
 -- Remembered rows, kept by what was changed since.
-use Rattle.dw_cfa.proofs.Words.{◌≡◌, ℕ, suc, ◌+◌, ◌-◌, ◌<◌, ◌≤◌, nat_lt, Bool, true, false, length-append, Saving, saved_row, StatesSo, saved_count, saved_if, List, [], ◌∷◌, ◌++◌, length, reverse, Some, None, refl, sym, ap, ◌∙◌, subst, arith, append-nil, nil_from_length, reverse-append, ltb-false, CfaRule, IsTrue, Watching, watching}
-use Rattle.dw_cfa.proofs.Words.{RegRule, Rules, Undo, Remembered, Register, put, with_cfa, with_rule, Held, rows_before, count_remembered, first_if, shown, held, BeganWith, TakenBack, Restored}
+use Rattle.dw_cfa.proofs.Words.{◌≡◌, ℕ, suc, ◌+◌, ◌-◌, ◌<◌, ◌≤◌, Bool, true, false, length-append, List, [], ◌∷◌, ◌++◌, length, reverse, Some, None, Result, OnOk, OnErr, Ok, Err, refl, sym, ap, ◌∙◌, subst, arith, append-nil, nil_from_length, reverse-append, AreSpecified, CfaRule, IsTrue, Watching, watching}
+use Rattle.dw_cfa.proofs.Words.{KeptRow, KeptSo, Marks, MarksMore, MarksSo, RegRule, Rules, Undo, Remembered, Register, rule_in, with_cfa, with_rule, Held, StatesSo, rows_before, first_if, shown, held, stacked, saved_if, BeganWith, TakenBack, Restored}
 use Rattle.dw_cfa.proofs.Lent.RowLists.{Entry}
+use Rattle.std.proofs.lemmas.Result.{on_err_weaker, on_ok_weaker}
+use Rattle.dw_cfa.proofs.Marked.{more_so}
+use Rattle.dw_cfa.proofs.WideRows.{put_back, put_same}
 
-counted : (registers : List Entry) (changes : List Undo) → length (rows_before registers changes).0 ≡ count_remembered changes
-unfolding rows_before count_remembered
-counted registers [] = refl
-counted registers (Remembered c ∷ changes) = ap suc (counted registers changes)
-counted registers (Register r rule ∷ changes) = counted (put r rule registers) changes
-
--- as many are remembered where the same is behind
-pub same_count : (xs ys : List Entry) (changes changes' : List Undo) → rows_before xs changes ≡ rows_before ys changes' → count_remembered changes ≡ count_remembered changes'
-same_count xs ys changes changes' same = sym (counted xs changes) ∙ ap (λ (b : List Rules × List Entry). length b.0) same ∙ counted ys changes'
+abbrev Before : Type 0
+Before = List Rules × List Entry
 
 -- the last of the changes
 pub last_first : (u : Undo) (items items' : List Undo) → items' ≡ items ++ u ∷ [] → reverse items' ≡ u ∷ reverse items
 last_first u items items' more = ap (λ (l : List Undo). reverse l) more ∙ reverse-append items (u ∷ [])
 
-pub begun_held : (tracked : Bool) (saved : Saving) (row kept : Rules) (items : List Undo) → items ≡ [] → held tracked false saved row kept items ≡ record { row = row; stack = []; first = first_if tracked row.registers; kept = kept }
+none_before : (registers : List Entry) (items : List Undo) → items ≡ [] → rows_before registers (reverse items) ≡ ([], registers)
 unfolding rows_before
-begun_held tracked saved row kept items none = rw none refl
+none_before registers items none = rw none refl
 
-pub begun_so : (tracked : Bool) (items : List Undo) → items ≡ [] → StatesSo tracked tracked false 0 items
-unfolding count_remembered
-begun_so tracked items none = record { count = rw none refl; unlisted = λ e. (e, none); untracked = λ e. absurd cc }
+pub begun_held : (tracked : Bool) (saved : KeptRow) (row kept : Rules) (items : List Undo) → items ≡ [] → saved.marks.watched ≡ false
+    → held tracked saved row kept items ≡ record { row = row; stack = []; first = first_if tracked row.registers; kept = kept }
+begun_held tracked saved row kept items none off = ap (shown tracked saved row kept) (none_before row.registers items none) ∙ rw off refl
+
+pub begun_so : (tracked is_listed : Bool) → (is_listed ≡ false → tracked ≡ false) → (saved : KeptRow) (registers : List Entry) (items : List Undo) → items ≡ [] → saved.marks.watched ≡ false
+    → ((xs : List Entry) → KeptSo saved.marks saved.row.registers xs) → StatesSo tracked is_listed saved 0 (rows_before registers (reverse items)) items
+begun_so tracked is_listed free saved registers items none off since =
+    let is = none_before registers items none in
+    record { count = rw (is, off) refl; unlisted = λ e. (free e, none); untracked = λ e. absurd cc; since = since (rows_before registers (reverse items)).1 }
+
+reversed_none : (items : List Undo) → reverse items ≡ [] → items ≡ []
+reversed_none [] e = refl
+reversed_none (u ∷ items) e =
+    let e' : length (reverse items ++ u ∷ []) ≡ 0 = ap (λ (l : List Undo). length l) (sym (reverse-append (u ∷ []) items) ∙ e) in
+    absurd (omega (arith, e', length-append (reverse items) (u ∷ [])))
 
 pub began : (tracked : Bool) (initial row : Rules) → row ≡ initial → BeganWith initial (first_if tracked row.registers)
 began true initial row same = ap (λ (r : Rules). r.registers) same
 began false initial row same = tt
+
+abbrev with_registers : CfaRule → List Entry → Rules
+with_registers cfa registers = record { cfa = cfa; registers = registers }
 
 -- ---- a register that is changed, or a row that is remembered
 
@@ -36,101 +47,162 @@ module _ (row : Rules) (items items' : List Undo) where
   unfolding rows_before
   change_behind r older row' back more = ap (rows_before row'.registers) (last_first (Register r older) items items' more) ∙ ap (λ (x : Rules). rows_before x.registers (reverse items)) back
 
-  pub change_count : (r : ℕ) (older : RegRule) → items' ≡ items ++ Register r older ∷ [] → count_remembered (reverse items') ≡ count_remembered (reverse items)
-  unfolding count_remembered
-  change_count r older more = ap count_remembered (last_first (Register r older) items items' more)
-
   pub mark_behind : (cfa : CfaRule) → cfa ≡ row.cfa → items' ≡ items ++ Remembered cfa ∷ [] → rows_before row.registers (reverse items') ≡ (row ∷ (rows_before row.registers (reverse items)).0, (rows_before row.registers (reverse items)).1)
   unfolding rows_before
   mark_behind cfa same more = rw (last_first (Remembered cfa) items items' more, same) refl
 
-  pub mark_count : (cfa : CfaRule) → items' ≡ items ++ Remembered cfa ∷ [] → count_remembered (reverse items') ≡ suc (count_remembered (reverse items))
-  unfolding count_remembered
-  mark_count cfa more = ap count_remembered (last_first (Remembered cfa) items items' more)
+  -- the rule that a register had is listed before it is given another one
+  pub listed_behind : {X E : Type 0} (result : Result X E) (r : ℕ) (older rule : RegRule) (kept lent : Rules) (rows' : Watching) → lent ≡ row → AreSpecified 0 lent.registers → older ≡ rule_in lent.registers r → items' ≡ items ++ Register r older ∷ []
+      → OnOk result (rows' ≡ watching (with_rule r rule row) kept) → OnErr result (rows' ≡ watching row kept) → rows_before rows'.row.registers (reverse items') ≡ rows_before row.registers (reverse items)
+  listed_behind (Ok x) r older rule kept lent rows' same up is more set err = change_behind r older rows'.row (rw (set, is, same) (ap (with_registers row.cfa) (put_back r rule row.registers (rw same at up)))) more
+  listed_behind (Err x) r older rule kept lent rows' same up is more set err = change_behind r older rows'.row (rw (err, is, same) (ap (with_registers row.cfa) (put_same r row.registers (rw same at up)))) more
 
 -- ---- the value of the code's states
 
-pub all_counted : (is_saved : Bool) (saved : Saving) (registers : List Entry) (changes : List Undo)
-    → length ((rows_before registers changes).0 ++ saved_if is_saved saved (rows_before registers changes).1) ≡ count_remembered changes + saved_count is_saved
-all_counted is_saved saved registers changes =
-    length-append (rows_before registers changes).0 (saved_if is_saved saved (rows_before registers changes).1) ∙ ap (λ (n : ℕ). n + length (saved_if is_saved saved (rows_before registers changes).1)) (counted registers changes)
-    ∙ ap (λ (n : ℕ). count_remembered changes + n) (one_saved is_saved saved (rows_before registers changes).1)
-  where
-    one_saved : (b : Bool) (s : Saving) (xs : List Entry) → length (saved_if b s xs) ≡ saved_count b
-    one_saved true s xs = refl
-    one_saved false s xs = refl
+pub rows_set : {X E : Type 0} (result : Result X E) (rows : Watching) (row kept : Rules) → OnOk result (rows ≡ watching row kept) → OnOk result (rows.row ≡ row)
+rows_set result rows row kept = on_ok_weaker result (λ same. ap (λ (w : Watching). w.row) same)
 
-module _ (tracked is_listed is_saved : Bool) (saved : Saving) (row kept : Rules) (items : List Undo) (now : Held) (is : held tracked is_saved saved row kept items ≡ now) (depth : ℕ) (so : StatesSo tracked is_listed is_saved depth items) where
+pub rows_same : {X E : Type 0} (result : Result X E) (rows old : Watching) → OnErr result (rows ≡ old) → OnErr result (rows.row ≡ old.row)
+rows_same result rows old = on_err_weaker result (λ same. ap (λ (w : Watching). w.row) same)
+
+none_stacked : (b : Bool) (row : Rules) (rows : List Rules) → length (rows ++ saved_if b row) ≡ 0 → b ≡ false
+none_stacked false row rows e = refl
+none_stacked true row rows e = absurd (omega (arith, e, length-append rows (row ∷ [])))
+
+module _ (tracked is_listed : Bool) (saved : KeptRow) (row kept : Rules) (items : List Undo) (now : Held) (is : held tracked saved row kept items ≡ now) (depth : ℕ)
+    (so : StatesSo tracked is_listed saved depth (rows_before row.registers (reverse items)) items) where
+  abbrev before : Before
+  before = rows_before row.registers (reverse items)
+
   pub depth_is : depth ≡ length now.stack
-  depth_is = so.count ∙ sym (all_counted is_saved saved row.registers (reverse items)) ∙ ap (λ (h : Held). length h.stack) is
+  depth_is = so.count ∙ ap (λ (h : Held). length h.stack) is
 
-  -- nothing is listed: what is saved shows the same row as before
-  pub unlisted_held : (saved' : Saving) (row' kept' : Rules) → is_listed ≡ false → saved_if is_saved saved' row'.registers ≡ saved_if is_saved saved row.registers
-      → held tracked is_saved saved' row' kept' items ≡ record { row = row'; stack = now.stack; first = now.first; kept = kept' }
-  unfolding rows_before
-  unlisted_held saved' row' kept' free same =
-      let none = (so.unlisted free).1 in let none' = (so.unlisted free).0 in
-      let is' = rw (none, none') at is in
-      rw (none, none', same, ← is') refl
-
-  pub set_held : (saved' : Saving) (rows' : Watching) (r : ℕ) (rule : RegRule) → is_listed ≡ false → rows' ≡ watching (with_rule r rule row) kept
-      → saved_if is_saved saved' (with_rule r rule row).registers ≡ saved_if is_saved saved row.registers
-      → held tracked is_saved saved' rows'.row rows'.kept items ≡ record { row = with_rule r rule now.row; stack = now.stack; first = now.first; kept = now.kept }
-  set_held saved' rows' r rule free set same =
-      ap (λ (w : Watching). held tracked is_saved saved' w.row w.kept items) set ∙ unlisted_held saved' (with_rule r rule row) kept free same
+  -- a register is given a rule
+  pub ruled : {X E : Type 0} (result : Result X E) (new : Held) (rows' : Watching) (r : ℕ) (rule : RegRule) → OnOk result (rows' ≡ watching (with_rule r rule row) kept)
+      → new ≡ record { row = rows'.row; stack = now.stack; first = now.first; kept = rows'.kept } → OnOk result (new ≡ record { row = with_rule r rule now.row; stack = now.stack; first = now.first; kept = now.kept })
+  ruled (Ok x) new rows' r rule set same =
+      same ∙ ap (λ (w : Watching). let h : Held = record { row = w.row; stack = now.stack; first = now.first; kept = w.kept } in h) set
       ∙ ap (λ (h : Held). let x : Held = record { row = with_rule r rule h.row; stack = now.stack; first = now.first; kept = h.kept } in x) is
+  ruled (Err x) new rows' r rule set same = tt
+
+  module _ (row' kept' : Rules) (items' : List Undo) where
+    abbrev before' : Before
+    before' = rows_before row'.registers (reverse items')
+
+    -- the same rows lie behind
+    pub same_held : before' ≡ before → held tracked saved row' kept' items' ≡ record { row = row'; stack = now.stack; first = now.first; kept = kept' }
+    same_held same = ap (shown tracked saved row' kept') same ∙ ap (λ (h : Held). let x : Held = record { row = row'; stack = h.stack; first = h.first; kept = kept' } in x) is
+
+    pub same_so : before' ≡ before → StatesSo tracked true saved depth before' items'
+    same_so same = record { count = so.count ∙ ap (λ (b : Before). length (stacked saved b.0)) (sym same); unlisted = λ e. absurd cc; untracked = so.untracked; since = subst (λ (b : Before). KeptSo saved.marks saved.row.registers b.1) (sym same) so.since }
+
+    -- one row more
+    pub listed_held : before' ≡ (row ∷ before.0, before.1) → row' ≡ row → held tracked saved row' kept' items' ≡ record { row = now.row; stack = now.row ∷ now.stack; first = now.first; kept = kept' }
+    listed_held one same =
+        ap (shown tracked saved row' kept') one
+        ∙ ap (λ (x : Rules). let h : Held = record { row = x; stack = row ∷ stacked saved before.0; first = first_if tracked before.1; kept = kept' } in h) same
+        ∙ ap (λ (h : Held). let x : Held = record { row = h.row; stack = h.row ∷ h.stack; first = h.first; kept = kept' } in x) is
+
+    pub listed_so : before' ≡ (row ∷ before.0, before.1) → StatesSo tracked true saved (depth + 1) before' items'
+    listed_so one =
+        let more : length (stacked saved before'.0) ≡ suc (length (stacked saved before.0)) = ap (λ (b : Before). length (stacked saved b.0)) one in
+        record { count = omega (arith, so.count, more); unlisted = λ e. absurd cc; untracked = so.untracked; since = subst (λ (b : Before). KeptSo saved.marks saved.row.registers b.1) (sym one) so.since }
+
+  -- nothing is listed: a register that is set is marked
+  module _ (marks : Marks) (row' kept' : Rules) (free : is_listed ≡ false) (same : marks.watched ≡ saved.marks.watched) where
+    abbrev marked : KeptRow
+    marked = record { row = saved.row; marks = marks }
+
+    pub set_held : held tracked marked row' kept' items ≡ record { row = row'; stack = now.stack; first = now.first; kept = kept' }
+    set_held =
+        let none = (so.unlisted free).1 in let off = (so.unlisted free).0 in
+        let new = none_before row'.registers items none in let old = none_before row.registers items none in
+        rw (new, ← is, old, off, same) refl
+
+    pub marked_so : KeptSo marks saved.row.registers row'.registers → StatesSo tracked is_listed marked depth (rows_before row'.registers (reverse items)) items
+    marked_so since =
+        let none = (so.unlisted free).1 in
+        let new = none_before row'.registers items none in let old = none_before row.registers items none in
+        let count = rw old at so.count in
+        record {
+          count = rw (new, same) count;
+          unlisted = so.unlisted;
+          untracked = λ on. so.untracked (sym same ∙ on);
+          since = rw new since;
+        }
+
+    -- as it stood
+    pub since_so : MarksSo marks → MarksMore saved.marks marks → StatesSo tracked is_listed marked depth (rows_before row.registers (reverse items)) items
+    since_so ok more = record { count = rw same so.count; unlisted = so.unlisted; untracked = λ on. so.untracked (sym same ∙ on); since = more_so saved.marks marks saved.row.registers before.1 so.since ok more }
+
+  -- nothing is listed before the current row
+  pub since_row : is_listed ≡ false → KeptSo saved.marks saved.row.registers row.registers
+  since_row free = subst (λ (b : Before). KeptSo saved.marks saved.row.registers b.1) (none_before row.registers items (so.unlisted free).1) so.since
 
   -- a row is saved where none is remembered
-  pub saved_held : (saved' : Saving) (items' : List Undo) → (tracked ≡ false) × (depth ≡ 0) → items' ≡ [] → saved_row saved' row.registers ≡ row
-      → held tracked true saved' row kept items' ≡ record { row = now.row; stack = now.row ∷ now.stack; first = now.first; kept = now.kept }
-  unfolding rows_before
-  saved_held saved' items' free none same =
-      let empty = nil_from_length now.stack (omega (arith, free.1, depth_is)) in
-      let first = sym (ap (λ (h : Held). h.first) is) ∙ ap (λ (t : Bool). first_if t (rows_before row.registers (reverse items)).1) free.0 in
-      ap (λ (l : List Undo). held tracked true saved' row kept l) none ∙ ap (λ (t : Bool). held t true saved' row kept []) free.0
-      ∙ ap (λ (x : Rules). let h : Held = record { row = row; stack = x ∷ []; first = None; kept = kept } in h) same
-      ∙ ap (λ (h : Held). let x : Held = record { row = h.row; stack = h.row ∷ []; first = None; kept = h.kept } in x) is ∙ cc (empty, first)
+  module _ (off : tracked ≡ false) (none : depth ≡ 0) (saved' : KeptRow) (kept' : Rules) (items' : List Undo) (empty : items' ≡ []) where
+    pub unsaved : saved.marks.watched ≡ false
+    unsaved = none_stacked saved.marks.watched saved.row before.0 (sym so.count ∙ none)
 
-pub saved_so : (tracked : Bool) (items : List Undo) → tracked ≡ false → items ≡ [] → StatesSo tracked false true 1 items
-unfolding count_remembered
-saved_so tracked items free none = record { count = rw none refl; unlisted = λ e. (free, none); untracked = λ e. free }
+    pub saved_held : saved'.row ≡ row → IsTrue saved'.marks.watched → held tracked saved' row kept' items' ≡ record { row = now.row; stack = now.row ∷ now.stack; first = now.first; kept = kept' }
+    saved_held same on =
+        let nothing = nil_from_length now.stack (omega (arith, none, depth_is)) in
+        let first = sym (ap (λ (h : Held). h.first) is) ∙ ap (λ (t : Bool). first_if t before.1) off in
+        let new = none_before row.registers items' empty in
+        rw (nothing, first, new, off, on, same, ← ap (λ (h : Held). h.row) is) refl
 
-pub unrecorded : (tracked : Bool) (depth : ℕ) → tracked ≡ false → nat_lt 0 depth ≡ false → (tracked ≡ false) × (depth ≡ 0)
-unrecorded tracked depth free none = let le = ltb-false 0 depth none in (free, omega arith)
+    pub saved_so : (count : ℕ) → count ≡ length (stacked saved' []) → KeptSo saved'.marks saved'.row.registers row.registers → StatesSo tracked false saved' count (rows_before row.registers (reverse items')) items'
+    saved_so count are since = let new = none_before row.registers items' empty in record { count = rw new are; unlisted = λ e. (off, empty); untracked = λ on. off; since = rw new since }
 
-reversed_none : (items : List Undo) → reverse items ≡ [] → items ≡ []
-reversed_none [] e = refl
-reversed_none (u ∷ items) e =
-    let e' : length (reverse items ++ u ∷ []) ≡ 0 = ap (λ (l : List Undo). length l) (sym (reverse-append (u ∷ []) items) ∙ e) in
-    absurd (omega (arith, e', length-append (reverse items) (u ∷ [])))
+  -- ---- changes are taken back
 
-pub restored_count : (row row' : Rules) (depth n : ℕ) (changes changes' : List Undo) (cfa : CfaRule) → depth ≡ count_remembered changes + n → TakenBack (Some cfa) row changes row' changes' → (1 ≤ depth) × (depth - 1 ≡ count_remembered changes' + n)
-unfolding count_remembered
-restored_count row row' depth n changes changes' cfa count taken =
-    let c : count_remembered changes ≡ suc (count_remembered changes') = same_count row.registers row'.registers changes (Remembered cfa ∷ changes') taken in (omega arith, omega arith)
+  module _ (row' kept' : Rules) (items' : List Undo) where
+    pub found_count : (cfa : CfaRule) → TakenBack (Some cfa) row (reverse items) row' (reverse items') → (1 ≤ depth) × (depth - 1 ≡ length (stacked saved (rows_before row'.registers (reverse items')).0))
+    unfolding rows_before
+    found_count cfa taken =
+        let c : length (stacked saved before.0) ≡ suc (length (stacked saved (rows_before row'.registers (reverse items')).0)) = ap (λ (b : Before). length (stacked saved b.0)) taken in
+        (omega (arith, so.count, c), omega (arith, so.count, c))
 
--- ---- the states behind a call
-
-module _ (tracked is_listed is_saved : Bool) (depth : ℕ) (items : List Undo) (so : StatesSo tracked is_listed is_saved depth items) (items' : List Undo) where
-  pub failed_so : count_remembered (reverse items') ≡ count_remembered (reverse items) → IsTrue is_listed → StatesSo tracked is_listed is_saved depth items'
-  failed_so same yes-listed = record { count = so.count ∙ ap (λ (n : ℕ). n + saved_count is_saved) (sym same); unlisted = λ e. absurd cc; untracked = so.untracked }
-
-  module _ (row row' : Rules) where
-    pub none_so : TakenBack None row (reverse items) row' (reverse items') → StatesSo tracked is_listed is_saved depth items'
-    unfolding count_remembered
-    none_so taken = record {
-      count = so.count ∙ ap (λ (n : ℕ). n + saved_count is_saved) (same_count row.registers row'.registers (reverse items) [] taken.0 ∙ ap count_remembered (sym taken.1));
-      unlisted = λ e. ((so.unlisted e).0, reversed_none items' taken.1);
-      untracked = so.untracked;
-    }
-
-    pub behind_so : TakenBack None row (reverse items) row' (reverse items') → StatesSo tracked is_listed false 0 items'
-    unfolding count_remembered
-    behind_so taken = record { count = rw taken.1 refl; unlisted = λ e. ((so.unlisted e).0, reversed_none items' taken.1); untracked = λ e. absurd cc }
-
-    pub found_so : (cfa : CfaRule) (is_listed' : Bool) → TakenBack (Some cfa) row (reverse items) row' (reverse items') → (is_listed' ≡ false → (tracked ≡ false) × (items' ≡ [])) → StatesSo tracked is_listed' is_saved (depth - 1) items'
+    pub found_so : (cfa : CfaRule) (is_listed' : Bool) → TakenBack (Some cfa) row (reverse items) row' (reverse items') → (is_listed' ≡ false → (tracked ≡ false) × (items' ≡ []))
+        → StatesSo tracked is_listed' saved (depth - 1) (rows_before row'.registers (reverse items')) items'
+    unfolding rows_before
     found_so cfa is_listed' taken unlisted =
-        record { count = (restored_count row row' depth (saved_count is_saved) (reverse items) (reverse items') cfa so.count taken).1; unlisted = unlisted; untracked = so.untracked }
+        record { count = (found_count cfa taken).1; unlisted = unlisted; untracked = so.untracked; since = subst (λ (b : Before). KeptSo saved.marks saved.row.registers b.1) taken so.since }
+
+    pub found_held : (cfa : CfaRule) (row'' : Rules) → TakenBack (Some cfa) row (reverse items) row' (reverse items') → row'' ≡ with_cfa cfa row' → Restored true now (held tracked saved row'' kept' items')
+    unfolding rows_before
+    found_held cfa row'' taken at = subst (λ (x : Rules). Restored true now (held tracked saved x kept' items')) (sym at) (
+      ap (λ (h : Held). h.stack) (sym is) ∙ ap (λ (b : Before). stacked saved b.0) taken,
+      ap (λ (b : Before). first_if tracked b.1) (sym taken) ∙ ap (λ (h : Held). h.first) is,
+    )
+
+    -- none is listed: the one that is saved is the last, or there is none
+    module _ (taken : TakenBack None row (reverse items) row' (reverse items')) where
+      pub none_left : items' ≡ []
+      none_left = reversed_none items' taken.1
+
+      taken_all : before ≡ ([], row'.registers)
+      unfolding rows_before
+      taken_all = taken.0
+
+      pub none_since : KeptSo saved.marks saved.row.registers row'.registers
+      none_since = subst (λ (b : Before). KeptSo saved.marks saved.row.registers b.1) taken_all so.since
+
+      pub none_so : StatesSo tracked is_listed saved depth (rows_before row'.registers (reverse items')) items'
+      none_so =
+          let same = none_before row'.registers items' none_left ∙ sym taken_all in
+          subst (λ (b : Before). StatesSo tracked is_listed saved depth b items') (sym same) (record { count = so.count; unlisted = λ e. ((so.unlisted e).0, none_left); untracked = so.untracked; since = so.since })
+
+      pub none_held : saved.marks.watched ≡ false → now.stack ≡ []
+      none_held off = ap (λ (h : Held). h.stack) (sym is) ∙ ap (λ (b : Before). stacked saved b.0) taken_all ∙ rw off refl
+
+      pub back_held : (saved' : KeptRow) (row'' : Rules) → IsTrue saved.marks.watched → saved'.marks.watched ≡ false → row'' ≡ saved.row → Restored true now (held tracked saved' row'' kept' items')
+      back_held saved' row'' on off at =
+          let free = so.untracked on in
+          subst (λ (h : Held). Restored true now h) (sym (begun_held tracked saved' row'' kept' items' none_left off)) (
+            ap (λ (h : Held). h.stack) (sym is) ∙ ap (λ (b : Before). stacked saved b.0) taken_all ∙ rw (on, at) refl,
+            ap (λ (t : Bool). first_if t row''.registers) free ∙ sym (sym (ap (λ (h : Held). h.first) is) ∙ ap (λ (t : Bool). first_if t before.1) free),
+          )
 
 -- ---- changes that are taken back
 
@@ -146,29 +218,7 @@ pub back_mark : (registers : List Entry) (cfa : CfaRule) (items items' : List Un
 unfolding rows_before
 back_mark registers cfa items items' more = rw (last_first (Remembered cfa) items' items more) refl
 
-module _ (tracked is_saved : Bool) (saved : Saving) (row kept : Rules) (changes : List Undo) (now : Held) (is : shown tracked is_saved saved row kept (rows_before row.registers changes) ≡ now) (row' kept' : Rules) (changes' : List Undo) where
-  pub restored : (cfa : CfaRule) (row'' : Rules) → TakenBack (Some cfa) row changes row' changes' → row'' ≡ with_cfa cfa row' → Restored true now (shown tracked is_saved saved row'' kept' (rows_before row''.registers changes'))
-  unfolding rows_before
-  restored cfa row'' taken at = subst (λ (x : Rules). Restored true now (shown tracked is_saved saved x kept' (rows_before x.registers changes'))) (sym at) (
-    ap (λ (h : Held). h.stack) (sym is) ∙ ap (λ (b : List Rules × List Entry). b.0 ++ saved_if is_saved saved b.1) taken,
-    ap (λ (b : List Rules × List Entry). first_if tracked b.1) (sym taken) ∙ ap (λ (h : Held). h.first) is,
-  )
-
-  -- none is listed: the one that is saved is the last, or there is none
-  pub restored_saved : (row'' : Rules) → TakenBack None row changes row' changes' → is_saved ≡ true → tracked ≡ false → row'' ≡ saved_row saved row'.registers → Restored true now (shown tracked false saved row'' kept' (rows_before row''.registers changes'))
-  unfolding rows_before
-  restored_saved row'' taken given free at = (
-    ap (λ (h : Held). h.stack) (sym is) ∙ ap (λ (b : List Rules × List Entry). b.0 ++ saved_if is_saved saved b.1) taken.0 ∙ ap (λ (b : Bool). saved_if b saved row'.registers) given
-        ∙ ap (λ (x : Rules). x ∷ []) (sym at) ∙ sym (ap (λ (l : List Undo). row'' ∷ ((rows_before row''.registers l).0 ++ [])) taken.1),
-    ap (λ (t : Bool). first_if t (rows_before row''.registers changes').1) free ∙ sym (ap (λ (h : Held). h.first) (sym is) ∙ ap (λ (t : Bool). first_if t (rows_before row.registers changes).1) free),
-  )
-
-  pub restored_none : TakenBack None row changes row' changes' → is_saved ≡ false → now.stack ≡ []
-  unfolding rows_before
-  restored_none taken unsaved = ap (λ (h : Held). h.stack) (sym is) ∙ ap (λ (b : List Rules × List Entry). b.0 ++ saved_if is_saved saved b.1) taken.0 ∙ rw unsaved refl
-
-pub rewound : (tracked : Bool) (saved : Saving) (initial row' row'' kept : Rules) (items : List Undo) → row'.registers ≡ initial.registers → row'' ≡ with_cfa initial.cfa row' → items ≡ []
-    → ((held tracked false saved row'' kept items).row ≡ initial) × ((held tracked false saved row'' kept items).stack ≡ []) × BeganWith initial (held tracked false saved row'' kept items).first
-rewound tracked saved initial row' row'' kept items same new none =
-    let whole : row'' ≡ initial = new ∙ ap (λ (l : List Entry). with_cfa initial.cfa (record { cfa = initial.cfa; registers = l })) same in
-    subst (λ (h : Held). (h.row ≡ initial) × (h.stack ≡ []) × BeganWith initial h.first) (sym (begun_held tracked saved row'' kept items none)) (whole, refl, began tracked initial row'' whole)
+pub rewound : (tracked : Bool) (saved : KeptRow) (initial row kept : Rules) (items : List Undo) → row ≡ initial → items ≡ [] → saved.marks.watched ≡ false
+    → ((held tracked saved row kept items).row ≡ initial) × ((held tracked saved row kept items).stack ≡ []) × BeganWith initial (held tracked saved row kept items).first
+rewound tracked saved initial row kept items same none off =
+    subst (λ (h : Held). (h.row ≡ initial) × (h.stack ≡ []) × BeganWith initial h.first) (sym (begun_held tracked saved row kept items none off)) (same, refl, began tracked initial row same)

@@ -1,6 +1,6 @@
 -- Ascending registers in a tree: what it finds, puts in and takes out is what the list of them says.
-use Rattle.dw_cfa.proofs.Words.{append_assoc, ◌≡◌, ℕ, suc, ◌<◌, ◌≤◌, true, false, List, [], ◌∷◌, ◌++◌, refl, sym, ap, ◌∙◌, subst, arith, nat_cmp, unwrap_or, nat_tests, CfaRule, RegRule, Rules, Unspecified, is_specified, AreSpecified}
-use Rattle.dw_cfa.proofs.Words.{rule_in, put, with_rule}
+use Rattle.dw_cfa.proofs.Words.{append_assoc, ◌≡◌, ℕ, suc, ◌<◌, ◌≤◌, true, false, List, [], ◌∷◌, ◌++◌, refl, sym, ap, ◌∙◌, subst, arith, nat_cmp, unwrap_or, nat_tests, RegRule, Unspecified, is_specified, AreSpecified}
+use Rattle.dw_cfa.proofs.Words.{rule_in, put}
 use Rattle.std.specs.Map.{lookup, remove_entry}
 use Rattle.std.specs.BTreeMap.{insert_entry, is_at}
 use Rattle.dw_cfa.proofs.Lent.RowLists.{Entry, listed_is, put_keeps, put_rule}
@@ -44,11 +44,8 @@ one_more xs rest all new x e whole up =
 
 -- ---- taking a change back
 
-put_back : (r : ℕ) (rule : RegRule) (xs : List Entry) → AreSpecified 0 xs → put r (rule_in xs r) (put r rule xs) ≡ xs
-put_back r rule xs up = sym (is_put r (rule_in xs r) (put r rule xs) xs (put_keeps r rule 0 xs up (omega arith)) up (λ q. grind (arith, nat_tests, put_rule r rule 0 xs q up)))
+pub put_same : (r : ℕ) (xs : List Entry) → AreSpecified 0 xs → put r (rule_in xs r) xs ≡ xs
+put_same r xs up = sym (is_put r (rule_in xs r) xs xs up up (λ q. grind (arith, nat_tests)))
 
-pub taken_back : (r : ℕ) (older rule : RegRule) (cfa : CfaRule) (old new : List Entry) (before : Rules) → older ≡ rule_in old r → new ≡ put r rule old → AreSpecified 0 old
-    → record { cfa = cfa; registers = old } ≡ before → with_rule r older (record { cfa = cfa; registers = new }) ≡ before
-taken_back r older rule cfa old new before is change up same =
-    let back = ap (λ (x : RegRule). put r x new) is ∙ ap (put r (rule_in old r)) change ∙ put_back r rule old up in
-    ap (λ (l : List Entry). let row : Rules = record { cfa = cfa; registers = l } in row) back ∙ same
+pub put_back : (r : ℕ) (rule : RegRule) (xs : List Entry) → AreSpecified 0 xs → put r (rule_in xs r) (put r rule xs) ≡ xs
+put_back r rule xs up = sym (is_put r (rule_in xs r) (put r rule xs) xs (put_keeps r rule 0 xs up (omega arith)) up (λ q. grind (arith, nat_tests, put_rule r rule 0 xs q up)))

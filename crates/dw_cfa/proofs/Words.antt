@@ -15,7 +15,7 @@ pub use Rattle.dw_cfa.specs.Inner.Exact.{BehindGives, BehindRefused, GivesRows, 
 unfoldable pub use Rattle.dw_cfa.specs.Inner.FrontInstr.{block_at, expression_in, instr_at}
 pub use Rattle.dw_cfa.specs.Inner.FrontInstr.{after_code, after_length, block_in, expression_of, form_at, judged, known_at, leaving, operand_at, then_operand, with_instr}
 pub use Rattle.dw_cfa.specs.Inner.Machine.{State, after, begun, changed, cie_fault, empty_fault, fde_fault, half_fault, moved, popped, written}
-pub use Rattle.dw_cfa.specs.Inner.Marks.{CopiedUpTo, IsAdded, MarksMore, MarksSo, SameUnlisted, SameUnmarked, Unmarked, WatchedSo, Watching, in_mask, in_tree, marked, watching}
+pub use Rattle.dw_cfa.specs.Inner.Marks.{CopiedUpTo, IsAdded, KeptSo, MarksMore, MarksSo, SameUnlisted, SameUnmarked, Unmarked, Watching, in_mask, in_tree, marked, watching}
 pub use Rattle.dw_cfa.specs.Inner.Opening.{GivesOffset, answers_move, answers_row}
 unfoldable pub use Rattle.dw_cfa.specs.Inner.Operands.{opcode_of}
 pub use Rattle.dw_cfa.specs.Inner.Operands.{form_of, opcode_table}
@@ -27,10 +27,8 @@ pub use Rattle.dw_cfa.specs.Inner.Rows.{listed, put, with_cfa, with_rule}
 pub use Rattle.dw_cfa.specs.Inner.RuleAt.{CountsFrom, FoundAt}
 unfoldable pub use Rattle.dw_cfa.specs.Inner.Runs.{cie_run, fde_rows, fde_stop, placed, rows_behind, rows_left, run_rows, run_stop, stop_left}
 pub use Rattle.dw_cfa.specs.Inner.Runs.{GivesRow, Placed, Placing, RanTo, RunsSo, WroteTo, at_end, fault_or, here, initial_row, on_initial, place_of, refused_at, row_if, stop_on, stop_or}
-unfoldable pub use Rattle.dw_cfa.specs.Inner.Saved.{put_all}
-pub use Rattle.dw_cfa.specs.Inner.Saved.{Saving, TakesAmong, TakesAt, merged, saved_row}
-unfoldable pub use Rattle.dw_cfa.specs.Inner.States.{count_remembered, rows_before}
-pub use Rattle.dw_cfa.specs.Inner.States.{BeganWith, Held, Restored, StatesSo, TakenBack, first_if, held, saved_count, saved_if, shown}
+unfoldable pub use Rattle.dw_cfa.specs.Inner.States.{rows_before}
+pub use Rattle.dw_cfa.specs.Inner.States.{BeganWith, Held, Restored, StatesSo, TakenBack, first_if, held, saved_if, shown, stacked}
 pub use Rattle.dw_cfa.specs.Inner.Steps.{InLimit, IsAfter, state_of}
 pub use Rattle.dw_cfa.specs.InstrSpells.{BlockSpells, InstrFormSpells, InstrSpells, IsOffset, OperandSpells, ProgramSpells}
 pub use Rattle.dw_cfa.specs.Kept.{CieKept, FdeKept, IsRegisterRule, in_cie, is_remember, is_restore, keeps_half, remembered, restored}
@@ -51,6 +49,7 @@ pub use Rattle.dw_cfa.specs.declared.execution.LocatedRow.{LocatedRow}
 pub use Rattle.dw_cfa.specs.declared.instr.Factors.{Factors}
 pub use Rattle.dw_cfa.specs.declared.instr.Instr.{Instr}
 pub use Rattle.dw_cfa.specs.declared.instr.Instr.TheVariants.{Advance, DefCfa, DefCfaExpression, DefCfaOffset, DefCfaRegister, Nop, RememberState, Restore, RestoreState, Set, SetLoc}
+pub use Rattle.dw_cfa.specs.declared.kept_row.KeptRow.{KeptRow}
 pub use Rattle.dw_cfa.specs.declared.machine.End.{End}
 pub use Rattle.dw_cfa.specs.declared.machine.Machine.{Machine}
 pub use Rattle.dw_cfa.specs.declared.marks.Marks.{Marks}

@@ -9,7 +9,6 @@ pub mod Runs
 pub mod Exact
 pub mod Entries
 pub mod Marks
-pub mod Saved
 pub mod States
 pub mod RowSteps
 pub mod CieMachine

@@ -15,7 +15,7 @@ use crate::behind::{place_behind, start_behind};
 use crate::near_slots::{bit_of, copy_slots, is_in, next_in, same_slots};
 use crate::row::Specified;
 use crate::rule::RegRule;
-use crate::slot::{Kind, Slot, UNWRITTEN, offset_in, rule_of, slot_of};
+use crate::slot::{BESIDE, Kind, Slot, UNWRITTEN, offset_in, plain_slot, rule_of};
 use crate::tree::{first_difference, rule_in_tree, set_in_tree, tree_of};
 use std::alloc::{AllocError, Global};
 use std::collections::BTreeMap;
@@ -249,7 +249,7 @@ impl<'a> Entries<'a> {
 
     // Whether both trees are empty.
     #[inline(always)]
-    fn is_narrow(&self) -> bool
+    pub(crate) fn is_narrow(&self) -> bool
         ensures { IsTrue result → (self.now.expressions.entries ≡ []) × (self.now.far.entries ≡ []) }
     {
         self.expressions.is_empty() && self.far.is_empty()
@@ -297,24 +297,18 @@ impl<'a> Entries<'a> {
         self.used |= bit_of(register);
     }
 
-    // Gives a register that has a slot a rule with an expression.
+    // Gives a register that has a slot a rule that is kept beside it.
     #[inline(never)]
-    fn put_expression(
-        &mut self,
-        register: u16,
-        slot: Slot,
-        rule: RegRule<'a>,
-    ) -> Result<(), AllocError>
+    fn put_beside(&mut self, register: u16, rule: RegRule<'a>) -> Result<(), AllocError>
         requires so { EntriesSo self.old }
         requires near { register < 128 }
-        requires kind { slot.kind ≡ Expression }
         requires specified { IsTrue (is_specified rule) }
         ensures ok { OnOk result (entries_of self.new ≡ put register rule.entry (entries_of self.old)) }
         ensures so { EntriesSo self.new }
         ensures err { OnErr result (entries_of self.new ≡ entries_of self.old) }
     {
         set_in_tree(&mut self.expressions, register, rule)?;
-        self.slots[usize::from(register)] = slot;
+        self.slots[usize::from(register)] = BESIDE;
         self.used |= bit_of(register);
         Ok(())
     }
@@ -328,14 +322,14 @@ impl<'a> Entries<'a> {
         ensures so { EntriesSo self.new }
         ensures err { OnErr result (entries_of self.new ≡ entries_of self.old) }
     {
-        let Some(slot) = slot_of(&rule) else {
-            self.drop_near(register);
+        if let Some(slot) = plain_slot(&rule) {
+            self.put_plain(register, slot);
             return Ok(());
-        };
-        if let Kind::Expression = slot.kind {
-            return self.put_expression(register, slot, rule);
         }
-        self.put_plain(register, slot);
+        if rule.is_specified() {
+            return self.put_beside(register, rule);
+        }
+        self.drop_near(register);
         Ok(())
     }
 
@@ -358,7 +352,7 @@ impl<'a> Entries<'a> {
             return Ok(());
         };
         if let Kind::Expression = slot.kind {
-            return self.set_near(register, others.rule(register));
+            return self.put_beside(register, others.rule(register));
         }
         self.put_plain(register, slot);
         Ok(())

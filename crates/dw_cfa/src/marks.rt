@@ -1,7 +1,9 @@
 //! The registers that were set since a row was kept.
 
-ghost use Rattle.std.specs.Prelude.{◌≡◌, ◌≤◌, ℕ, [], IsTrue, OnErr, OnOk};
-ghost use Rattle.dw_cfa.specs.Inner.Marks.{IsAdded, MarksMore, MarksSo, Unmarked, marked};
+ghost use Rattle.std.specs.Prelude.{◌≡◌, ◌||◌, ◌≤◌, ℕ, [], false, true, IsTrue, OnErr, OnOk};
+ghost use Rattle.dw_cfa.specs.RegisterSets.{has};
+ghost use Rattle.dw_cfa.specs.Rows.{AreSpecified};
+ghost use Rattle.dw_cfa.specs.Inner.Marks.{IsAdded, MarksMore, MarksSo, Unmarked, in_tree, marked};
 
 use crate::entries::NEAR;
 use crate::near_slots::bit_of;
@@ -23,6 +25,7 @@ impl<'a> Marks<'a> {
     /// Watches none.
     pub(crate) fn none(alloc: Global) -> Marks<'a>
         ensures so { MarksSo result }
+        ensures watched { result.watched ≡ false }
         ensures none { (r : ℕ) → Unmarked result r → ⊥ }
     {
         Marks {
@@ -36,6 +39,7 @@ impl<'a> Marks<'a> {
     pub(crate) fn forget(&mut self)
         requires { MarksSo self.old }
         ensures so { MarksSo self.new }
+        ensures watched { self.new.watched ≡ false }
         ensures none { (r : ℕ) → Unmarked self.new r → ⊥ }
     {
         self.watched = false;
@@ -90,5 +94,40 @@ impl<'a> Marks<'a> {
             return self.mark_far(register);
         }
         Ok(())
+    }
+
+    // Marks the registers in a tree.
+    pub(crate) fn mark_all(&mut self, far: &BTreeMap<u16, RegRule<'_>>) -> Result<(), AllocError>
+        requires so { MarksSo self.old }
+        requires watched { IsTrue self.old.watched }
+        requires far { AreSpecified 128 far.now.entries }
+        ensures so { MarksSo self.new }
+        ensures watched { IsTrue self.new.watched }
+        ensures added { OnOk result ((r : ℕ) → has (marked self.new) r ≡ (in_tree far.now.entries r || has (marked self.old) r)) }
+        ensures more { OnErr result ((r : ℕ) → has (marked self.old) r ≡ true → has (marked self.new) r ≡ true) }
+        ensures others { OnErr result ((r : ℕ) → has (marked self.new) r ≡ true → (in_tree far.now.entries r || has (marked self.old) r) ≡ true) }
+    {
+        let mut others = far.iter();
+        'registers: while let Some((register, _)) = others.next() {
+            self.mark(*register)?;
+        }
+        Ok(())
+    }
+
+    /// Marks what others mark, or answers want of memory. Where either watches none, none is watched any more.
+    #[inline(always)]
+    pub(crate) fn add_all(&mut self, others: &Marks<'_>) -> Result<(), AllocError>
+        requires so { MarksSo self.old }
+        requires others { MarksSo others.now }
+        ensures so { MarksSo self.new }
+        ensures more { MarksMore self.old self.new }
+        ensures all { OnOk result (MarksMore others.now self.new) }
+    {
+        if !self.watched || !others.watched {
+            self.watched = false;
+            return Ok(());
+        }
+        self.near |= others.near;
+        self.mark_all(&others.far)
     }
 }

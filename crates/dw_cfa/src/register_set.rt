@@ -1,20 +1,20 @@
 //! Sets of registers, and rows that differ in these alone (6.4.1).
 
-ghost use Rattle.std.specs.Prelude.{◌≡◌, ◌||◌, ℕ, false, true, nat_eq, IsTrue, OnOk, OnErr};
+ghost use Rattle.std.specs.Prelude.{◌≡◌, ◌||◌, ℕ, false, true, nat_eq, OnOk, OnErr};
 ghost use Rattle.dw_cfa.specs.Agreement.{IsAgreed};
 ghost use Rattle.dw_cfa.specs.Difference.{FirstDifference, place_behind};
 ghost use Rattle.dw_cfa.specs.Inner.Agreement.{is_agreed};
 ghost use Rattle.dw_cfa.specs.Inner.Entries.{LeavesAmong, LeavesAt};
-ghost use Rattle.dw_cfa.specs.Inner.Marks.{MarksSo, in_mask, in_tree, marked};
+ghost use Rattle.dw_cfa.specs.Inner.Marks.{in_mask, in_tree};
 ghost use Rattle.dw_cfa.specs.RegisterSets.{AgreesBeside, SameBeside, has};
 ghost use Rattle.dw_cfa.specs.Rows.{AreSpecified};
 
 use crate::behind::place_behind;
+use crate::kept_row::next_far_difference;
 use crate::marks::Marks;
 use crate::near_slots::next_in;
 use crate::row::Row;
 use crate::rule::{CfaRule, RegRule};
-use crate::watched::next_far_difference;
 use std::alloc::{AllocError, Global};
 use std::collections::BTreeMap;
 use std::marker::Model;
@@ -70,26 +70,8 @@ impl<'a> RegisterSet<'a> {
         ensures others { OnErr result ((r : ℕ) → has self.new r ≡ true → (has other.now r || has self.old r) ≡ true) }
     {
         self.marks.near |= other.marks.near;
-        add_far(&mut self.marks, &other.marks.far)
+        self.marks.mark_all(&other.marks.far)
     }
-}
-
-// Marks the registers in a tree.
-fn add_far(marks: &mut Marks<'_>, far: &BTreeMap<u16, RegRule<'_>>) -> Result<(), AllocError>
-    requires so { MarksSo marks.old }
-    requires watched { IsTrue marks.old.watched }
-    requires far { AreSpecified 128 far.now.entries }
-    ensures so { MarksSo marks.new }
-    ensures watched { IsTrue marks.new.watched }
-    ensures added { OnOk result ((r : ℕ) → has (marked marks.new) r ≡ (in_tree far.now.entries r || has (marked marks.old) r)) }
-    ensures more { OnErr result ((r : ℕ) → has (marked marks.old) r ≡ true → has (marked marks.new) r ≡ true) }
-    ensures others { OnErr result ((r : ℕ) → has (marked marks.new) r ≡ true → (in_tree far.now.entries r || has (marked marks.old) r) ≡ true) }
-{
-    let mut others = far.iter();
-    'registers: while let Some((register, _)) = others.next() {
-        marks.mark(*register)?;
-    }
-    Ok(())
 }
 
 // Drops a register from a row, if another row gives it another rule.

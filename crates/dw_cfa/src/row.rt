@@ -278,34 +278,6 @@ impl<'a> Row<'a> {
         self.entries.copy_near(&other.entries, register)
     }
 
-    // The same of any register.
-    #[inline(always)]
-    pub(crate) fn copy_any(&mut self, other: &Row<'a>, register: u16) -> Result<(), AllocError>
-        ensures ok { OnOk result (self.new ≡ with_rule register (rule_in other.now.registers register) self.old) }
-        ensures err { OnErr result (self.new ≡ self.old) }
-    {
-        if register < NEAR {
-            return self.copy_rule(other, register);
-        }
-        self.set(register, other.rule(register))
-    }
-
-    // Gives a register a rule and answers the one that it had, or want of memory.
-    #[inline(always)]
-    pub(crate) fn exchange(
-        &mut self,
-        register: u16,
-        rule: RegRule<'a>,
-    ) -> Result<RegRule<'a>, AllocError>
-        ensures ok { OnOk result (self.new ≡ with_rule register rule.entry self.old) }
-        ensures back { IfOk result (λ older. with_rule register older self.new ≡ self.old) }
-        ensures err { OnErr result (self.new ≡ self.old) }
-    {
-        let older = self.entries.rule(register);
-        self.entries.set(register, rule)?;
-        Ok(older)
-    }
-
     /// Makes it a copy of another row, in the room that is there, or answers want of memory. It is some row then.
     pub(crate) fn become_copy(&mut self, other: &Row<'a>) -> Result<(), AllocError>
         ensures { OnOk result (self.new ≡ other.now) }
@@ -346,6 +318,12 @@ impl<'a> Row<'a> {
         ensures { SpecifiesIn result self.now }
     {
         self.entries.used
+    }
+
+    // Whether no rule is in a tree.
+    #[inline(always)]
+    pub(crate) fn is_narrow(&self) -> bool {
+        self.entries.is_narrow()
     }
 
     // Whether some registers are in a tree.

@@ -1,10 +1,11 @@
 //! What a slot of a row holds: the rule of one register (6.4.1).
 
-ghost use Rattle.std.specs.Prelude.{◌≡◌, IfSome, IsTrue, MatchOption};
+ghost use Rattle.std.specs.Prelude.{◌≡◌, IfSome};
 ghost use Rattle.dw_cfa.specs.declared.rule.RegRule.{RegRule as TheRule};
-ghost use Rattle.dw_cfa.specs.declared.rule.RegRule.TheVariants.{Offset, Unspecified};
-ghost use Rattle.dw_cfa.specs.Rows.{is_specified, rule_in};
-ghost use Rattle.dw_cfa.specs.Inner.Entries.{HoldsRule, IsSlotOf, slot_rule};
+ghost use Rattle.dw_cfa.specs.declared.rule.RegRule.TheVariants.{Offset};
+ghost use Rattle.dw_cfa.specs.declared.slot.Kind.TheVariants.{Expression};
+ghost use Rattle.dw_cfa.specs.Rows.{rule_in};
+ghost use Rattle.dw_cfa.specs.Inner.Entries.{IsSlotOf, slot_rule};
 
 use crate::rule::RegRule;
 use crate::tree::rule_in_tree;
@@ -37,6 +38,13 @@ pub(crate) const UNWRITTEN: Slot = Slot {
     offset: 0,
 };
 
+/// The slot of a register whose rule is kept beside the slots.
+pub(crate) const BESIDE: Slot = Slot {
+    kind: Kind::Expression,
+    register: 0,
+    offset: 0,
+};
+
 /// The rule that a slot holds of a register.
 #[inline(always)]
 pub(crate) fn rule_of<'a>(
@@ -56,39 +64,40 @@ pub(crate) fn rule_of<'a>(
     }
 }
 
-// The slot of a rule, which is kept beside the slots where its offset is long.
+// The slot of a rule with an offset, where that is short.
 #[inline(always)]
-fn slot_with(kind: Kind, register: u16, offset: i64) -> Slot
-    ensures { (rule : TheRule) → HoldsRule kind register offset rule → IsSlotOf rule result }
+fn offset_slot(kind: Kind, offset: i64) -> Option<Slot>
+    ensures { IfSome result (λ slot. (slot.kind ≡ kind) × (slot.offset ≡ offset)) }
 {
-    let (kind, offset) = match i16::try_from(offset) {
-        Ok(offset) => (kind, offset),
-        Err(_) => (Kind::Expression, 0),
-    };
-    Slot {
-        kind,
-        register,
-        offset,
+    match i16::try_from(offset) {
+        Ok(offset) => Some(Slot {
+            kind,
+            register: 0,
+            offset,
+        }),
+        Err(_) => None,
     }
 }
 
-/// The slot of a rule. Unspecified has none.
+/// The slot of a rule that needs no more than a slot: one with no expression and no long offset.
 #[inline(always)]
-pub(crate) fn slot_of(rule: &RegRule<'_>) -> Option<Slot>
-    ensures slot { MatchOption result (rule.now ≡ Unspecified) (IsSlotOf rule.now) }
-    ensures specified { IfSome result (λ slot. IsTrue (is_specified rule.now)) }
+pub(crate) fn plain_slot(rule: &RegRule<'_>) -> Option<Slot>
+    ensures slot { IfSome result (IsSlotOf rule.now) }
+    ensures kind { IfSome result (λ slot. slot.kind ≡ Expression → ⊥) }
 {
-    let (kind, register, offset) = match rule {
-        RegRule::Unspecified => return None,
-        RegRule::Undefined => (Kind::Undefined, 0, 0),
-        RegRule::SameValue => (Kind::SameValue, 0, 0),
-        RegRule::Offset(offset) => (Kind::Offset, 0, *offset),
-        RegRule::ValOffset(offset) => (Kind::ValOffset, 0, *offset),
-        RegRule::Register(register) => (Kind::Register, *register, 0),
-        RegRule::Expression(_) => (Kind::Expression, 0, 0),
-        RegRule::ValExpression(_) => (Kind::Expression, 0, 0),
+    let (kind, register) = match rule {
+        RegRule::Offset(offset) => return offset_slot(Kind::Offset, *offset),
+        RegRule::ValOffset(offset) => return offset_slot(Kind::ValOffset, *offset),
+        RegRule::Register(register) => (Kind::Register, *register),
+        RegRule::Undefined => (Kind::Undefined, 0),
+        RegRule::SameValue => (Kind::SameValue, 0),
+        _ => return None,
     };
-    Some(slot_with(kind, register, offset))
+    Some(Slot {
+        kind,
+        register,
+        offset: 0,
+    })
 }
 
 /// The offset that a slot holds of a register that is saved.

@@ -1,19 +1,21 @@
 //! The current row and the remembered ones (6.4.2.4).
 
-ghost use Rattle.std.specs.Prelude.{◌≡◌, ◌+◌, ◌<◌, [], ◌∷◌, length, reverse, Some, None, OnOk, OnErr, IfOk, IsTrue, ◌↔◌, true, false};
+ghost use Rattle.std.specs.Prelude.{◌≡◌, ◌<◌, [], ◌∷◌, length, reverse, Some, None, OnOk, IfOk, IsTrue, ◌↔◌, true, false};
 ghost use Rattle.dw_cfa.specs.Difference.{FirstDifference, place_behind};
 ghost use Rattle.dw_cfa.specs.Rows.{AreSpecified, blank};
 ghost use Rattle.dw_cfa.specs.Inner.Rows.{with_cfa, with_rule};
-ghost use Rattle.dw_cfa.specs.Inner.States.{Held, first_if, saved_if, BeganWith, Restored, TakenBack, count_remembered, rows_before};
-ghost use Rattle.dw_cfa.specs.declared.rule.RegRule.{RegRule as TheRule};
+ghost use Rattle.dw_cfa.specs.Inner.States.{Held, first_if, BeganWith, Restored, TakenBack, rows_before};
 
+use crate::kept_row::KeptRow;
 use crate::row::Row;
 use crate::rule::{CfaRule, RegRule};
-use crate::saved::Saved;
 use crate::watched::WatchedRow;
 use smallvec::SmallVec;
 use std::alloc::{AllocError, Global};
 use std::marker::Model;
+
+// So many changes are listed without memory: those of four rows that are remembered at once, as compilers write them.
+const MOST_LISTED: usize = 32;
 
 /// What takes back a change of the current row.
 #[derive(Drop)]
@@ -30,28 +32,28 @@ impl<'a> Default for Undo<'a> {
     }
 }
 
-/// The current row and the remembered ones. A remembered row is not copied: what was changed since is kept, and
-/// taken back. So is what was changed since the beginning, where that is tracked. Most programs remember one row at a
-/// time. Of that one the registers that were set since are saved, each once; any other has all changes in a list.
+/// The current row and the remembered ones. Most programs remember one row at a time: that one is saved, and beneath all others.
+/// Of any other, what was changed since is listed, and taken back. So is what was changed since the beginning, where that is
+/// tracked.
 #[derive(Drop)]
 pub(crate) struct States<'a> {
     rows: WatchedRow<'a>,
-    undo: SmallVec<Undo<'a>, 4>,
-    saved: Saved<'a>,
-    is_saved: bool,
+    undo: SmallVec<Undo<'a>, MOST_LISTED>,
+    saved: KeptRow<'a>,
     depth: usize,
     tracked: bool,
     is_listed: bool,
 }
 
 impl<'a> Model for States<'a> {
-    ghost use Rattle.dw_cfa.specs.Inner.States.{Held, StatesSo, held};
+    ghost use Rattle.std.specs.Prelude.{reverse};
+    ghost use Rattle.dw_cfa.specs.Inner.States.{Held, StatesSo, held, rows_before};
 
     ghost Value = { Held };
 
-    ghost view = { λ s. held s.tracked s.is_saved s.saved s.rows.row s.rows.kept s.undo.items };
+    ghost view = { λ s. held s.tracked s.saved s.rows.row s.rows.kept s.undo.items };
 
-    ghost invariant = { λ s. StatesSo s.tracked s.is_listed s.is_saved s.depth s.undo.items };
+    ghost invariant = { λ s. StatesSo s.tracked s.is_listed s.saved s.depth (rows_before s.rows.row.registers (reverse s.undo.items)) s.undo.items };
 }
 
 // Takes changes back up to the row that was remembered last, and answers the rule that the CFA had there.
@@ -59,22 +61,35 @@ impl<'a> Model for States<'a> {
 #[tactic(auto, using(crate::proofs::StatesLaws::change_behind, crate::proofs::StatesLaws::last_first, crate::proofs::StatesLaws::no_items))]
 fn take_back<'a>(
     rows: &mut WatchedRow<'a>,
-    undo: &mut SmallVec<Undo<'a>, 4>,
+    undo: &mut SmallVec<Undo<'a>, MOST_LISTED>,
 ) -> Result<Option<CfaRule<'a>>, AllocError>
     ensures ok { IfOk result (λ found. TakenBack found rows.old.row (reverse undo.old.items) rows.new.row (reverse undo.new.items)) }
-    ensures err { OnErr result (count_remembered (reverse undo.new.items) ≡ count_remembered (reverse undo.old.items)) }
     ensures kept { rows.new.kept ≡ rows.old.kept }
 {
     'changes: while let Some(change) = undo.pop() {
         match change {
             Undo::Remembered(cfa) => return Ok(Some(cfa)),
-            Undo::Register(register, rule) => match rows.set(register, rule) {
-                Ok(()) => {}
-                Err(error) => return Err(error),
-            },
+            Undo::Register(register, rule) => rows.set(register, rule)?,
         }
     }
     Ok(None)
+}
+
+// The same, where mostly nothing is listed.
+#[inline(always)]
+fn take_listed<'a>(
+    is_listed: bool,
+    rows: &mut WatchedRow<'a>,
+    undo: &mut SmallVec<Undo<'a>, MOST_LISTED>,
+) -> Result<Option<CfaRule<'a>>, AllocError>
+    requires { is_listed ≡ false → undo.old.items ≡ [] }
+    ensures ok { IfOk result (λ found. TakenBack found rows.old.row (reverse undo.old.items) rows.new.row (reverse undo.new.items)) }
+    ensures kept { rows.new.kept ≡ rows.old.kept }
+{
+    if !is_listed {
+        return Ok(None);
+    }
+    take_back(rows, undo)
 }
 
 // Takes all changes of registers back.
@@ -82,7 +97,7 @@ fn take_back<'a>(
 #[tactic(auto, using(crate::proofs::StatesLaws::back_mark, crate::proofs::StatesLaws::back_none, crate::proofs::StatesLaws::change_behind, crate::proofs::StatesLaws::no_items))]
 fn take_all_back<'a>(
     rows: &mut WatchedRow<'a>,
-    undo: &mut SmallVec<Undo<'a>, 4>,
+    undo: &mut SmallVec<Undo<'a>, MOST_LISTED>,
 ) -> Result<(), AllocError>
     ensures registers { OnOk result (rows.new.row.registers ≡ (rows_before rows.old.row.registers (reverse undo.old.items)).1) }
     ensures kept { rows.new.kept ≡ rows.old.kept }
@@ -96,28 +111,28 @@ fn take_all_back<'a>(
     Ok(())
 }
 
-// Brings the registers of the initial row back.
+// Brings the initial row back.
 fn first_again<'a>(
     tracked: bool,
     rows: &mut WatchedRow<'a>,
-    undo: &mut SmallVec<Undo<'a>, 4>,
+    undo: &mut SmallVec<Undo<'a>, MOST_LISTED>,
     initial: &Row<'a>,
 ) -> Result<(), AllocError>
     requires { BeganWith initial.now (first_if tracked (rows_before rows.old.row.registers (reverse undo.old.items)).1) }
-    ensures registers { OnOk result (rows.new.row.registers ≡ initial.now.registers) }
+    ensures row { OnOk result (rows.new.row ≡ initial.now) }
     ensures kept { rows.new.kept ≡ rows.old.kept }
 {
     if tracked {
         take_all_back(rows, undo)?;
+        rows.set_cfa(initial.cfa());
         return Ok(());
     }
-    rows.become_copy(initial)?;
-    Ok(())
+    rows.become_copy(initial)
 }
 
 // Empties the list, which is mostly empty.
 #[inline(always)]
-fn unlist(is_listed: bool, undo: &mut SmallVec<Undo<'_>, 4>)
+fn unlist(is_listed: bool, undo: &mut SmallVec<Undo<'_>, MOST_LISTED>)
     requires { is_listed ≡ false → undo.old.items ≡ [] }
     ensures { undo.new.items ≡ [] }
 {
@@ -128,67 +143,29 @@ fn unlist(is_listed: bool, undo: &mut SmallVec<Undo<'_>, 4>)
 
 // Whether changes are listed behind one of the rows.
 #[inline(always)]
-fn lists(tracked: bool, undo: &SmallVec<Undo<'_>, 4>) -> bool
+fn lists(tracked: bool, undo: &SmallVec<Undo<'_>, MOST_LISTED>) -> bool
     ensures { result ≡ false → (tracked ≡ false) × (undo.now.items ≡ []) }
 {
     tracked || !undo.is_empty()
 }
 
-// Whether there is something to go back to.
+// Whether a row that is remembered now is saved: nothing is there to go back to, and it is copied without memory.
 #[inline(always)]
-#[tactic(auto, using(crate::proofs::StatesLaws::unrecorded))]
-fn is_recorded(tracked: bool, depth: usize) -> bool
-    ensures { result ≡ false → (tracked ≡ false) × (depth ≡ 0) }
+fn saves(tracked: bool, depth: usize, row: &Row<'_>) -> bool
+    ensures { IsTrue result → (tracked ≡ false) × (depth ≡ 0) }
 {
-    tracked || depth > 0
-}
-
-// The same, where mostly nothing is listed.
-#[inline(always)]
-fn take_listed<'a>(
-    is_listed: bool,
-    rows: &mut WatchedRow<'a>,
-    undo: &mut SmallVec<Undo<'a>, 4>,
-) -> Result<Option<CfaRule<'a>>, AllocError>
-    requires { is_listed ≡ false → undo.old.items ≡ [] }
-    ensures ok { IfOk result (λ found. TakenBack found rows.old.row (reverse undo.old.items) rows.new.row (reverse undo.new.items)) }
-    ensures err { OnErr result (count_remembered (reverse undo.new.items) ≡ count_remembered (reverse undo.old.items)) }
-    ensures listed { OnErr result (IsTrue is_listed) }
-    ensures kept { rows.new.kept ≡ rows.old.kept }
-{
-    if !is_listed {
-        return Ok(None);
-    }
-    take_back(rows, undo)
-}
-
-// Saves the rule of a register, where a row is saved.
-#[inline(always)]
-fn save_if<'a>(
-    is_saved: bool,
-    saved: &mut Saved<'a>,
-    row: &Row<'a>,
-    register: u16,
-) -> Result<(), AllocError>
-    ensures { OnOk result ((rule : TheRule) → saved_if is_saved saved.new (with_rule register rule row.now).registers ≡ saved_if is_saved saved.old row.now.registers) }
-{
-    if is_saved {
-        return saved.save(row, register);
-    }
-    Ok(())
+    !tracked && depth == 0 && row.is_narrow()
 }
 
 impl<'a> States<'a> {
     /// The row alone. Where changes are tracked, `rewind` brings it back in as many steps as it was changed.
-    #[tactic(auto, using(crate::proofs::StatesLaws::begun_held, crate::proofs::StatesLaws::begun_so))]
     pub(crate) fn new(alloc: Global, row: Row<'a>, tracked: bool) -> States<'a>
         ensures { result ≡ record { row = row.entry; stack = []; first = first_if tracked row.entry.registers; kept = blank } }
     {
         States {
             rows: WatchedRow::new(alloc, row),
             undo: SmallVec::new(alloc),
-            saved: Saved::none(alloc),
-            is_saved: false,
+            saved: KeptRow::none(alloc),
             depth: 0,
             tracked,
             is_listed: tracked,
@@ -261,12 +238,11 @@ impl<'a> States<'a> {
     }
 
     /// Remembers no row, and says whether changes are tracked from the current one on.
-    #[tactic(auto, using(crate::proofs::StatesLaws::begun_held, crate::proofs::StatesLaws::begun_so))]
     pub(crate) fn track(&mut self, tracked: bool)
         ensures { self.new ≡ record { row = self.old.row; stack = []; first = first_if tracked self.old.row.registers; kept = self.old.kept } }
     {
         self.undo.clear();
-        self.is_saved = false;
+        self.saved.forget();
         self.depth = 0;
         self.tracked = tracked;
         self.is_listed = tracked;
@@ -285,22 +261,22 @@ impl<'a> States<'a> {
         self.rows.set_cfa(cfa);
     }
 
-    // Gives a register a rule, and lists the one that it had.
+    // Lists the rule that a register has, and gives it another one.
     #[inline(never)]
-    #[tactic(auto, using(crate::proofs::StatesLaws::change_behind, crate::proofs::StatesLaws::change_count))]
     fn change(&mut self, register: u16, rule: RegRule<'a>) -> Result<(), AllocError>
         ensures kept { self.new.kept ≡ self.old.kept }
         ensures changed { OnOk result (self.new ≡ record { row = with_rule register rule.entry self.old.row; stack = self.old.stack; first = self.old.first; kept = self.old.kept }) }
     {
         self.is_listed = true;
-        let older = self.rows.exchange(register, rule)?;
+        let row = self.rows.row();
+        row.ascends();
+        let older = row.rule(register);
         self.undo.push(Undo::Register(register, older))?;
-        Ok(())
+        self.rows.set(register, rule)
     }
 
     /// Gives a register a rule, or answers want of memory.
     #[inline(always)]
-    #[tactic(auto, using(crate::proofs::StatesLaws::unlisted_held))]
     pub(crate) fn set(&mut self, register: u16, rule: RegRule<'a>) -> Result<(), AllocError>
         ensures kept { self.new.kept ≡ self.old.kept }
         ensures set { OnOk result (self.new ≡ record { row = with_rule register rule.entry self.old.row; stack = self.old.stack; first = self.old.first; kept = self.old.kept }) }
@@ -308,14 +284,13 @@ impl<'a> States<'a> {
         if self.is_listed {
             return self.change(register, rule);
         }
-        save_if(self.is_saved, &mut self.saved, self.rows.row(), register)?;
-        self.rows.set(register, rule)?;
-        Ok(())
+        self.saved.marks.mark(register)?;
+        self.rows.row().ascends();
+        self.rows.set(register, rule)
     }
 
     // Lists the current row as one that is remembered.
     #[inline(never)]
-    #[tactic(auto, using(crate::proofs::StatesLaws::mark_behind, crate::proofs::StatesLaws::mark_count))]
     fn list_row(&mut self) -> Result<(), AllocError>
         requires { length self.old.stack < 64 }
         ensures kept { self.new.kept ≡ self.old.kept }
@@ -329,62 +304,67 @@ impl<'a> States<'a> {
     }
 
     /// Remembers the current row.
+    #[inline(never)]
     pub(crate) fn remember(&mut self) -> Result<(), AllocError>
         requires { length self.old.stack < 64 }
         ensures kept { self.new.kept ≡ self.old.kept }
         ensures remembered { OnOk result (self.new ≡ record { row = self.old.row; stack = self.old.row ∷ self.old.stack; first = self.old.first; kept = self.old.kept }) }
     {
-        if is_recorded(self.tracked, self.depth) {
+        if !saves(self.tracked, self.depth, self.rows.row()) {
             return self.list_row();
         }
         unlist(self.is_listed, &mut self.undo);
         self.is_listed = false;
-        self.saved.begin(self.rows.row());
-        self.is_saved = true;
+        self.saved.keep(self.rows.row())?;
         self.depth = 1;
         Ok(())
     }
 
-    /// Goes back to the row that was remembered last, and tells whether there was one.
-    #[tactic(auto, using(crate::proofs::StatesLaws::restored_count, crate::proofs::StatesLaws::restored_none))]
+    /// Goes back to the row that was remembered last, and tells whether there was one. Behind want of memory none is remembered.
+    #[inline(never)]
     pub(crate) fn restore(&mut self) -> Result<bool, AllocError>
         ensures kept { self.new.kept ≡ self.old.kept }
         ensures restored { IfOk result (λ found. Restored found self.old self.new) }
     {
-        match take_listed(self.is_listed, &mut self.rows, &mut self.undo)? {
-            Some(cfa) => {
+        match take_listed(self.is_listed, &mut self.rows, &mut self.undo) {
+            Ok(Some(cfa)) => {
                 self.rows.set_cfa(cfa);
                 self.depth -= 1;
                 self.is_listed = lists(self.tracked, &self.undo);
                 Ok(true)
             }
-            None => {
-                if !self.is_saved {
+            Ok(None) => {
+                if !self.saved.is_watched() {
                     return Ok(false);
                 }
-                self.saved.take_back(&mut self.rows)?;
-                self.is_saved = false;
+                let back = self.rows.go_back(&self.saved);
+                self.saved.forget();
                 self.depth = 0;
+                back?;
                 Ok(true)
+            }
+            Err(error) => {
+                self.saved.forget();
+                self.is_listed = self.tracked;
+                self.undo.clear();
+                self.depth = 0;
+                Err(error)
             }
         }
     }
 
     /// Goes back to the initial row, which was the first, and remembers none.
     #[inline(always)]
-    #[tactic(auto, using(crate::proofs::StatesLaws::begun_so))]
     pub(crate) fn rewind(&mut self, initial: &Row<'a>) -> Result<(), AllocError>
         requires { BeganWith initial.now self.old.first }
         ensures kept { self.new.kept ≡ self.old.kept }
         ensures rewound { OnOk result ((self.new.row ≡ initial.now) × (self.new.stack ≡ []) × BeganWith initial.now self.new.first) }
     {
         let taken = first_again(self.tracked, &mut self.rows, &mut self.undo, initial);
-        self.is_saved = false;
+        self.saved.forget();
         self.is_listed = self.tracked;
         self.undo.clear();
         self.depth = 0;
-        taken?;
-        self.rows.set_cfa(initial.cfa());
-        Ok(())
+        taken
     }
 }

@@ -39,6 +39,11 @@ MarksMore old new = (r : ℕ) → Unmarked new r → Unmarked old r
 abbrev pub SameUnmarked : Marks → List (ℕ × RegRule) → List (ℕ × RegRule) → Type 0
 SameUnmarked m xs ys = (r : ℕ) → Unmarked m r → rule_in xs r ≡ rule_in ys r
 
+-- since a row was kept, no register was set but the marked ones
+pub record KeptSo (m : Marks) (kept registers : List (ℕ × RegRule)) : Type 0 where
+  pub marks : MarksSo m
+  pub same : SameUnmarked m kept registers
+
 -- those that a tree lacks, of the registers from one on
 abbrev pub SameUnlisted : ℕ → List (ℕ × RegRule) → List (ℕ × RegRule) → List (ℕ × RegRule) → Type 0
 SameUnlisted from far xs ys = (r : ℕ) → from ≤ r → rule_in far r ≡ Unspecified → rule_in xs r ≡ rule_in ys r
@@ -56,7 +61,3 @@ pub record Watching : Type 0 where
 
 abbrev pub watching : Rules → Rules → Watching
 watching row kept = record { row = row; kept = kept }
-
-pub record WatchedSo (m : Marks) (kept row : Rules) : Type 0 where
-  pub marks : MarksSo m
-  pub same : SameUnmarked m kept.registers row.registers

@@ -1,40 +1,51 @@
-use Rattle.dw_cfa.proofs.Words.{reverse, ap, Watching, saved_count}
-use Rattle.dw_cfa.proofs.StatesLaws.{behind_so, found_so, none_so, restored, restored_count, restored_saved}
+use Rattle.dw_cfa.proofs.Words.{◌-◌, ◌∙◌, ap, reverse, sym, subst, rows_before, StatesSo, Watching}
+use Rattle.dw_cfa.proofs.StatesLaws.{back_held, begun_so, found_count, found_held, found_so, none_held, none_left, none_since}
 use Rattle.dw_cfa.proofs.states.States.restore.Goals as goal
 
 pub overflow_sub-self : goal.overflow_sub-self
 overflow_sub-self c =
     let s = c.self.inside in let new = c.take_listed.new in
-    (restored_count s.rows.row new.rows.row s.depth (saved_count s.is_saved) (reverse s.undo.items) (reverse new.undo.items) c.in-Some.cfa c.self.invariant.count (rw c.in-Some.is at c.in_ok-cfa.ensures.ok)).0
+    (found_count s.tracked s.is_listed s.saved s.rows.row s.rows.kept s.undo.items c.args.self.now c.self.view_is s.depth c.self.invariant new.rows.row new.rows.kept new.undo.items c.in-Ok-Some.cfa (rw c.in-Ok-Some.field-0-is at c.in-Ok-Some.ensures.ok)).0
 
-pub invariant_of-self-in-Some : goal.invariant_of-self-in-Some
-invariant_of-self-in-Some c =
-    let s = c.self.inside in let new = c.take_listed.new in
-    found_so s.tracked s.is_listed s.is_saved s.depth s.undo.items c.self.invariant new.undo.items s.rows.row new.rows.row c.in-Some.cfa c.lists-self-inside.result (rw c.in-Some.is at c.in_ok-cfa.ensures.ok) c.lists-self-inside.ensures
+pub invariant_of-self : goal.invariant_of-self
+invariant_of-self c =
+    let s = c.self.inside in let new = c.take_listed.new in let items = new.undo.items in
+    subst (λ (w : Watching). StatesSo s.tracked c.lists-self-inside.result s.saved (s.depth - 1) (rows_before w.row.registers (reverse items)) items) (sym c.set_cfa.ensures)
+    (found_so s.tracked s.is_listed s.saved s.rows.row s.rows.kept s.undo.items c.args.self.now c.self.view_is s.depth c.self.invariant new.rows.row new.rows.kept items c.in-Ok-Some.cfa c.lists-self-inside.result (rw c.in-Ok-Some.field-0-is at c.in-Ok-Some.ensures.ok) c.lists-self-inside.ensures)
 
-pub returns-in-Some-clause-restored : goal.returns-in-Some-clause-restored
-returns-in-Some-clause-restored c =
+pub returns-in-Ok-Some-clause-restored : goal.returns-in-Ok-Some-clause-restored
+returns-in-Ok-Some-clause-restored c =
     let s = c.self.inside in let new = c.take_listed.new in
-    restored s.tracked s.is_saved s.saved s.rows.row s.rows.kept (reverse s.undo.items) c.args.self.now c.self.view_is new.rows.row c.set_cfa.new.self.kept (reverse new.undo.items) c.in-Some.cfa c.set_cfa.new.self.row
-    (rw c.in-Some.is at c.in_ok-cfa.ensures.ok) (ap (λ (w : Watching). w.row) c.set_cfa.ensures)
+    found_held s.tracked s.is_listed s.saved s.rows.row s.rows.kept s.undo.items c.args.self.now c.self.view_is s.depth c.self.invariant new.rows.row c.set_cfa.new.self.kept new.undo.items c.in-Ok-Some.cfa c.set_cfa.new.self.row (rw c.in-Ok-Some.field-0-is at c.in-Ok-Some.ensures.ok) (ap (λ (w : Watching). w.row) c.set_cfa.ensures)
 
-pub invariant_of-self-then-not-self : goal.invariant_of-self-then-not-self
-invariant_of-self-then-not-self c =
+pub returns-then-not-is_watched-clause-restored : goal.returns-then-not-is_watched-clause-restored
+returns-then-not-is_watched-clause-restored c =
     let s = c.self.inside in let new = c.take_listed.new in
-    none_so s.tracked s.is_listed s.is_saved s.depth s.undo.items c.self.invariant new.undo.items s.rows.row new.rows.row (rw c.in-None.is at c.in_ok-cfa.ensures.ok)
+    none_held s.tracked s.is_listed s.saved s.rows.row s.rows.kept s.undo.items c.args.self.now c.self.view_is s.depth c.self.invariant new.rows.row new.rows.kept new.undo.items (rw c.in-Ok-None.field-0-is at c.in-Ok-None.ensures.ok) (sym c.is_watched.ensures ∙ c.if-not-is_watched.true)
 
-pub invariant_of-self-in_err-take_back-in-None : goal.invariant_of-self-in_err-take_back-in-None
-invariant_of-self-in_err-take_back-in-None c =
+pub go_back-back-requires : goal.go_back-back-requires
+go_back-back-requires c =
     let s = c.self.inside in let new = c.take_listed.new in
-    none_so s.tracked s.is_listed s.is_saved s.depth s.undo.items c.self.invariant new.undo.items s.rows.row new.rows.row (rw c.in-None.is at c.in_ok-cfa.ensures.ok)
+    none_since s.tracked s.is_listed s.saved s.rows.row s.rows.kept s.undo.items c.args.self.now c.self.view_is s.depth c.self.invariant new.rows.row new.rows.kept new.undo.items (rw c.in-Ok-None.field-0-is at c.in-Ok-None.ensures.ok)
 
-pub invariant_of-self-in-None : goal.invariant_of-self-in-None
-invariant_of-self-in-None c =
+pub invariant_of-self-in_err-back-in-Ok-None : goal.invariant_of-self-in_err-back-in-Ok-None
+invariant_of-self-in_err-back-in-Ok-None c =
     let s = c.self.inside in let new = c.take_listed.new in
-    behind_so s.tracked s.is_listed s.is_saved s.depth s.undo.items c.self.invariant new.undo.items s.rows.row new.rows.row (rw c.in-None.is at c.in_ok-cfa.ensures.ok)
+    begun_so s.tracked s.is_listed (λ e. (c.self.invariant.unlisted e).0) c.forget.new.self c.go_back-back.new.self.row.registers new.undo.items (none_left s.tracked s.is_listed s.saved s.rows.row s.rows.kept s.undo.items c.args.self.now c.self.view_is s.depth c.self.invariant new.rows.row new.rows.kept new.undo.items (rw c.in-Ok-None.field-0-is at c.in-Ok-None.ensures.ok))
+    c.forget.ensures.watched c.forget.ensures.so
 
-pub returns-in_ok-take_back-in-None-clause-restored : goal.returns-in_ok-take_back-in-None-clause-restored
-returns-in_ok-take_back-in-None-clause-restored c =
+pub invariant_of-self-in-Ok-None : goal.invariant_of-self-in-Ok-None
+invariant_of-self-in-Ok-None c =
     let s = c.self.inside in let new = c.take_listed.new in
-    restored_saved s.tracked s.is_saved s.saved s.rows.row s.rows.kept (reverse s.undo.items) c.args.self.now c.self.view_is new.rows.row c.take_back.new.rows.kept (reverse new.undo.items) c.take_back.new.rows.row
-    (rw c.in-None.is at c.in_ok-cfa.ensures.ok) c.if-not-self.false (c.self.invariant.untracked c.if-not-self.false) c.in_ok-take_back-in-None.ensures.ok
+    begun_so s.tracked s.is_listed (λ e. (c.self.invariant.unlisted e).0) c.forget.new.self c.go_back-back.new.self.row.registers new.undo.items (none_left s.tracked s.is_listed s.saved s.rows.row s.rows.kept s.undo.items c.args.self.now c.self.view_is s.depth c.self.invariant new.rows.row new.rows.kept new.undo.items (rw c.in-Ok-None.field-0-is at c.in-Ok-None.ensures.ok))
+    c.forget.ensures.watched c.forget.ensures.so
+
+pub returns-in_ok-back-in-Ok-None-clause-restored : goal.returns-in_ok-back-in-Ok-None-clause-restored
+returns-in_ok-back-in-Ok-None-clause-restored c =
+    let s = c.self.inside in let new = c.take_listed.new in
+    back_held s.tracked s.is_listed s.saved s.rows.row s.rows.kept s.undo.items c.args.self.now c.self.view_is s.depth c.self.invariant new.rows.row c.go_back-back.new.self.kept new.undo.items (rw c.in-Ok-None.field-0-is at c.in-Ok-None.ensures.ok) c.forget.new.self c.go_back-back.new.self.row (sym c.is_watched.ensures ∙ c.if-not-is_watched.false) c.forget.ensures.watched c.in_ok-back-in-Ok-None.ensures.ok
+
+pub invariant_of-self-in-Err : goal.invariant_of-self-in-Err
+invariant_of-self-in-Err c =
+    let tracked = c.self.inside.tracked in
+    begun_so tracked tracked (λ off. off) c.forget-in-Err.new.self c.take_listed.new.rows.row.registers c.clear.new.self.items c.clear.ensures.items c.forget-in-Err.ensures.watched c.forget-in-Err.ensures.so

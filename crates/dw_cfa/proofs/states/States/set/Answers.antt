@@ -1,10 +1,19 @@
-use Rattle.dw_cfa.proofs.Words.{◌≡◌, ap, ◌∙◌, subst, saved_if, with_rule, Rules, put}
-use Rattle.dw_cfa.proofs.StatesLaws.{set_held}
+use Rattle.dw_cfa.proofs.Words.{subst, AreSpecified, Rules}
+use Rattle.dw_cfa.proofs.Marked.{set_so}
+use Rattle.dw_cfa.proofs.StatesLaws.{marked_so, ruled, set_held, since_row, rows_set, rows_same}
 use Rattle.dw_cfa.proofs.states.States.set.Goals as goal
+
+pub invariant_of-self-2 : goal.invariant_of-self-2
+invariant_of-self-2 c =
+    let s = c.self.inside in let rows = c.set.new.self in let m = c.in_ok-mark.ensures in let free = c.if-self.false in
+    let up = subst (λ (row : Rules). AreSpecified 0 row.registers) c.row.ensures c.ascends.ensures in
+    marked_so s.tracked s.is_listed s.saved s.rows.row s.rows.kept s.undo.items c.args.self.now c.self.view_is s.depth c.self.invariant c.mark.new.self rows.row rows.kept free m.watched
+    (set_so c.set.result s.saved.marks c.mark.new.self s.saved.row.registers s.rows.row rows.row c.args.register c.args.rule
+    (since_row s.tracked s.is_listed s.saved s.rows.row s.rows.kept s.undo.items c.args.self.now c.self.view_is s.depth c.self.invariant free) up m.so m.more m.marked (rows_set c.set.result rows _ _ c.set.ensures.ok)
+    (rows_same c.set.result rows s.rows c.set.ensures.err))
 
 pub returns-clause-set : goal.returns-clause-set
 returns-clause-set c =
-    let s = c.self.inside in let r = c.args.register in let rule = c.args.rule in let new = c.save_if.new.saved in
-    let same = subst (λ (row : Rules). saved_if s.is_saved new (put r rule row.registers) ≡ saved_if s.is_saved s.saved row.registers) c.row.ensures (c.in_ok-save_if.ensures rule) in
-    set_held s.tracked s.is_listed s.is_saved s.saved s.rows.row s.rows.kept s.undo.items c.args.self.now c.self.view_is s.depth c.self.invariant new c.set.new.self r rule c.if-self.false
-    c.in_ok-set.ensures.ok same
+    let s = c.self.inside in let rows = c.set.new.self in
+    ruled s.tracked s.is_listed s.saved s.rows.row s.rows.kept s.undo.items c.args.self.now c.self.view_is s.depth c.self.invariant c.set.result _ rows c.args.register c.args.rule c.set.ensures.ok
+    (set_held s.tracked s.is_listed s.saved s.rows.row s.rows.kept s.undo.items c.args.self.now c.self.view_is s.depth c.self.invariant c.mark.new.self rows.row rows.kept c.if-self.false c.in_ok-mark.ensures.watched)

@@ -1,0 +1,8 @@
+use Rattle.dw_cfa.proofs.Words.{refl, sym, ◌∙◌}
+use Rattle.dw_cfa.proofs.Marked.{kept_exactly}
+use Rattle.dw_cfa.proofs.kept_row.KeptRow.is_same.Goals as goal
+
+pub returns-then-is_same : goal.returns-then-is_same
+returns-then-is_same c =
+    let d = c.next_difference.ensures in
+    kept_exactly c.args.self.now.row c.args.row.now c.next_difference.result c.is_none.result (sym c.cfa_rule.ensures ∙ c.if-is_same.ensures.0 refl ∙ c.cfa_rule-2.ensures) d.ascending d.other_ascending d.first c.is_none.ensures

@@ -1,8 +1,0 @@
-use Rattle.dw_cfa.proofs.Words.{◌-◌, ◌≤◌, CopiedUpTo}
-use Rattle.dw_cfa.proofs.watched.copy_near.Given as goal
-
-abbrev pub invariant-slots : goal.invariant-slots
-invariant-slots l = (l.place ≤ 128) × CopiedUpTo l.place l.row.registers l.initial.kept.registers l.kept.registers
-
-abbrev pub decreases-slots : goal.decreases-slots
-decreases-slots l = 128 - l.place
