@@ -1,10 +1,8 @@
 -- Where all CIEs of a section were met, only FDEs are left.
 use Rattle.dw_section.proofs.Words.{◌≡◌, ℕ, List, [], ◌∷◌, ◌++◌, Option, Some, None, length, refl, sym, ap, ◌∙◌, subst, append_assoc, arith, filter_map, cons_option, append-nil, length-append, length-map, filter_map-append, Target, Kind}
-use Rattle.dw_section.proofs.Words.{Initial, Piece, Head, cie_at_of, cie_ats, place_of, place_if, AreInitials, AreHeaders, cie_places}
+use Rattle.dw_section.proofs.Words.{Initial, Piece, AreCies, place_if, cie_places}
 use Rattle.dw_section.specs.declared.entry.Kind.TheVariants as kind
-use Rattle.dw_section.proofs.Lent.HeaderLaws.{AreCies, fdes_more}
-use Rattle.dw_section.proofs.Lent.Heads.{same_places}
-use Rattle.dw_section.proofs.Lent.Judged.{initials_fde}
+use Rattle.dw_section.proofs.KeptCies.{fdes_more}
 
 -- what stays so behind one more without a place
 module _ {X : Type 0} (place : X → Option ℕ) (Kept : List X → Type 0) (more : (front : List X) (x : X) → Kept front → place x ≡ None → Kept (front ++ x ∷ [])) where
@@ -22,19 +20,11 @@ module _ {X : Type 0} (place : X → Option ℕ) (Kept : List X → Type 0) (mor
       let sum = simp (filter_map-append, length-append) at (ap (λ (l : List X). length (filter_map place l)) whole) in
       subst Kept (sym whole) (rest_kept front rest w (omega (arith, sum, all)))
 
-pub all_met : (target : Target) (s places : List ℕ) (hs : List Head) → AreHeaders target s places hs → (front rest : List Head) (cs : List Initial) → hs ≡ front ++ rest → AreInitials target hs front cs
-    → length cs ≡ length places → AreInitials target hs hs cs
-all_met target s places hs p front rest cs whole w all =
-    let at : places ≡ cie_ats hs = p.places_are ∙ sym (same_places target (cie_places p.are.entries) p.are.entries hs p.are.each) in
-    all_kept cie_at_of (λ (l : List Head). AreInitials target hs l cs) (λ seen h so none. initials_fde target hs seen cs h so none)
-    hs front rest whole w (omega (arith, ap length at, length-map cs place_of, ap length w.places, all))
-
--- the same of pieces
 is_fde : (k : Kind) (at : ℕ) → place_if k at ≡ None → k ≡ kind.Fde
 is_fde kind.Cie at e = absurd cc
 is_fde kind.Fde at e = refl
 
-pub all_placed : (target : Target) (ps front rest : List Piece) (places : List ℕ) → ps ≡ front ++ rest → AreCies target front places → length places ≡ length (cie_places ps) → AreCies target ps places
-all_placed target ps front rest places whole w all =
-    all_kept (λ (p : Piece). place_if p.kind p.at) (λ (l : List Piece). AreCies target l places) (λ seen p so none. fdes_more target seen places p so (is_fde p.kind p.at none))
-    ps front rest whole w (omega (arith, ap length w.are, all))
+pub all_placed : (target : Target) (ps front rest : List Piece) (at : List ℕ) (cs : List Initial) → ps ≡ front ++ rest → AreCies target front at cs → length at ≡ length (cie_places ps) → AreCies target ps at cs
+all_placed target ps front rest at cs whole w all =
+    all_kept (λ (p : Piece). place_if p.kind p.at) (λ (l : List Piece). AreCies target l at cs) (λ seen p so none. fdes_more target seen at cs p so (is_fde p.kind p.at none))
+    ps front rest whole w (omega (arith, all, ap length w.are))

@@ -69,7 +69,7 @@ pub use Rattle.dw_section.specs.Inner.Counted.{IsProgram, StartsOf, moves_in}
 pub use Rattle.dw_section.specs.Inner.Fields.{Passes, behind_id, fields_at}
 pub use Rattle.dw_section.specs.Inner.Heads.{FdeFits, HasBytes, HeadsRise, cie_at_of, cie_ats, head_at, head_program}
 pub use Rattle.dw_section.specs.Inner.Index.{AreJudged, EndsAt, IsFound, NamesCie, PlacesRise, SameMembers, found_cie, found_head, led_to}
-pub use Rattle.dw_section.specs.Inner.Initials.{AreInitials, FirstLacking, HasOrLacks, IsBehind, IsInitial, IsLong, IsRunner, or_place, place_of}
+pub use Rattle.dw_section.specs.Inner.Initials.{AreCies, AreInitials, AreOf, FirstLacking, HasOrLacks, IsBehind, IsInitial, IsLong, IsRead, IsRunner, cie_pieces, if_cie, or_place, place_of}
 pub use Rattle.dw_section.specs.Inner.Left.{AreHeaders, HeadsLeft, PiecesLeft}
 pub use Rattle.dw_section.specs.Inner.Lookup.{AreRowsOf, IsFoundIn, LedBy, LedSo, RunsSo, fde_of}
 pub use Rattle.dw_section.specs.Inner.Meanings.{row_among}

@@ -18,6 +18,7 @@ ghost use Rattle.dw_section.specs.Inner.Pieces.{piece_in};
 ghost use Rattle.dw_section.specs.Places.{cie_places};
 ghost use Rattle.dw_section.specs.Inner.Places.{Rises};
 ghost use Rattle.dw_section.specs.Inner.Heads.{head_at};
+ghost use Rattle.dw_section.specs.Inner.Initials.{AreCies, AreOf};
 ghost use Rattle.dw_section.specs.Inner.Left.{AreHeaders, HeadsLeft, GivesHead, GoesOn};
 ghost use Rattle.dw_section.specs.Inner.PieceHeader.{cie_at, fde_at, initial_in, entry_in, program_of};
 ghost use Rattle.dw_section.specs.Headers.{Head, Has, Headers, head_in, CieHolds, CieStuck, CiesHold, FdeHolds, FdeStuck, CieFieldsFault, HeadersFault};
@@ -203,44 +204,58 @@ fn header_of<'a>(
     }
 }
 
-// Keeps the place of a piece that is a CIE, whose fields are read.
-#[tactic(auto, using(crate::proofs::Lent::HeaderLaws::cie_faulty, crate::proofs::Lent::HeaderLaws::fdes_more))]
-fn keep_cie(places: &mut Vec<u64>, piece: &Placed<'_>, target: Target) -> Result<(), ReadError>
-    ensures found { (ps : List Piece) → AllByRecursion (CieHolds target) ps → places.old.items ≡ cie_places ps → OnOk result (AllByRecursion (CieHolds target) (ps ++ piece_in piece.now ∷ []) × (places.new.items ≡ cie_places (ps ++ piece_in piece.now ∷ []))) }
+/// How many entries a section has, where its CIEs stand, and what these say.
+#[derive(Drop)]
+pub(crate) struct Cies<'a> {
+    pub(crate) counts: EntryCounts,
+    pub(crate) places: Vec<u64>,
+    pub(crate) initials: Vec<Initial<'a>>,
+}
+
+// Keeps what a piece says that is a CIE, and where it stands.
+#[tactic(auto, using(crate::proofs::Lent::HeaderLaws::cie_faulty))]
+fn keep_cie<'a>(cies: &mut Cies<'a>, piece: &Placed<'a>, target: Target) -> Result<(), ReadError>
+    ensures found { (ps : List Piece) → AreCies target ps cies.old.places.items cies.old.initials.items → OnOk result (AreCies target (ps ++ piece_in piece.now ∷ []) cies.new.places.items cies.new.initials.items) }
+    ensures counts { cies.new.counts ≡ cies.old.counts }
     ensures first { IfErr result (Refuses (CieStuck target (piece_in piece.now))) }
 {
     match piece.kind {
         Kind::Cie => {
-            let cie = *piece;
-            let _ = read_initial(&cie, target)?;
-            places.push(piece.at)?;
+            let cie = read_initial(piece, target)?;
+            cies.places.push(piece.at)?;
+            cies.initials.push(cie)?;
             Ok(())
         }
         Kind::Fde => Ok(()),
     }
 }
 
-// Reads the fields of the CIEs of a section that has a cut and so many of them, and tells where they stand.
-fn find_cies(
+// Reads the fields of the CIEs of a section that has a cut and so many of them.
+fn find_cies<'a>(
     alloc: Global,
-    bytes: &[u8],
+    bytes: &'a [u8],
     target: Target,
-    count: usize,
-) -> Result<Vec<u64>, ReadError>
-    requires pieces { (ps : List Piece) × Pieces target bytes.now ps × (count ≡ length (cie_places ps)) }
-    ensures found { IfOk result (λ v. (ps : List Piece) × CiesHold target bytes.now ps × (v.items ≡ cie_places ps)) }
+    counts: EntryCounts,
+) -> Result<Cies<'a>, ReadError>
+    requires pieces { (ps : List Piece) × Pieces target bytes.now ps × AreCounts ps counts }
+    ensures found { IfOk result (λ c. (ps : List Piece) × Pieces target bytes.now ps × AreCies target ps c.places.items c.initials.items) }
+    ensures counts { IfOk result (λ c. c.counts ≡ counts) }
     ensures first { IfErr result (Refuses (CieFieldsFault target bytes.now)) }
 {
+    let mut cies = Cies {
+        counts,
+        places: Vec::with_capacity(alloc, counts.cies)?,
+        initials: Vec::with_capacity(alloc, counts.cies)?,
+    };
     let mut cursor = Cursor::new(bytes, 0, target);
-    let mut places = Vec::with_capacity(alloc, count)?;
     'pieces: while let Some(piece) = next_piece(&mut cursor) {
-        keep_cie(&mut places, &piece, target)?;
+        keep_cie(&mut cies, &piece, target)?;
         // Often all CIEs stand before the FDEs.
-        if places.len() == count {
-            return Ok(places);
+        if cies.places.len() == counts.cies {
+            return Ok(cies);
         }
     }
-    Ok(places)
+    Ok(cies)
 }
 
 // Reads the fields of a piece that is an FDE.
@@ -325,28 +340,24 @@ fn read_headers<'a>(
     Ok(headers)
 }
 
-/// How many entries a section has, and where its CIEs stand.
-#[derive(Drop)]
-pub(crate) struct Cies {
-    pub(crate) counts: EntryCounts,
-    pub(crate) places: Vec<u64>,
-}
-
 // Cuts a section, and reads the fields of its CIEs.
-fn cies_of(alloc: Global, bytes: &[u8], target: Target) -> Result<Cies, ReadError>
-    ensures found { IfOk result (λ c. (ps : List Piece) × CiesHold target bytes.now ps × (c.places.items ≡ cie_places ps)) }
+fn cies_of<'a>(alloc: Global, bytes: &'a [u8], target: Target) -> Result<Cies<'a>, ReadError>
+    ensures found { IfOk result (λ c. (ps : List Piece) × Pieces target bytes.now ps × AreCies target ps c.places.items c.initials.items) }
     ensures counts { IfOk result (λ c. (ps : List Piece) → Pieces target bytes.now ps → AreCounts ps c.counts) }
     ensures ascending { IfOk result (λ c. Rises 0 c.places.items) }
     ensures first { IfErr result (Refuses (CieFieldsFault target bytes.now)) }
 {
     let counts = cut(bytes, target)?;
-    let places = find_cies(alloc, bytes, target, counts.cies)?;
-    Ok(Cies { counts, places })
+    find_cies(alloc, bytes, target, counts)
 }
 
-/// Reads the fields of all entries of a section, and keeps where its CIEs stand.
-pub(crate) fn heads_hold(alloc: Global, bytes: &[u8], target: Target) -> Result<Cies, ReadError>
-    ensures found { IfOk result (λ c. (hs : List Head) × AreHeaders target bytes.now c.places.items hs) }
+/// Reads the fields of all entries of a section, and keeps those of its CIEs.
+pub(crate) fn heads_hold<'a>(
+    alloc: Global,
+    bytes: &'a [u8],
+    target: Target,
+) -> Result<Cies<'a>, ReadError>
+    ensures found { IfOk result (λ c. (hs : List Head) × AreHeaders target bytes.now c.places.items hs × AreOf hs c.initials.items) }
     ensures counts { IfOk result (λ c. (ps : List Piece) → Pieces target bytes.now ps → AreCounts ps c.counts) }
     ensures ascending { IfOk result (λ c. Rises 0 c.places.items) }
     ensures first { IfErr result (Refuses (HeadersFault target bytes.now)) }

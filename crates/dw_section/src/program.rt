@@ -1,7 +1,6 @@
 //! Running the programs of a section's entries (6.4.2, 6.4.3).
 
 ghost use Rattle.std.specs.Prelude.{◌≡◌, ◌+◌, ◌<◌, ℕ, true, false, List, [], ◌∷◌, ◌++◌, length, slice_index_or, map, Some, None, IfOk, IfErr, IfSome, OnOk};
-ghost use Rattle.dw_section.specs.Inner.Left.{AreHeaders};
 ghost use Rattle.std.specs.List.{AllByRecursion};
 ghost use Rattle.dw_num.specs.declared.target.Form.{Form as TheForm};
 ghost use Rattle.dw_num.specs.Refusals.{Refuses};
@@ -18,20 +17,18 @@ ghost use Rattle.dw_cfa.specs.CieMachine.{with_steps};
 ghost use Rattle.dw_cfa.specs.Coverage.{Lacks};
 ghost use Rattle.std.specs.Bool.{MatchBool};
 ghost use Rattle.dw_section.specs.Fields.{is_among};
-ghost use Rattle.dw_section.specs.Headers.{Head, Has, CieHolds, fde, head_in};
-ghost use Rattle.dw_section.specs.Inner.Pieces.{piece_in};
+ghost use Rattle.dw_section.specs.Headers.{Head, fde, head_in};
 ghost use Rattle.dw_section.specs.Inner.Heads.{FdeFits};
 ghost use Rattle.dw_section.specs.Inner.PieceHeader.{initial_in};
-ghost use Rattle.dw_section.specs.Inner.Initials.{place_of, IsInitial, IsBehind, IsLong, IsRunner, AreInitials, HasOrLacks};
+ghost use Rattle.dw_section.specs.Inner.Initials.{place_of, AreOf, IsInitial, IsBehind, IsLong, IsRunner, AreInitials, HasOrLacks};
 ghost use Rattle.dw_section.specs.Inner.Places.{Rises};
 ghost use Rattle.dw_section.specs.Programs.{CieRuns, CieBroken, FdeRuns, FdeBroken};
 ghost use Rattle.dw_section.specs.Among.{IsAmong};
-ghost use Rattle.dw_section.specs.Accepted.{RulesFault};
+ghost use Rattle.dw_section.specs.Stage.{FirstStuck};
 
-use crate::entry::{Kind, Placed, next_piece};
-use crate::header::{Header, Initial, read_initial};
+use crate::header::{Header, Initial};
 use dw_cfa::{CieMachine, Row, behind_laws};
-use dw_num::{Cursor, Program, ReadError, Target, are_bytes};
+use dw_num::{Program, ReadError, Target, are_bytes};
 use std::alloc::{AllocError, Global};
 
 // A CIE program of more bytes is run once, on a machine that is kept for it; others are run again.
@@ -62,64 +59,20 @@ fn run_cie<'a>(row: &mut Row<'a>, cie: &Initial<'a>, target: Target) -> Result<(
     row.become_initial(cie.program, cie.factors, target)
 }
 
-// The same, and keeps what its FDEs begin with.
-fn keep_initial<'a>(
-    row: &mut Row<'a>,
-    initials: &mut Vec<Initial<'a>>,
-    cie: &Initial<'a>,
-    target: Target,
-) -> Result<(), ReadError>
-    ensures found { (hs front : List Head) (form : TheForm) → IsAmong (initial_in form cie.now) hs → AreInitials target hs front initials.old.items → OnOk result (AreInitials target hs (front ++ initial_in form cie.now ∷ []) initials.new.items) }
-    ensures first { (form : TheForm) → IfErr result (Refuses (CieBroken target (initial_in form cie.now))) }
-{
-    run_cie(row, cie, target)?;
-    initials.push(*cie)?;
-    Ok(())
-}
-
-// The same of a piece; an FDE's fields are not read.
-fn keep_piece<'a>(
-    row: &mut Row<'a>,
-    initials: &mut Vec<Initial<'a>>,
-    piece: &Placed<'a>,
-    target: Target,
-) -> Result<(), ReadError>
-    requires { CieHolds target (piece_in piece.now) }
-    ensures found { (hs front : List Head) (places : List ℕ) (h : Head) → Has target places (piece_in piece.now) h → IsAmong h hs → AreInitials target hs front initials.old.items → OnOk result (AreInitials target hs (front ++ h ∷ []) initials.new.items) }
-    ensures first { (places : List ℕ) (h : Head) → Has target places (piece_in piece.now) h → IfErr result (Refuses (CieBroken target h)) }
-{
-    match piece.kind {
-        Kind::Cie => match read_initial(piece, target) {
-            Ok(cie) => keep_initial(row, initials, &cie, target),
-            Err(_) => Ok(()),
-        },
-        Kind::Fde => Ok(()),
-    }
-}
-
-/// Runs the programs of the CIEs of a section that has headers, and keeps what their FDEs begin with.
-pub(crate) fn run_cies<'a>(
+/// Runs the programs of CIEs.
+pub(crate) fn run_cies(
     alloc: Global,
-    bytes: &'a [u8],
+    initials: &[Initial<'_>],
     target: Target,
-    places: &[u64],
-) -> Result<Vec<Initial<'a>>, ReadError>
-    requires ascending { Rises 0 places.now }
-    requires headers { (hs : List Head) × AreHeaders target bytes.now places.now hs }
-    ensures found { IfOk result (λ v. (hs : List Head) × AreHeaders target bytes.now places.now hs × AreInitials target hs hs v.items) }
-    ensures first { IfErr result (Refuses (RulesFault target bytes.now)) }
+) -> Result<(), ReadError>
+    ensures found { (hs : List Head) → AreOf hs initials.now → IfOk result (λ _. AreInitials target hs hs initials.now) }
+    ensures first { (hs : List Head) → AreOf hs initials.now → IfErr result (Refuses (FirstStuck (CieRuns target) (CieBroken target) hs)) }
 {
-    let mut cursor = Cursor::new(bytes, 0, target);
-    let mut initials = Vec::with_capacity(alloc, places.len())?;
     let mut row = Row::blank(alloc);
-    'pieces: while let Some(piece) = next_piece(&mut cursor) {
-        keep_piece(&mut row, &mut initials, &piece, target)?;
-        // Often all CIEs stand before the FDEs.
-        if initials.len() == places.len() {
-            return Ok(initials);
-        }
+    for cie in initials {
+        run_cie(&mut row, cie, target)?;
     }
-    Ok(initials)
+    Ok(())
 }
 
 // Where among them the one of the CIE at a place stands: mostly where a place was found.

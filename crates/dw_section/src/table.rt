@@ -111,13 +111,14 @@ fn judged<'a>(alloc: Global, bytes: &'a [u8], target: Target) -> Result<Sound<'a
 {
     let cies = heads_hold(alloc, bytes, target)?;
     let places: &[u64] = &cies.places;
-    let initials = run_cies(alloc, bytes, target, places)?;
-    let (list, lacking) = run_fdes(alloc, bytes, target, places, &initials, cies.counts.fdes)?;
+    let initials: &[Initial<'a>] = &cies.initials;
+    run_cies(alloc, initials, target)?;
+    let (list, lacking) = run_fdes(alloc, bytes, target, places, initials, cies.counts.fdes)?;
     match lacking {
         Some(at) => Err(refused(Code::NoCfaRule, at)),
         None => Ok(Sound {
             counts: cies.counts,
-            initials,
+            initials: cies.initials,
             list,
         }),
     }

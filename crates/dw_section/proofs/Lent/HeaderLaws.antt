@@ -108,25 +108,6 @@ headers_hold target s hs p =
 pub pieces_rise : (target : Target) (s : List ℕ) (ps : List Piece) → Pieces target s ps → Rises 0 (cie_places ps)
 pieces_rise target s ps p = subst (λ (qs : List Piece). Rises 0 (cie_places qs)) (sym p.are) (places_rise target.order 0 p.items)
 
--- ---- the walk over CIEs
-
--- what it knows: the CIEs so far hold, and these are their places
-pub record AreCies (target : Target) (ps : List Piece) (places : List ℕ) : Type 0 where
-  pub hold : AllByRecursion (CieHolds target) ps
-  pub are : places ≡ cie_places ps
-
-pub cies_more : (target : Target) (ps : List Piece) (places : List ℕ) (p : Piece) (h : Head) → AreCies target ps places → p.kind ≡ kind.Cie → Has target [] p h → AreCies target (ps ++ p ∷ []) (places ++ p.at ∷ [])
-cies_more target ps places p h w is has = record {
-  hold = all_push (CieHolds target) ps p w.hold (has_cie target [] p h has);
-  are = rw (filter_map-append, w.are, is) refl;
-}
-
-pub fdes_more : (target : Target) (ps : List Piece) (places : List ℕ) (p : Piece) → AreCies target ps places → p.kind ≡ kind.Fde → AreCies target (ps ++ p ∷ []) places
-fdes_more target ps places p w is = record {
-  hold = all_push (CieHolds target) ps p w.hold (λ e. absurd cc);
-  are = rw (filter_map-append, w.are, is) (sym (append-nil (cie_places ps)));
-}
-
 -- a CIE that holds is not refused
 pub cie_never : {X : Type 0} (view : X → Head) (target : Target) (p : Piece) (r : Result X Refusal) (Q : Refusal → Type 0) → CieHolds target p → p.kind ≡ kind.Cie → Answers view r (cie_at target p) → IfErr r Q
 cie_never view target p (Ok x) Q h is a = tt

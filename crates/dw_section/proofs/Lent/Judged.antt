@@ -9,20 +9,6 @@ use Rattle.dw_cfa.proofs.Lent.RowsAt.{last_from}
 use Rattle.dw_section.proofs.Stages.{all_push}
 use Rattle.dw_section.proofs.Places.{rises-at, among_place}
 
--- ---- what is kept of CIEs
-
-pub initials_cie : (target : Target) (hs front : List Head) (cs : List Initial) (h : Head) (c : Initial) → AreInitials target hs front cs → CieRuns target h → cie_at_of h ≡ Some c.at → IsInitial target hs c
-    → AreInitials target hs (front ++ h ∷ []) (cs ++ c ∷ [])
-initials_cie target hs front cs h c w runs place is = record {
-  run = all_push (CieRuns target) front h w.run runs;
-  places = rw (map-append, filter_map-append, w.places, place) refl;
-  each = all_push (IsInitial target hs) cs c w.each is;
-}
-
-pub initials_fde : (target : Target) (hs front : List Head) (cs : List Initial) (h : Head) → AreInitials target hs front cs → cie_at_of h ≡ None → AreInitials target hs (front ++ h ∷ []) cs
-initials_fde target hs front cs (cie c) w place = absurd cc
-initials_fde target hs front cs (fde f) w place = record { run = all_push (CieRuns target) front (fde f) w.run tt; places = rw (filter_map-append, w.places) (sym (append-nil (cie_ats front))); each = w.each }
-
 -- ---- the search among them
 
 pub initials_ascend : (low : ℕ) (cs : List Initial) → Rises low (map place_of cs) → IsNonDecreasingBy place_of cs

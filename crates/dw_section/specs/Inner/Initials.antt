@@ -1,6 +1,6 @@
 -- What the code keeps of CIEs, and what it finds out about FDEs.
-use Rattle.std.specs.Prelude.{◌≡◌, ℕ, List, Bool, true, false, Option, Some, None, map}
-use Rattle.std.specs.List.{AllByRecursion}
+use Rattle.std.specs.Prelude.{◌≡◌, ℕ, List, [], ◌∷◌, Bool, true, false, Option, Some, None, map}
+use Rattle.std.specs.List.{AllByRecursion, AllZip, filter_map}
 use Rattle.dw_num.specs.declared.refusal.Code.TheVariants.{NoCfaRule}
 use Rattle.dw_num.specs.declared.target.Form.{Form}
 use Rattle.dw_num.specs.declared.target.Target.{Target}
@@ -13,14 +13,42 @@ use Rattle.dw_section.specs.declared.header.Initial.{Initial}
 use Rattle.dw_section.specs.declared.program.Long.{Long}
 use Rattle.dw_section.specs.declared.program.Runner.{Runner}
 use Rattle.dw_section.specs.Stage.{FirstStuck}
-use Rattle.dw_section.specs.Headers.{Head, cie}
-use Rattle.dw_section.specs.Inner.PieceHeader.{initial_head}
+use Rattle.dw_section.specs.Cut.{Piece}
+use Rattle.dw_section.specs.Headers.{Head, cie, fde, Has, CieHolds}
+use Rattle.dw_section.specs.Places.{cie_places}
+use Rattle.dw_section.specs.declared.entry.Kind.{Kind}
+use Rattle.dw_section.specs.declared.entry.Kind.TheVariants as kind
+use Rattle.dw_section.specs.Inner.PieceHeader.{initial_head, initial_in}
 use Rattle.dw_section.specs.Inner.Heads.{head_at, cie_ats}
 use Rattle.dw_section.specs.Programs.{CieRuns, HasRules, LacksRule}
 use Rattle.dw_section.specs.Among.{IsAmong}
 
 abbrev pub place_of : Initial → ℕ
 place_of c = c.at
+
+-- the pieces that are CIEs
+abbrev pub if_cie : Kind → Piece → Option Piece
+if_cie kind.Cie p = Some p
+if_cie kind.Fde p = None
+
+abbrev pub cie_pieces : List Piece → List Piece
+cie_pieces ps = filter_map (λ (p : Piece). if_cie p.kind p) ps
+
+-- the fields of a piece that is a CIE
+abbrev pub IsRead : Target → Piece → Initial → Type 0
+IsRead target p c = (places : List ℕ) → Has target places p (initial_in p.form c)
+
+-- the CIEs among these pieces hold, stand at these places, and say this
+pub record AreCies (target : Target) (ps : List Piece) (at : List ℕ) (cs : List Initial) : Type 0 where
+  pub hold : AllByRecursion (CieHolds target) ps
+  pub are : at ≡ cie_places ps
+  pub read : AllZip (IsRead target) (cie_pieces ps) cs
+
+-- this is what the CIEs among headers say
+abbrev pub AreOf : List Head → List Initial → Type 0
+AreOf [] cs = cs ≡ []
+AreOf (cie c ∷ hs) cs = (first : Initial) × (more : List Initial) × (cs ≡ first ∷ more) × (c ≡ initial_head c.form first) × AreOf hs more
+AreOf (fde f ∷ hs) cs = AreOf hs cs
 
 -- it is of a CIE among the headers, whose program leaves a row
 abbrev pub IsInitial : Target → List Head → Initial → Type 0

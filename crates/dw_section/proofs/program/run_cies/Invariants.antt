@@ -1,10 +1,6 @@
-use Rattle.dw_section.proofs.Words.{length, AreInitials, HeadsLeft, AreHeaders}
-use Rattle.dw_section.proofs.Walk.{Walk}
+use Rattle.dw_section.proofs.Words.{take, AllByRecursion}
+use Rattle.dw_section.proofs.KeptCies.{Ran}
 use Rattle.dw_section.proofs.program.run_cies.Given as goal
 
-abbrev pub invariant-pieces : goal.invariant-pieces
-invariant-pieces l =
-    Walk (HeadsLeft l.places) (AreHeaders l.fn.target l.bytes l.places) (λ hs front. AreInitials l.fn.target hs front l.initials.items) (record { at = 0; bytes = l.bytes; target = l.fn.target }) l.cursor
-
-abbrev pub decreases-pieces : goal.decreases-pieces
-decreases-pieces l = length l.cursor.bytes
+abbrev pub invariant-loop-cie : goal.invariant-loop-cie
+invariant-loop-cie l = AllByRecursion (Ran l.fn.target) (take l.cie-index l.initials)

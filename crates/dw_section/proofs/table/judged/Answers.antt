@@ -8,7 +8,7 @@ pub returns-clause-found : goal.returns-clause-found
 returns-clause-found c =
     let target = c.args.target in
     let s = c.args.bytes.now in
-    let w = rw c.deref.ensures.value at c.in_ok-list.ensures.found in
+    let w = rw (c.deref-places.ensures.value, c.deref-initials.ensures.value) at c.in_ok-list.ensures.found in
     let hs = w.0 in (
       record {
         headers = hs;
@@ -17,5 +17,5 @@ returns-clause-found c =
         rise = rw w.3.are (nonempty_rise 0 hs (heads_rise target s hs w.1.are));
         each = w.3.each;
       },
-      (c.in_ok-cies.ensures.counts, λ ks headers. subst (λ (l : List Head). AreInitials target l l c.in_ok-initials.initials.items) (one_headers target s hs ks w.1.are headers) w.2),
+      (c.in_ok-cies.ensures.counts, λ ks headers. subst (λ (l : List Head). AreInitials target l l c.in_ok-cies.cies.initials.items) (one_headers target s hs ks w.1.are headers) w.2),
     )

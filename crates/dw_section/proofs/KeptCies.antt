@@ -1,0 +1,86 @@
+-- What is kept of CIEs as they are read, and what running their programs tells.
+use Rattle.dw_section.proofs.Words.{◌≡◌, ℕ, List, [], ◌∷◌, ◌++◌, length, refl, sym, ap, ◌∙◌, subst, arith, inl, inr, append-nil, length-append, filter_map-append, cons_option, Some, None, all_zipped_more, AllByRecursion, AllZip, Form, Target, Refusal, Kind, Piece, CieHead}
+use Rattle.dw_section.proofs.Words.{Head, cie, fde, Has, Headers, Pieces, cie_places, CieHolds, CieRuns, CieBroken, FirstStuck, IsAmong, Initial, initial_head, initial_in, cie_pieces, if_cie, IsRead, AreCies, AreOf, AreInitials, IsInitial}
+use Rattle.dw_section.specs.declared.entry.Kind.TheVariants as kind
+use Rattle.dw_section.proofs.Items.{one_pieces}
+use Rattle.dw_section.proofs.Lent.HeaderLaws.{has_cie, has_one}
+use Rattle.dw_section.proofs.Stages.{all_push}
+
+-- ---- as they are read
+
+pub cies_more : (target : Target) (ps : List Piece) (at : List ℕ) (cs : List Initial) (p : Piece) (c : Initial) → AreCies target ps at cs → p.kind ≡ kind.Cie → IsRead target p c → AreCies target (ps ++ p ∷ []) (at ++ p.at ∷ []) (cs ++ c ∷ [])
+cies_more target ps at cs p c w is read = let here : if_cie p.kind p ≡ Some p = ap (λ (k : Kind). if_cie k p) is in record {
+  hold = all_push (CieHolds target) ps p w.hold (has_cie target [] p (initial_in p.form c) (read []));
+  are = rw (filter_map-append, w.are, is) refl;
+  read = rw (filter_map-append, here) (all_zipped_more (IsRead target) (cie_pieces ps) cs p c w.read read);
+}
+
+pub fdes_more : (target : Target) (ps : List Piece) (at : List ℕ) (cs : List Initial) (p : Piece) → AreCies target ps at cs → p.kind ≡ kind.Fde → AreCies target (ps ++ p ∷ []) at cs
+fdes_more target ps at cs p w is = let none : if_cie p.kind p ≡ None = ap (λ (k : Kind). if_cie k p) is in record {
+  hold = all_push (CieHolds target) ps p w.hold (λ e. absurd cc);
+  are = rw (filter_map-append, w.are, is, append-nil) refl;
+  read = rw (filter_map-append, none, append-nil) w.read;
+}
+
+-- ---- among headers
+
+none_read : (target : Target) (cs : List Initial) → AllZip (IsRead target) [] cs → cs ≡ []
+none_read target [] z = refl
+none_read target (c ∷ cs) z = absurd z
+
+module _ (target : Target) (places : List ℕ) where
+  of_next : (p : Piece) (ps : List Piece) (h : Head) (hs : List Head) (cs : List Initial) (k : Kind) → p.kind ≡ k → Has target places p h → AllZip (IsRead target) (cons_option (if_cie k p) (cie_pieces ps)) cs
+      → ((more : List Initial) → AllZip (IsRead target) (cie_pieces ps) more → AreOf hs more) → AreOf (h ∷ hs) cs
+  of_next p ps h hs [] kind.Cie is has read rest = absurd read
+  of_next p ps h hs (c ∷ cs) kind.Cie is has read rest = rw (has_one target places p h (initial_in p.form c) has (read.0 places)) (c, cs, refl, refl, rest cs read.1)
+  of_next p ps h hs cs kind.Fde is (inl c) read rest = let a = c.2.0 in absurd cc
+  of_next p ps h hs cs kind.Fde is (inr f) read rest = rw f.3 (rest cs read)
+
+  pub are_of : (ps : List Piece) (hs : List Head) (cs : List Initial) → AllZip (Has target places) ps hs → AllZip (IsRead target) (cie_pieces ps) cs → AreOf hs cs
+  are_of [] [] cs z read = none_read target cs read
+  are_of (p ∷ ps) (h ∷ hs) cs z read = of_next p ps h hs cs p.kind refl z.0 read (λ more each. are_of ps hs more z.1 each)
+  are_of ps hs cs z read = absurd z
+
+pub of_headers : (target : Target) (s : List ℕ) (ps : List Piece) (at : List ℕ) (cs : List Initial) → Pieces target s ps → AreCies target ps at cs → (hs : List Head) → Headers target s hs → AreOf hs cs
+of_headers target s ps at cs cut w hs headers =
+    are_of target (cie_places headers.entries) headers.entries hs cs headers.each (subst (λ (qs : List Piece). AllZip (IsRead target) (cie_pieces qs) cs) (one_pieces target s ps headers.entries cut headers.cut) w.read)
+
+-- ---- as they run
+
+-- its program runs, and leaves what its FDEs begin with
+abbrev pub Ran : Target → Initial → Type 0
+Ran target c = (form : Form) → CieRuns target (initial_in form c) × ((hs : List Head) → IsAmong (initial_in form c) hs → IsInitial target hs c)
+
+pub all_ran : (target : Target) (all hs : List Head) (cs : List Initial) → ((h : Head) → IsAmong h hs → IsAmong h all) → AreOf hs cs → AllByRecursion (Ran target) cs → AreInitials target all hs cs
+all_ran target all [] cs among of ran = rw of (record { run = tt; places = refl; each = tt })
+all_ran target all (fde f ∷ hs) cs among of ran = let w = all_ran target all hs cs (λ h i. among h (inr i)) of ran in record { run = (tt, w.run); places = w.places; each = w.each }
+all_ran target all (cie c ∷ hs) cs among of ran =
+    let each = rw of.2 at ran in
+    let here = each.0 c.form in
+    let w = all_ran target all hs of.1 (λ h i. among h (inr i)) of.4 each.1 in
+    let at = ap (λ (x : CieHead). x.at) of.3 in
+    let places = w.places in
+    rw of.2 (record {
+      run = (subst (λ (x : CieHead). CieRuns target (cie x)) (sym of.3) here.0, w.run);
+      places = cc;
+      each = (here.1 all (subst (λ (x : CieHead). IsAmong (cie x) all) of.3 (among (cie c) (inl refl))), w.each);
+    })
+
+-- the first of them that does not run
+pub first_broken : (target : Target) (hs : List Head) (cs before : List Initial) (c : Initial) (after : List Initial) (r : Refusal) → AreOf hs cs → cs ≡ before ++ c ∷ after → AllByRecursion (Ran target) before → ((form : Form) → CieBroken target (initial_in form c) r)
+    → FirstStuck (CieRuns target) (CieBroken target) hs r
+first_broken target [] cs before c after r of whole ran broken = absurd (omega (arith, ap length (sym of ∙ whole), length-append before (c ∷ after)))
+first_broken target (fde f ∷ hs) cs before c after r of whole ran broken =
+    let w = first_broken target hs cs before c after r of whole ran broken in
+    record { before = fde f ∷ w.before; it = w.it; after = w.after; whole = ap (λ (l : List Head). fde f ∷ l) w.whole; hold = (tt, w.hold); stuck = w.stuck }
+first_broken target (cie d ∷ hs) cs [] c after r of whole ran broken =
+    let e = sym of.2 ∙ whole in
+    let same : of.0 ≡ c = cc in
+    record { before = []; it = cie d; after = hs; whole = refl; hold = tt; stuck = subst (λ (x : CieHead). CieBroken target (cie x) r) (sym (of.3 ∙ ap (initial_head d.form) same)) (broken d.form) }
+first_broken target (cie d ∷ hs) cs (b ∷ before) c after r of whole ran broken =
+    let e = sym of.2 ∙ whole in
+    let same : of.0 ≡ b = cc in
+    let rest : of.1 ≡ before ++ c ∷ after = cc in
+    let w = first_broken target hs of.1 before c after r of.4 rest ran.1 broken in
+    let here = (ran.0 d.form).0 in
+    record { before = cie d ∷ w.before; it = w.it; after = w.after; whole = ap (λ (l : List Head). cie d ∷ l) w.whole; hold = (subst (λ (x : CieHead). CieRuns target (cie x)) (sym (of.3 ∙ ap (initial_head d.form) same)) here, w.hold); stuck = w.stuck }
