@@ -1,5 +1,5 @@
 -- Where all CIEs of a section were met, only FDEs are left.
-use Rattle.dw_section.proofs.Words.{◌≡◌, ℕ, List, [], ◌∷◌, ◌++◌, Option, Some, None, length, refl, sym, ap, ◌∙◌, subst, append_assoc, arith, filter_map, cons_option, append-nil, length-append, length-map, filter_map-append, Target, Kind}
+use Rattle.dw_section.proofs.Words.{◌≡◌, ℕ, List, [], ◌∷◌, ◌++◌, Option, Some, None, length, refl, sym, ap, subst, append_assoc, arith, filter_map, cons_option, append-nil, length-append, filter_map-append, Target, Kind}
 use Rattle.dw_section.proofs.Words.{Initial, Piece, AreCies, place_if, cie_places}
 use Rattle.dw_section.specs.declared.entry.Kind.TheVariants as kind
 use Rattle.dw_section.proofs.KeptCies.{fdes_more}

@@ -35,3 +35,21 @@ between_now Holds xs w x more e all = holds_at Holds w.front x more (subst (AllB
 -- the header that comes next is among them
 pub between_among : {Left Front : List Head → Type 0} (hs : List Head) (w : Between Left Front hs) (h : Head) (more : List Head) → w.rest ≡ h ∷ more → IsAmong h hs
 between_among hs w h more e = subst (IsAmong h) (sym (w.whole ∙ ap (λ ys. w.front ++ ys) e)) (among_here w.front h more)
+
+-- what holds of those seen and of those left, and where one of those left is stuck
+both : {X : Type 0} (Holds : X → Type 0) (xs ys : List X) → AllByRecursion Holds xs → AllByRecursion Holds ys → AllByRecursion Holds (xs ++ ys)
+both Holds [] ys front rest = rest
+both Holds (x ∷ xs) ys front rest = (front.0, both Holds xs ys front.1 rest)
+
+pub between_rest : {X : Type 0} {Left Front : List X → Type 0} (Holds : X → Type 0) (xs : List X) (w : Between Left Front xs) → AllByRecursion Holds w.front → AllByRecursion Holds w.rest → AllByRecursion Holds xs
+between_rest Holds xs w front rest = subst (AllByRecursion Holds) (sym w.whole) (both Holds w.front w.rest front rest)
+
+pub between_later : {X : Type 0} {Left Front : List X → Type 0} (Holds : X → Type 0) (Stuck : X → Refusal → Type 0) (xs : List X) (w : Between Left Front xs) (r : Refusal) → AllByRecursion Holds w.front → FirstStuck Holds Stuck w.rest r → FirstStuck Holds Stuck xs r
+between_later Holds Stuck xs w r front s = record {
+  before = w.front ++ s.before;
+  it = s.it;
+  after = s.after;
+  whole = w.whole ∙ ap (λ ys. w.front ++ ys) s.whole ∙ sym (append_assoc w.front s.before (s.it ∷ s.after));
+  hold = both Holds w.front s.before front s.hold;
+  stuck = s.stuck;
+}

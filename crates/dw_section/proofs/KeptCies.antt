@@ -1,9 +1,10 @@
 -- What is kept of CIEs as they are read, and what running their programs tells.
-use Rattle.dw_section.proofs.Words.{◌≡◌, ℕ, List, [], ◌∷◌, ◌++◌, length, refl, sym, ap, ◌∙◌, subst, arith, inl, inr, append-nil, length-append, filter_map-append, cons_option, Some, None, all_zipped_more, AllByRecursion, AllZip, Form, Target, Refusal, Kind, Piece, CieHead}
-use Rattle.dw_section.proofs.Words.{Head, cie, fde, Has, Headers, Pieces, cie_places, CieHolds, CieRuns, CieBroken, FirstStuck, IsAmong, Initial, initial_head, initial_in, cie_pieces, if_cie, IsRead, AreCies, AreOf, AreInitials, IsInitial}
+use Rattle.dw_section.proofs.Words.{◌≡◌, ℕ, List, [], ◌∷◌, ◌++◌, length, refl, sym, ap, ◌∙◌, subst, arith, inl, inr, append-nil, length-append, filter_map-append, map, cons_option, Some, None, Dwarf32, all_zipped_more, AllByRecursion, AllZip, Form, Target, Refusal, Kind, Piece, CieHead}
+use Rattle.dw_section.proofs.Words.{Head, cie, fde, Has, Headers, Pieces, cie_places, place_if, place_of, CieHolds, CieRuns, CieBroken, FirstStuck, IsAmong, Initial, initial_head, initial_in, cie_pieces, if_cie, IsRead, AreCies, AreOf, AreInitials, IsInitial}
 use Rattle.dw_section.specs.declared.entry.Kind.TheVariants as kind
 use Rattle.dw_section.proofs.Items.{one_pieces}
 use Rattle.dw_section.proofs.Lent.HeaderLaws.{has_cie, has_one}
+use Rattle.dw_section.proofs.Lent.Heads.{has_at}
 use Rattle.dw_section.proofs.Stages.{all_push}
 
 -- ---- as they are read
@@ -44,6 +45,27 @@ module _ (target : Target) (places : List ℕ) where
 pub of_headers : (target : Target) (s : List ℕ) (ps : List Piece) (at : List ℕ) (cs : List Initial) → Pieces target s ps → AreCies target ps at cs → (hs : List Head) → Headers target s hs → AreOf hs cs
 of_headers target s ps at cs cut w hs headers =
     are_of target (cie_places headers.entries) headers.entries hs cs headers.each (subst (λ (qs : List Piece). AllZip (IsRead target) (cie_pieces qs) cs) (one_pieces target s ps headers.entries cut headers.cut) w.read)
+
+-- some headers say this
+pub some_headers : (cs : List Initial) → AreOf (map (initial_in Dwarf32) cs) cs
+some_headers [] = refl
+some_headers (c ∷ cs) = (c, cs, refl, refl, some_headers cs)
+
+-- ---- where they stand
+
+module _ (target : Target) where
+  at_next : (p : Piece) (ps : List Piece) (cs : List Initial) (k : Kind) → AllZip (IsRead target) (cons_option (if_cie k p) (cie_pieces ps)) cs → ((more : List Initial) → AllZip (IsRead target) (cie_pieces ps) more → map place_of more ≡ cie_places ps)
+      → map place_of cs ≡ cons_option (place_if k p.at) (cie_places ps)
+  at_next p ps [] kind.Cie read rest = absurd read
+  at_next p ps (c ∷ cs) kind.Cie read rest = let at : c.at ≡ p.at = has_at target [] p (initial_in p.form c) (read.0 []) in rw (at, rest cs read.1) refl
+  at_next p ps cs kind.Fde read rest = rest cs read
+
+  at_all : (ps : List Piece) (cs : List Initial) → AllZip (IsRead target) (cie_pieces ps) cs → map place_of cs ≡ cie_places ps
+  at_all [] cs read = rw (none_read target cs read) refl
+  at_all (p ∷ ps) cs read = at_next p ps cs p.kind read (at_all ps)
+
+  pub places_are : (ps : List Piece) (at : List ℕ) (cs : List Initial) → AreCies target ps at cs → map place_of cs ≡ at
+  places_are ps at cs w = at_all ps cs w.read ∙ sym w.are
 
 -- ---- as they run
 

@@ -1,9 +1,8 @@
 -- A walk over a section that has a cut gives its pieces, and one over a section that has headers gives these.
 use Rattle.dw_section.proofs.Words.{◌≡◌, ℕ, ◌+◌, ◌<◌, ◌≤◌, List, [], ◌∷◌, length, Err, refl, sym, ap, subst, ◌∙◌, arith, length-append, AllZip, cons_option, Form, Order, Target, Refusal, length_bytes, Input, Takes, Kind, Item, gap, entry}
-use Rattle.dw_section.proofs.Words.{IsItem, item_bytes, is_cie, Piece, piece_of, pieces, item_at, Pieces, cie_places, Head, Has, PiecesLeft, HeadsLeft, AreHeaders}
+use Rattle.dw_section.proofs.Words.{IsItem, item_bytes, is_cie, Piece, piece_of, pieces, item_at, Pieces, cie_places, Head, Has, Headers, PiecesLeft, HeadsLeft}
 use Rattle.dw_section.specs.Inner.Left.{Stays}
 use Rattle.dw_section.proofs.Items.{item_some, stuck_before, left_by, none_by}
-use Rattle.dw_section.proofs.Lent.HeaderLaws.{has_one}
 
 pub left_item : (old new : Input) (item : Item) (ps : List Piece) → IsItem item → Takes old (item_bytes old.target.order item) new → PiecesLeft old ps
     → (rest : List Piece) × (ps ≡ cons_option (piece_of old.target.order old.at item) rest) × PiecesLeft new rest
@@ -63,14 +62,8 @@ heads_next target places old new p hs is w q on =
     let s = heads_some old.target places p w.parts q.0 hs q.1 w.each in
     (s.0, s.1, s.2, subst (λ (t : Target). Has t places p s.0) is s.3, record { parts = q.0; left = q.2; each = subst (λ (t : Target). AllZip (Has t places) q.0 s.1) (sym on.target) s.4 })
 
-pub heads_read : (target : Target) (places : List ℕ) (old new : Input) (p : Piece) (hs : List Head) → old.target ≡ target → (w : HeadsLeft places old hs) → (rest : List Piece) × (w.parts ≡ p ∷ rest) × PiecesLeft new rest → Stays old new
-    → (h : Head) → Has target places p h → (more : List Head) × (hs ≡ h ∷ more) × HeadsLeft places new more
-heads_read target places old new p hs is w q on h has =
-    let s = heads_next target places old new p hs is w q on in
-    (s.1, s.2 ∙ ap (λ (k : Head). k ∷ s.1) (has_one target places p s.0 h s.3 has), s.4)
+pub heads_all : (target : Target) (s places : List ℕ) (hs : List Head) (p : Headers target s hs) → places ≡ cie_places p.entries → HeadsLeft places (record { at = 0; bytes = s; target = target }) hs
+heads_all target s places hs p e = record { parts = p.entries; left = left_all target s p.entries p.cut; each = subst (λ (l : List ℕ). AllZip (Has target l) p.entries hs) (sym e) p.each }
 
-pub heads_all : (target : Target) (s places : List ℕ) (hs : List Head) → AreHeaders target s places hs → HeadsLeft places (record { at = 0; bytes = s; target = target }) hs
-heads_all target s places hs p = record { parts = p.are.entries; left = left_all target s p.are.entries p.are.cut; each = subst (λ (l : List ℕ). AllZip (Has target l) p.are.entries hs) (sym p.places_are) p.are.each }
-
-abbrev pub headers_so : (target : Target) (s : List ℕ) (ps : List Piece) (places : List ℕ) (hs : List Head) → Pieces target s ps → places ≡ cie_places ps → AllZip (Has target places) ps hs → AreHeaders target s places hs
-headers_so target s ps places hs cut e z = record { are = record { entries = ps; cut = cut; each = subst (λ (l : List ℕ). AllZip (Has target l) ps hs) e z }; places_are = e }
+pub headers_so : (target : Target) (s : List ℕ) (ps : List Piece) (places : List ℕ) (hs : List Head) → Pieces target s ps → places ≡ cie_places ps → AllZip (Has target places) ps hs → Headers target s hs
+headers_so target s ps places hs cut e z = record { entries = ps; cut = cut; each = subst (λ (l : List ℕ). AllZip (Has target l) ps hs) e z }

@@ -70,12 +70,12 @@ pub use Rattle.dw_section.specs.Inner.Fields.{Passes, behind_id, fields_at}
 pub use Rattle.dw_section.specs.Inner.Heads.{FdeFits, HasBytes, HeadsRise, cie_at_of, cie_ats, head_at, head_program}
 pub use Rattle.dw_section.specs.Inner.Index.{AreJudged, EndsAt, IsFound, NamesCie, PlacesRise, SameMembers, found_cie, found_head, led_to}
 pub use Rattle.dw_section.specs.Inner.Initials.{AreCies, AreInitials, AreOf, FirstLacking, HasOrLacks, IsBehind, IsInitial, IsLong, IsRead, IsRunner, cie_pieces, if_cie, or_place, place_of}
-pub use Rattle.dw_section.specs.Inner.Left.{AreHeaders, HeadsLeft, PiecesLeft}
+pub use Rattle.dw_section.specs.Inner.Left.{HeadsLeft, PiecesLeft}
 pub use Rattle.dw_section.specs.Inner.Lookup.{AreRowsOf, IsFoundIn, LedBy, LedSo, RunsSo, fde_of}
 pub use Rattle.dw_section.specs.Inner.Meanings.{row_among}
 pub use Rattle.dw_section.specs.Inner.NarrowRow.{ChangesKeep, NarrowedBy}
 unfoldable pub use Rattle.dw_section.specs.Inner.PieceHeader.{cie_at, fde_at}
-pub use Rattle.dw_section.specs.Inner.PieceHeader.{cie_of_piece, contents_of, entry_in, fde_of_piece, initial_head, initial_in, program_of}
+pub use Rattle.dw_section.specs.Inner.PieceHeader.{SaysFde, Tells, cie_of_piece, contents_of, entry_in, fde_of_piece, initial_head, initial_in, program_of}
 pub use Rattle.dw_section.specs.Inner.Pieces.{piece_in}
 pub use Rattle.dw_section.specs.Inner.Places.{RiseBy, Rises}
 pub use Rattle.dw_section.specs.Inner.Shown.{shown_if}

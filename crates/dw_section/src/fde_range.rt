@@ -1,26 +1,31 @@
 //! Nonempty FDEs in the order of their begins, and those that share an address.
 
-ghost use Rattle.std.specs.Prelude.{◌≡◌, ◌+◌, ◌<◌, ◌≤◌, ℕ, true, List, [], ◌∷◌, ◌++◌, length, slice_index_or, map, IfOk, IfErr, IfSome, OnOk, MatchOption};
+ghost use Rattle.std.specs.Prelude.{◌≡◌, ◌+◌, ◌<◌, ◌≤◌, ℕ, true, None, List, [], ◌∷◌, ◌++◌, length, slice_index_or, map, IfOk, IfErr, IfSome, OnOk, MatchOption};
 ghost use Rattle.std.specs.List.{AllByRecursion};
 ghost use Rattle.dw_num.specs.declared.refusal.Code.TheVariants.{Overlap};
+ghost use Rattle.dw_num.specs.declared.target.Form.{Form as TheForm};
 ghost use Rattle.dw_num.specs.declared.target.Target.{Target as TheTarget};
-ghost use Rattle.dw_num.specs.declared.error.ReadError.TheVariants.{OutOfMemory};
 ghost use Rattle.dw_num.specs.Refusals.{Refuses};
 ghost use Rattle.dw_section.specs.declared.fde_range.Ranged.{Ranged as TheRanged};
-ghost use Rattle.dw_section.specs.Headers.{Head, head_in};
-ghost use Rattle.dw_section.specs.Inner.Heads.{FdeFits, head_at};
-ghost use Rattle.dw_section.specs.Inner.Left.{AreHeaders};
+ghost use Rattle.dw_section.specs.Cut.{Piece};
+ghost use Rattle.dw_section.specs.Pieces.{Pieces};
+ghost use Rattle.dw_section.specs.Fields.{is_among};
+ghost use Rattle.dw_section.specs.Headers.{Head, Headers};
+ghost use Rattle.dw_section.specs.Programs.{FdeBroken};
+ghost use Rattle.dw_section.specs.Inner.Heads.{FdeFits};
+ghost use Rattle.dw_section.specs.Inner.PieceHeader.{Tells, entry_in};
 ghost use Rattle.dw_section.specs.Inner.Index.{AreJudged};
 ghost use Rattle.dw_section.specs.Inner.Table.{AreRanges};
 ghost use Rattle.dw_section.specs.Ranges.{AreIndexed, IsRanged, range_in};
-ghost use Rattle.dw_section.specs.Inner.Initials.{place_of, or_place, IsInitial, IsRunner, AreInitials};
+ghost use Rattle.dw_section.specs.Inner.Initials.{place_of, or_place, AreCies, AreOf, IsInitial, IsRunner, AreInitials};
 ghost use Rattle.dw_section.specs.Overlap.{nonempty, AreApart, FirstOverlap};
 ghost use Rattle.dw_section.specs.Inner.Places.{Rises};
 ghost use Rattle.dw_section.specs.Accepted.{RulesFault};
 ghost use Rattle.dw_section.specs.Among.{IsAmong};
 
-use crate::header::{Header, Initial, next_header};
-use crate::program::{Runner, initial_at, judge};
+use crate::entry::next_piece;
+use crate::header::{Cies, FdeEntry, Initial, fde_of, or_fields_fault};
+use crate::program::{Runner, initial_at, run_behind};
 use dw_num::{Cursor, ReadError, Target};
 use std::alloc::{AllocError, Global};
 
@@ -39,64 +44,47 @@ pub struct Ranged {
     pub return_register: u16,
 }
 
-// What is kept of an entry, where it is a nonempty FDE.
-fn range_of(header: &Header<'_>, initials: &[Initial<'_>], found: usize) -> Option<Ranged>
-    requires fits { (target : TheTarget) × Rises 0 (map place_of initials.now) × FdeFits target (map place_of initials.now) (head_in header.now) }
-    requires below { head_at (head_in header.now) ≤ 2147483647 }
-    ensures range { MatchOption result (nonempty (head_in header.now ∷ []) ≡ []) (λ e. nonempty (head_in header.now ∷ []) ≡ range_in e ∷ []) }
-    ensures is { (target : TheTarget) (hs : List Head) → AllByRecursion (IsInitial target hs) initials.now → IsAmong (head_in header.now) hs → IfSome result (IsRanged hs) }
+/// What judging FDEs finds: the nonempty ones in order of place, and the place of the first one with an address that has no
+/// rule for the CFA.
+#[derive(Drop)]
+pub(crate) struct Judged {
+    pub(crate) list: Vec<Ranged>,
+    pub(crate) lacking: Option<u64>,
+}
+
+// What is kept of an FDE.
+fn range_of(fde: &FdeEntry<'_>, initials: &[Initial<'_>], found: usize) -> Ranged
+    requires ascending { Rises 0 (map place_of initials.now) }
+    requires among { is_among fde.now.cie_at (map place_of initials.now) ≡ true }
+    requires below { fde.now.at ≤ 2147483647 }
+    ensures range { range_in result ≡ record { at = fde.now.at; begin = fde.now.begin; range = fde.now.range } }
+    ensures is { (target : TheTarget) (hs : List Head) (form : TheForm) → AllByRecursion (IsInitial target hs) initials.now → IsAmong (entry_in form fde.now) hs → IsRanged hs result }
 {
-    match *header {
-        Header::Fde {
-            at,
-            form: _,
-            cie_at,
-            begin,
-            range,
-            program: _,
-        } if range > 0 => {
-            let initial = initial_at(initials, cie_at, found);
-            Some(Ranged {
-                begin,
-                range,
-                at: at as u32,
-                return_register: initial.return_register,
-            })
-        }
-        _ => None,
+    Ranged {
+        begin: fde.begin,
+        range: fde.range,
+        at: fde.at as u32,
+        return_register: initial_at(initials, fde.cie_at, found).return_register,
     }
 }
 
-// Lists an entry, where it is a nonempty FDE.
+// Lists an FDE that is not empty.
 fn keep_range(
     list: &mut Vec<Ranged>,
-    header: &Header<'_>,
+    fde: &FdeEntry<'_>,
     initials: &[Initial<'_>],
     found: usize,
-) -> Result<(), ReadError>
-    requires fits { (target : TheTarget) × Rises 0 (map place_of initials.now) × FdeFits target (map place_of initials.now) (head_in header.now) }
-    requires below { head_at (head_in header.now) ≤ 2147483647 }
-    ensures found { OnOk result (map range_in list.new.items ≡ map range_in list.old.items ++ nonempty (head_in header.now ∷ [])) }
-    ensures each { (target : TheTarget) (hs : List Head) → AllByRecursion (IsInitial target hs) initials.now → IsAmong (head_in header.now) hs → AllByRecursion (IsRanged hs) list.old.items → OnOk result (AllByRecursion (IsRanged hs) list.new.items) }
-    ensures err { IfErr result (λ e. e ≡ OutOfMemory) }
+) -> Result<(), AllocError>
+    requires ascending { Rises 0 (map place_of initials.now) }
+    requires among { is_among fde.now.cie_at (map place_of initials.now) ≡ true }
+    requires below { fde.now.at ≤ 2147483647 }
+    ensures found { (form : TheForm) → OnOk result (map range_in list.new.items ≡ map range_in list.old.items ++ nonempty (entry_in form fde.now ∷ [])) }
+    ensures each { (target : TheTarget) (hs : List Head) (form : TheForm) → AllByRecursion (IsInitial target hs) initials.now → IsAmong (entry_in form fde.now) hs → AllByRecursion (IsRanged hs) list.old.items → OnOk result (AllByRecursion (IsRanged hs) list.new.items) }
 {
-    match range_of(header, initials, found) {
-        Some(fde) => {
-            list.push(fde)?;
-            Ok(())
-        }
-        None => Ok(()),
+    if fde.range > 0 {
+        list.push(range_of(fde, initials, found))?;
     }
-}
-
-// The place of an entry.
-fn entry_at(header: &Header<'_>) -> u64
-    ensures { result ≡ head_at (head_in header.now) }
-{
-    match *header {
-        Header::Cie { at, .. } => at,
-        Header::Fde { at, .. } => at,
-    }
+    Ok(())
 }
 
 // The first place of these and the next.
@@ -110,51 +98,115 @@ fn or_place(place: Option<u64>, lacks: bool, at: u64) -> Option<u64>
     }
 }
 
-// The same on machines that are lent, into a list that is.
+// Runs the program of an FDE, and keeps what is found.
+fn judge<'a>(
+    runner: &mut Runner<'a>,
+    judged: &mut Judged,
+    fde: &FdeEntry<'a>,
+    initials: &[Initial<'a>],
+    found: usize,
+    target: Target,
+) -> Result<(), ReadError>
+    requires ascending { Rises 0 (map place_of initials.now) }
+    requires fits { (form : TheForm) × FdeFits target (map place_of initials.now) (entry_in form fde.now) }
+    requires below { fde.now.at ≤ 2147483647 }
+    requires each { (hs : List Head) × AllByRecursion (IsInitial target hs) initials.now × IsRunner target hs runner.old }
+    ensures found { (hs front : List Head) (form : TheForm) → AllByRecursion (IsInitial target hs) initials.now → IsRunner target hs runner.old → IsAmong (entry_in form fde.now) hs → AreJudged target hs front judged.old.lacking judged.old.list.items → OnOk result (AreJudged target hs (front ++ entry_in form fde.now ∷ []) judged.new.lacking judged.new.list.items) }
+    ensures stuck { (hs : List Head) (form : TheForm) → AllByRecursion (IsInitial target hs) initials.now → IsRunner target hs runner.old → IfErr result (Refuses (FdeBroken target hs (entry_in form fde.now))) }
+    ensures runner { (hs : List Head) → AllByRecursion (IsInitial target hs) initials.now → IsRunner target hs runner.old → OnOk result (IsRunner target hs runner.new) }
+{
+    let lacks = run_behind(
+        runner,
+        initials,
+        fde.cie_at,
+        fde.program,
+        fde.begin,
+        fde.range,
+        target,
+    )?;
+    judged.lacking = or_place(judged.lacking, lacks, fde.at);
+    keep_range(&mut judged.list, fde, initials, found)?;
+    Ok(())
+}
+
+// The same of a piece that may be a CIE, of which nothing is to be found.
+#[inline(always)]
+fn judge_next<'a>(
+    runner: &mut Runner<'a>,
+    judged: &mut Judged,
+    fde: &Option<FdeEntry<'a>>,
+    initials: &[Initial<'a>],
+    found: usize,
+    target: Target,
+) -> Result<(), ReadError>
+    requires ascending { Rises 0 (map place_of initials.now) }
+    requires fits { IfSome fde.now (λ f. (f.at ≤ 2147483647) × ((form : TheForm) × FdeFits target (map place_of initials.now) (entry_in form f))) }
+    requires each { (hs : List Head) × AllByRecursion (IsInitial target hs) initials.now × IsRunner target hs runner.old }
+    ensures found { (hs front : List Head) (h : Head) → Tells fde.now h → AllByRecursion (IsInitial target hs) initials.now → IsRunner target hs runner.old → IsAmong h hs → AreJudged target hs front judged.old.lacking judged.old.list.items → OnOk result (AreJudged target hs (front ++ h ∷ []) judged.new.lacking judged.new.list.items) }
+    ensures stuck { (hs : List Head) (h : Head) → Tells fde.now h → AllByRecursion (IsInitial target hs) initials.now → IsRunner target hs runner.old → IfErr result (Refuses (FdeBroken target hs h)) }
+    ensures runner { (hs : List Head) → AllByRecursion (IsInitial target hs) initials.now → IsRunner target hs runner.old → OnOk result (IsRunner target hs runner.new) }
+{
+    match fde {
+        None => Ok(()),
+        Some(fde) => judge(runner, judged, fde, initials, found, target),
+    }
+}
+
+// Judges the FDEs of a section that has a cut, behind the CIEs.
 fn run_on<'a>(
     runner: &mut Runner<'a>,
-    list: &mut Vec<Ranged>,
+    judged: &mut Judged,
     bytes: &'a [u8],
     target: Target,
     places: &[u64],
     initials: &[Initial<'a>],
-) -> Result<Option<u64>, ReadError>
+) -> Result<(), ReadError>
     requires ascending { Rises 0 places.now }
-    requires headers { (hs : List Head) × AreHeaders target bytes.now places.now hs × AreInitials target hs hs initials.now × IsRunner target hs runner.old }
-    requires none { list.old.items ≡ [] }
-    ensures found { IfOk result (λ lacking. (hs : List Head) × AreHeaders target bytes.now places.now hs × AreInitials target hs hs initials.now × AreJudged target hs hs lacking list.new.items) }
+    requires cies { (ps : List Piece) × Pieces target bytes.now ps × AreCies target ps places.now initials.now }
+    requires run { (hs : List Head) → AreOf hs initials.now → AreInitials target hs hs initials.now }
+    requires runner { (hs : List Head) → AllByRecursion (IsInitial target hs) initials.now → IsRunner target hs runner.old }
+    requires none { (judged.old.list.items ≡ []) × (judged.old.lacking ≡ None) }
+    ensures found { OnOk result ((hs : List Head) × Headers target bytes.now hs × AreInitials target hs hs initials.now × AreJudged target hs hs judged.new.lacking judged.new.list.items) }
     ensures first { IfErr result (Refuses (RulesFault target bytes.now)) }
 {
     let mut cursor = Cursor::new(bytes, 0, target);
-    let mut lacking = None;
     let mut found = 0;
-    'headers: while let Some(header) = next_header(&mut cursor, places, &mut found) {
-        let lacks = judge(runner, &header, initials, target)?;
-        lacking = or_place(lacking, lacks, entry_at(&header));
-        keep_range(list, &header, initials, found)?;
+    'pieces: while let Some(piece) = next_piece(&mut cursor) {
+        let fde = fde_of(&piece, places, &mut found, target)?;
+        if let Err(broken) = judge_next(runner, judged, &fde, initials, found, target) {
+            return Err(or_fields_fault(&mut cursor, target, places, broken));
+        }
     }
-    Ok(lacking)
+    Ok(())
 }
 
-/// Runs the programs of the FDEs of a section that has headers, behind those of its CIEs, and lists the nonempty ones in
-/// order of place, or tells the place of the first one with an address that has no rule for the CFA.
+/// Reads the fields of the FDEs of a section that has a cut, and runs their programs behind those of its CIEs, which run.
 pub(crate) fn run_fdes<'a>(
     alloc: Global,
     bytes: &'a [u8],
     target: Target,
-    places: &[u64],
-    initials: &[Initial<'a>],
-    count: usize,
-) -> Result<(Vec<Ranged>, Option<u64>), ReadError>
-    requires ascending { Rises 0 places.now }
-    requires headers { (hs : List Head) × AreHeaders target bytes.now places.now hs × AreInitials target hs hs initials.now }
-    ensures found { IfOk result (λ p. (hs : List Head) × AreHeaders target bytes.now places.now hs × AreInitials target hs hs initials.now × AreJudged target hs hs p.1 p.0.items) }
+    cies: &Cies<'a>,
+) -> Result<Judged, ReadError>
+    requires ascending { Rises 0 cies.now.places.items }
+    requires cies { (ps : List Piece) × Pieces target bytes.now ps × AreCies target ps cies.now.places.items cies.now.initials.items }
+    requires run { (hs : List Head) → AreOf hs cies.now.initials.items → AreInitials target hs hs cies.now.initials.items }
+    ensures found { IfOk result (λ j. (hs : List Head) × Headers target bytes.now hs × AreInitials target hs hs cies.now.initials.items × AreJudged target hs hs j.lacking j.list.items) }
     ensures first { IfErr result (Refuses (RulesFault target bytes.now)) }
 {
-    let mut runner = Runner::new(alloc, initials, target)?;
-    let mut list = Vec::with_capacity(alloc, count)?;
-    let lacking = run_on(&mut runner, &mut list, bytes, target, places, initials)?;
-    Ok((list, lacking))
+    let mut runner = Runner::new(alloc, &cies.initials, target)?;
+    let mut judged = Judged {
+        list: Vec::with_capacity(alloc, cies.counts.fdes)?,
+        lacking: None,
+    };
+    run_on(
+        &mut runner,
+        &mut judged,
+        bytes,
+        target,
+        &cies.places,
+        &cies.initials,
+    )?;
+    Ok(judged)
 }
 
 // Whether each begins behind the begin of the one before it.

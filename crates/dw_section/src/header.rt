@@ -1,6 +1,6 @@
 //! The headers of a section: the fields of its entries.
 
-ghost use Rattle.std.specs.Prelude.{◌≡◌, ℕ, ◌+◌, ◌≤◌, List, [], ◌∷◌, ◌++◌, length, map, IfOk, IfErr, IfSome, OnOk, MatchResult};
+ghost use Rattle.std.specs.Prelude.{◌≡◌, ◌⊎◌, ℕ, ◌+◌, ◌≤◌, List, [], ◌∷◌, ◌++◌, length, map, IfOk, IfErr, OnOk, MatchResult};
 ghost use Rattle.dw_section.specs.Counts.{AreCounts};
 ghost use Rattle.dw_section.specs.Cut.{Piece};
 ghost use Rattle.std.specs.List.{AllByRecursion};
@@ -17,11 +17,11 @@ ghost use Rattle.dw_section.specs.Pieces.{Pieces};
 ghost use Rattle.dw_section.specs.Inner.Pieces.{piece_in};
 ghost use Rattle.dw_section.specs.Places.{cie_places};
 ghost use Rattle.dw_section.specs.Inner.Places.{Rises};
-ghost use Rattle.dw_section.specs.Inner.Heads.{head_at};
-ghost use Rattle.dw_section.specs.Inner.Initials.{AreCies, AreOf};
-ghost use Rattle.dw_section.specs.Inner.Left.{AreHeaders, HeadsLeft, GivesHead, GoesOn};
-ghost use Rattle.dw_section.specs.Inner.PieceHeader.{cie_at, fde_at, initial_in, entry_in, program_of};
+ghost use Rattle.dw_section.specs.Inner.Initials.{AreCies};
+ghost use Rattle.dw_section.specs.Inner.Left.{PiecesLeft};
+ghost use Rattle.dw_section.specs.Inner.PieceHeader.{SaysFde, cie_at, fde_at, initial_in, entry_in, program_of};
 ghost use Rattle.dw_section.specs.Headers.{Head, Has, Headers, head_in, CieHolds, CieStuck, CiesHold, FdeHolds, FdeStuck, CieFieldsFault, HeadersFault};
+ghost use Rattle.dw_section.specs.Stage.{FirstStuck};
 ghost use Rattle.dw_section.specs.Laws.{SomeHeaders};
 
 use crate::entry::{EntryCounts, Kind, Placed, cut, next_piece, width_of};
@@ -258,64 +258,46 @@ fn find_cies<'a>(
     Ok(cies)
 }
 
-// Reads the fields of a piece that is an FDE.
-#[tactic(auto, using(crate::proofs::Lent::HeaderLaws::has_fde, crate::proofs::Lent::HeaderLaws::fde_faulty))]
-fn fde_holds(
-    piece: &Placed<'_>,
+/// What a piece says that is an FDE. Of a CIE it is nothing.
+#[tactic(auto, using(crate::proofs::Lent::HeaderLaws::fde_faulty))]
+#[inline(always)]
+pub(crate) fn fde_of<'a>(
+    piece: &Placed<'a>,
     places: &[u64],
     found: &mut usize,
     target: Target,
-) -> Result<(), Refusal>
+) -> Result<Option<FdeEntry<'a>>, Refusal>
     requires { Rises 0 places.now }
-    ensures found { IfOk result (λ _. FdeHolds target places.now (piece_in piece.now)) }
+    ensures found { IfOk result (SaysFde target places.now (piece_in piece.now)) }
     ensures stuck { IfErr result (FdeStuck target places.now (piece_in piece.now)) }
 {
     match piece.kind {
-        Kind::Cie => Ok(()),
+        Kind::Cie => Ok(None),
         Kind::Fde => match read_entry(piece, places, found, target) {
-            Ok(_) => Ok(()),
+            Ok(fde) => Ok(Some(fde)),
             Err(refusal) => Err(refusal),
         },
     }
 }
 
-// Reads the fields of the FDEs of a section that has a cut, behind those of its CIEs.
-fn fdes_hold(bytes: &[u8], target: Target, places: &[u64]) -> Result<(), Refusal>
-    requires ascending { Rises 0 places.now }
-    requires cies { (ps : List Piece) × CiesHold target bytes.now ps × (places.now ≡ cie_places ps) }
-    ensures found { IfOk result (λ _. (hs : List Head) × AreHeaders target bytes.now places.now hs) }
-    ensures first { IfErr result (HeadersFault target bytes.now) }
-{
-    let mut cursor = Cursor::new(bytes, 0, target);
-    let mut found = 0;
-    'pieces: while let Some(piece) = next_piece(&mut cursor) {
-        fde_holds(&piece, places, &mut found, target)?;
-    }
-    Ok(())
-}
-
-// The next header of a section that has headers, or none behind the last one.
-#[inline(always)]
-pub(crate) fn next_header<'a>(
-    cursor: &mut Cursor<'a>,
+/// The error of a program, unless the fields of an FDE that is left have a fault, which comes first.
+pub(crate) fn or_fields_fault(
+    cursor: &mut Cursor<'_>,
+    target: Target,
     places: &[u64],
-    found: &mut usize,
-) -> Option<Header<'a>>
+    broken: ReadError,
+) -> ReadError
     requires room { cursor.old.at + length cursor.old.bytes ≤ 2147483647 }
     requires ascending { Rises 0 places.now }
-    requires headers { (hs : List Head) × HeadsLeft places.now cursor.old hs }
-    ensures gives { (hs : List Head) → HeadsLeft places.now cursor.old hs → GivesHead places.now cursor.new result hs }
-    ensures on { GoesOn cursor.old result cursor.new }
-    ensures below { IfSome result (λ h. head_at (head_in h) ≤ 2147483647) }
+    ensures { (ps : List Piece) → PiecesLeft cursor.old ps → Refuses (FirstStuck (FdeHolds target places.now) (FdeStuck target places.now) ps) result ⊎ ((result ≡ broken) × AllByRecursion (FdeHolds target places.now) ps) }
 {
-    let target = cursor.target();
-    let Some(piece) = next_piece(cursor) else {
-        return None;
-    };
-    match header_of(&piece, places, found, target) {
-        Ok(header) => Some(header),
-        Err(_) => None,
+    let mut found = 0;
+    'pieces: while let Some(piece) = next_piece(cursor) {
+        if let Err(refusal) = fde_of(&piece, places, &mut found, target) {
+            return ReadError::Refused(refusal);
+        }
     }
+    broken
 }
 
 // Reads the fields of the entries of a section that has a cut, behind those of its CIEs.
@@ -340,8 +322,12 @@ fn read_headers<'a>(
     Ok(headers)
 }
 
-// Cuts a section, and reads the fields of its CIEs.
-fn cies_of<'a>(alloc: Global, bytes: &'a [u8], target: Target) -> Result<Cies<'a>, ReadError>
+/// Cuts a section, and reads the fields of its CIEs.
+pub(crate) fn cies_of<'a>(
+    alloc: Global,
+    bytes: &'a [u8],
+    target: Target,
+) -> Result<Cies<'a>, ReadError>
     ensures found { IfOk result (λ c. (ps : List Piece) × Pieces target bytes.now ps × AreCies target ps c.places.items c.initials.items) }
     ensures counts { IfOk result (λ c. (ps : List Piece) → Pieces target bytes.now ps → AreCounts ps c.counts) }
     ensures ascending { IfOk result (λ c. Rises 0 c.places.items) }
@@ -349,22 +335,6 @@ fn cies_of<'a>(alloc: Global, bytes: &'a [u8], target: Target) -> Result<Cies<'a
 {
     let counts = cut(bytes, target)?;
     find_cies(alloc, bytes, target, counts)
-}
-
-/// Reads the fields of all entries of a section, and keeps those of its CIEs.
-pub(crate) fn heads_hold<'a>(
-    alloc: Global,
-    bytes: &'a [u8],
-    target: Target,
-) -> Result<Cies<'a>, ReadError>
-    ensures found { IfOk result (λ c. (hs : List Head) × AreHeaders target bytes.now c.places.items hs × AreOf hs c.initials.items) }
-    ensures counts { IfOk result (λ c. (ps : List Piece) → Pieces target bytes.now ps → AreCounts ps c.counts) }
-    ensures ascending { IfOk result (λ c. Rises 0 c.places.items) }
-    ensures first { IfErr result (Refuses (HeadersFault target bytes.now)) }
-{
-    let cies = cies_of(alloc, bytes, target)?;
-    fdes_hold(bytes, target, &cies.places)?;
-    Ok(cies)
 }
 
 fn all_headers<'a>(

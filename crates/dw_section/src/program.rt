@@ -17,8 +17,7 @@ ghost use Rattle.dw_cfa.specs.CieMachine.{with_steps};
 ghost use Rattle.dw_cfa.specs.Coverage.{Lacks};
 ghost use Rattle.std.specs.Bool.{MatchBool};
 ghost use Rattle.dw_section.specs.Fields.{is_among};
-ghost use Rattle.dw_section.specs.Headers.{Head, fde, head_in};
-ghost use Rattle.dw_section.specs.Inner.Heads.{FdeFits};
+ghost use Rattle.dw_section.specs.Headers.{Head, fde};
 ghost use Rattle.dw_section.specs.Inner.PieceHeader.{initial_in};
 ghost use Rattle.dw_section.specs.Inner.Initials.{place_of, AreOf, IsInitial, IsBehind, IsLong, IsRunner, AreInitials, HasOrLacks};
 ghost use Rattle.dw_section.specs.Inner.Places.{Rises};
@@ -26,7 +25,7 @@ ghost use Rattle.dw_section.specs.Programs.{CieRuns, CieBroken, FdeRuns, FdeBrok
 ghost use Rattle.dw_section.specs.Among.{IsAmong};
 ghost use Rattle.dw_section.specs.Stage.{FirstStuck};
 
-use crate::header::{Header, Initial};
+use crate::header::Initial;
 use dw_cfa::{CieMachine, Row, behind_laws};
 use dw_num::{Program, ReadError, Target, are_bytes};
 use std::alloc::{AllocError, Global};
@@ -265,9 +264,9 @@ fn run_long<'a>(
     run_fde(&mut kept.machine, program, begin, range)
 }
 
-// Runs an FDE's program behind the program of the CIE at a place, and says whether one of its addresses has no rule for
-// the CFA.
-fn run_behind<'a>(
+/// Runs an FDE's program behind the program of the CIE at a place, and says whether one of its addresses has no rule for
+/// the CFA.
+pub(crate) fn run_behind<'a>(
     runner: &mut Runner<'a>,
     initials: &[Initial<'a>],
     place: u64,
@@ -288,29 +287,4 @@ fn run_behind<'a>(
     }
     follow(runner, initials, place, target)?;
     run_fde(&mut runner.machine, program, begin, range)
-}
-
-// Runs the program of an FDE, and says whether one of its addresses has no rule for the CFA.
-pub(crate) fn judge<'a>(
-    runner: &mut Runner<'a>,
-    header: &Header<'a>,
-    initials: &[Initial<'a>],
-    target: Target,
-) -> Result<bool, ReadError>
-    requires fits { Rises 0 (map place_of initials.now) × FdeFits target (map place_of initials.now) (head_in header.now) }
-    requires each { (hs : List Head) × AllByRecursion (IsInitial target hs) initials.now × IsRunner target hs runner.old }
-    ensures found { (hs : List Head) → AllByRecursion (IsInitial target hs) initials.now → IsRunner target hs runner.old → IfOk result (λ lacks. FdeRuns target hs (head_in header.now) × HasOrLacks target hs (head_in header.now) lacks × IsRunner target hs runner.new) }
-    ensures stuck { (hs : List Head) → AllByRecursion (IsInitial target hs) initials.now → IsRunner target hs runner.old → IfErr result (Refuses (FdeBroken target hs (head_in header.now))) }
-{
-    match *header {
-        Header::Cie { .. } => Ok(false),
-        Header::Fde {
-            at: _,
-            form: _,
-            cie_at,
-            begin,
-            range,
-            program,
-        } => run_behind(runner, initials, cie_at, program, begin, range, target),
-    }
 }

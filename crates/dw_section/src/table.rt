@@ -21,9 +21,9 @@ ghost use Rattle.dw_section.specs.Laws.{SomeCheck};
 
 use crate::entry::EntryCounts;
 use crate::fde_range::{Ranged, first_overlap, put_in_order, run_fdes};
-use crate::header::{Initial, heads_hold};
+use crate::header::{Initial, cies_of, or_fields_fault};
 use crate::program::run_cies;
-use dw_num::{Code, ReadError, Refusal, Target, are_bytes};
+use dw_num::{Code, Cursor, ReadError, Refusal, Target, are_bytes};
 use std::alloc::Global;
 use std::marker::Model;
 
@@ -109,17 +109,18 @@ fn judged<'a>(alloc: Global, bytes: &'a [u8], target: Target) -> Result<Sound<'a
     ensures found { IfOk result (λ j. AreRanges target bytes.now j.list.items × IsKept target bytes.now j.counts j.initials.items) }
     ensures first { IfErr result (Refuses (RulesFault target bytes.now)) }
 {
-    let cies = heads_hold(alloc, bytes, target)?;
-    let places: &[u64] = &cies.places;
-    let initials: &[Initial<'a>] = &cies.initials;
-    run_cies(alloc, initials, target)?;
-    let (list, lacking) = run_fdes(alloc, bytes, target, places, initials, cies.counts.fdes)?;
-    match lacking {
+    let cies = cies_of(alloc, bytes, target)?;
+    if let Err(broken) = run_cies(alloc, &cies.initials, target) {
+        let mut cursor = Cursor::new(bytes, 0, target);
+        return Err(or_fields_fault(&mut cursor, target, &cies.places, broken));
+    }
+    let judged = run_fdes(alloc, bytes, target, &cies)?;
+    match judged.lacking {
         Some(at) => Err(refused(Code::NoCfaRule, at)),
         None => Ok(Sound {
             counts: cies.counts,
             initials: cies.initials,
-            list,
+            list: judged.list,
         }),
     }
 }

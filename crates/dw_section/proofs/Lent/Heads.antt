@@ -78,7 +78,7 @@ limit_is : (size : Size) → 256 ^ byte_count size ≡ address_limit size
 limit_is Four = refl
 limit_is Eight = refl
 
-has_fits : (target : Target) (places : List ℕ) (p : Piece) (h : Head) → Has target places p h → FdeFits target places h
+pub has_fits : (target : Target) (places : List ℕ) (p : Piece) (h : Head) → Has target places p h → FdeFits target places h
 has_fits target places p h (inl c) = subst (FdeFits target places) (sym c.3) tt
 has_fits target places p h (inr c) =
     let said = fde_said target places p.form c.0 c.2.1.spelling c.2.1.spells in

@@ -1,8 +1,8 @@
 -- What running programs tells of headers.
 use Rattle.dw_section.proofs.Words.{◌≡◌, ℕ, ◌+◌, ◌<◌, ◌≤◌, Bool, true, false, List, [], ◌∷◌, ◌++◌, map, length, get_or, set, Option, Some, None, refl, sym, ap, subst, ◌∙◌, append_assoc, arith, inl, inr, MatchBool, nat_lt, AllByRecursion}
-use Rattle.dw_section.proofs.Words.{Refusal, Target, address_limit, Instr, CfaRule, Unset, LocatedRow, RulesBehind, cfa_after, FdeFault, FdeKept, initial_cfa, Counts, Rules, Initial, is_among, Head, cie, fde, FdeHead, head_at, cie_at_of}
-use Rattle.dw_section.proofs.Words.{cie_ats, or_place, place_of, IsInitial, IsBehind, AreInitials, HasOrLacks, initial_head, Rises, InitialInstrs, Instrs, CieRuns, FdeRuns, FdeBroken, HasRules, LacksRule, input_of, IsNonDecreasingBy, ltb-true}
-use Rattle.dw_section.proofs.Words.{ltb-false, cases_lt, append-nil, map-append, get_or-map, length-map, All-from_recursion, All-set, filter_map-append, recursion_from_All, NoCfaRule, FirstLacking, counts_exists}
+use Rattle.dw_section.proofs.Words.{Refusal, Target, address_limit, Instr, CfaRule, Unset, LocatedRow, RulesBehind, cfa_after, FdeFault, FdeKept, initial_cfa, Counts, Rules, Initial, is_among, Head, fde, FdeHead, head_at}
+use Rattle.dw_section.proofs.Words.{or_place, place_of, IsInitial, IsBehind, HasOrLacks, initial_head, Rises, InitialInstrs, Instrs, FdeRuns, FdeBroken, HasRules, LacksRule, input_of, IsNonDecreasingBy, ltb-true}
+use Rattle.dw_section.proofs.Words.{ltb-false, cases_lt, get_or-map, length-map, All-from_recursion, All-set, recursion_from_All, NoCfaRule, FirstLacking, counts_exists}
 use Rattle.dw_cfa.specs.CieMachine.{Following, with_steps}
 use Rattle.dw_cfa.specs.Coverage.{Lacks}
 use Rattle.dw_cfa.proofs.Lent.RowsAt.{last_from}

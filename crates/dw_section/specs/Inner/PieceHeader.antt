@@ -1,5 +1,5 @@
 -- Reading the header of a piece as the code does it.
-use Rattle.std.specs.Prelude.{ℕ, List, Result, Ok}
+use Rattle.std.specs.Prelude.{◌≡◌, ℕ, List, Option, Some, None, Result, Ok}
 use Rattle.dw_num.specs.declared.refusal.Refusal.{Refusal}
 use Rattle.dw_num.specs.declared.target.Form.{Form}
 use Rattle.dw_num.specs.declared.target.Target.{Target}
@@ -12,7 +12,8 @@ use Rattle.dw_section.specs.declared.header.FdeEntry.{FdeEntry}
 use Rattle.dw_section.specs.declared.header.Initial.{Initial}
 use Rattle.dw_section.specs.Cut.{Piece}
 use Rattle.dw_section.specs.Fields.{cie_fields, fde_fields}
-use Rattle.dw_section.specs.Headers.{CieHead, Head, cie, fde, cie_head, fde_head}
+use Rattle.dw_section.specs.declared.entry.Kind.TheVariants as kind
+use Rattle.dw_section.specs.Headers.{CieHead, Head, Has, cie, fde, cie_head, fde_head}
 use Rattle.dw_section.specs.Inner.Fields.{fields_at}
 
 abbrev pub contents_of : Target → Piece → Input
@@ -48,3 +49,14 @@ initial_in form c = cie (initial_head form c)
 -- the header of an FDE that was read
 abbrev pub entry_in : Form → FdeEntry → Head
 entry_in form e = fde (record { at = e.at; form = form; cie_at = e.cie_at; begin = e.begin; range = e.range; program = span_of e.program })
+
+-- what a piece says that is an FDE; of a CIE it is nothing
+abbrev pub SaysFde : Target → List ℕ → Piece → Option FdeEntry → Type 0
+SaysFde target places p None = p.kind ≡ kind.Cie
+SaysFde target places p (Some e) = Has target places p (entry_in p.form e)
+
+-- the same of its header
+abbrev pub Tells : Option FdeEntry → Head → Type 0
+Tells None (cie c) = Unit {0}
+Tells None (fde f) = ⊥
+Tells (Some e) h = (form : Form) × (h ≡ entry_in form e)

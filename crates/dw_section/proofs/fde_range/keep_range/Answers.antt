@@ -2,5 +2,5 @@ use Rattle.dw_section.proofs.Words.{IsRanged}
 use Rattle.dw_section.proofs.Stages.{all_push}
 use Rattle.dw_section.proofs.fde_range.keep_range.Goals as goal
 
-pub returns-in_ok-push-in-Some-clause-each : goal.returns-in_ok-push-in-Some-clause-each
-returns-in_ok-push-in-Some-clause-each c = λ target hs all among old. rw c.in_ok-push-in-Some.ensures.items (all_push (IsRanged hs) c.args.list.now.items c.in-Some.fde old (c.in-Some.ensures.is target hs all among))
+pub returns-in_ok-push-clause-each : goal.returns-in_ok-push-clause-each
+returns-in_ok-push-clause-each c = λ target hs form all among old. rw c.in_ok-push.ensures.items (all_push (IsRanged hs) c.args.list.now.items c.range_of.result old (c.range_of.ensures.is target hs form all among))

@@ -1,45 +1,99 @@
-use Rattle.dw_section.proofs.Words.{refl, inl, inr, map, head_in, FdeFits, place_of, FdeRuns, FdeBroken, Rises, refuses_by}
-use Rattle.dw_section.proofs.Between.{between_among}
-use Rattle.dw_section.proofs.Walk.{walk_start, walk_next, walk_end, walk_stuck}
-use Rattle.dw_section.proofs.Lent.Heads.{all_in}
-use Rattle.dw_section.proofs.Left.{heads_all}
-use Rattle.dw_section.proofs.Tables.{places_so, judged_more}
-use Rattle.dw_section.proofs.Stages.{handed_on}
-use Rattle.dw_section.proofs.fde_range.run_on.Goals.{In-Some}
+use Rattle.dw_section.proofs.Words.{◌≡◌, List, ◌∷◌, map, refl, inl, inr, AllByRecursion, Dwarf32, piece_in, initial_in, Has, Head, HeadsLeft, FdeHolds, FdeStuck, FdeRuns, FdeBroken, Pieces, PiecesLeft, refuses_by}
+use Rattle.dw_section.proofs.Between.{between_next, between_stuck, between_among, between_later, between_rest}
+use Rattle.dw_section.proofs.FdeWalk.{says_holds, says_tells, says_fits, places_at, headers_exist, fields_fault}
+use Rattle.dw_section.proofs.KeptCies.{of_headers, some_headers, places_are}
+use Rattle.dw_section.proofs.Left.{left_all, heads_all, heads_next, heads_none, stays_then}
+use Rattle.dw_section.proofs.Stages.{all_push, handed_on}
+use Rattle.dw_section.proofs.Walk.{Walk, walk_start, walk_next, walk_end, walk_stuck}
+use Rattle.dw_section.proofs.fde_range.run_on.Goals.{In-Some, In_ok-fde}
 use Rattle.dw_section.proofs.fde_range.run_on.Goals as goal
 
--- what is asked of the header that comes next
-fits : (c : In-Some) → Rises 0 (map place_of c.args.initials.now) × FdeFits c.args.target (map place_of c.args.initials.now) (head_in c.in-Some.header)
-fits c =
-    let q = c.requires.headers in
-    let w = c.headers.invariant.at q.0 (q.1, q.2, q.3) in
-    let g = c.in-Some.ensures.gives w.rest w.left in
-    let so = places_so c.args.target c.args.bytes.now q.0 c.args.initials.now q.1.are q.2 in
-    (so.0, all_in (FdeFits c.args.target (map place_of c.args.initials.now)) q.0 (head_in c.in-Some.header) so.1 (between_among q.0 w (head_in c.in-Some.header) g.0 g.1))
+-- the header of the piece that comes next
+next : (c : In-Some) (hs : List Head) → HeadsLeft c.args.places.now c.pieces.cursor hs
+    → (h : Head) × (more : List Head) × (hs ≡ h ∷ more) × Has c.args.target c.args.places.now (piece_in c.in-Some.piece) h × HeadsLeft c.args.places.now c.next_piece.new.cursor more
+next c hs w = heads_next c.args.target c.args.places.now c.pieces.cursor c.next_piece.new.cursor (piece_in c.in-Some.piece) hs c.pieces.invariant.1.stays.target w (c.in-Some.ensures.gives w.parts w.left) c.in-Some.ensures.on.0
 
-pub headers-init : goal.headers-init
-headers-init c = rw (c.new-cursor.ensures, c.requires.none)
-    (walk_start (λ hs p. heads_all c.args.target c.args.bytes.now c.args.places.now hs p.0) (λ hs p. (record { run = tt; first = tt; are = refl; each = tt }, p.2)))
+-- the fields of the pieces up to it hold
+held : (c : In_ok-fde) → Walk PiecesLeft (Pieces c.args.target c.args.bytes.now) (λ ps. AllByRecursion (FdeHolds c.args.target c.args.places.now)) (record { at = 0; bytes = c.args.bytes.now; target = c.args.target }) c.next_piece.new.cursor
+held c = walk_next _ _ _ c.pieces.invariant.0 c.in-Some.ensures.on.0 c.in-Some.ensures.gives
+    (λ ps p w more is. all_push (FdeHolds c.args.target c.args.places.now) w.front (piece_in c.in-Some.piece) w.so (says_holds c.args.target c.args.places.now (piece_in c.in-Some.piece) c.in_ok-fde.fde c.in_ok-fde.ensures.found))
 
-pub judge-requires-clause-fits : goal.judge-requires-clause-fits
-judge-requires-clause-fits c = fits (goal.at.judge-requires-clause-fits c).In-Some
+pub pieces-init : goal.pieces-init
+pieces-init c =
+    let q = c.requires.cies in
+    let t = c.args.target in
+    let s = c.args.bytes.now in
+    let places = c.args.places.now in
+    rw (c.new-cursor.ensures, c.requires.none.0, c.requires.none.1) (
+      walk_start (left_all t s) (λ ps p. tt),
+      walk_start (λ hs p. heads_all t s places hs p (places_at t s q.0 places c.args.initials.now q.1 q.2 hs p)) (λ hs p. record { run = tt; first = tt; are = refl; each = tt }),
+      c.requires.runner,
+    )
 
-pub keep_range-requires-clause-fits : goal.keep_range-requires-clause-fits
-keep_range-requires-clause-fits c = let f = fits (goal.at.keep_range-requires-clause-fits c).In-Some in (c.args.target, f.0, f.1)
+pub judge_next-requires-clause-ascending : goal.judge_next-requires-clause-ascending
+judge_next-requires-clause-ascending c = let q = c.requires.cies in rw (places_are c.args.target q.0 c.args.places.now c.args.initials.now q.2) c.requires.ascending
 
-pub headers-preserved : goal.headers-preserved
-headers-preserved c = rw (c.or_place-lacking.ensures, c.entry_at.ensures) (walk_next _ _ _ c.headers.invariant c.in-Some.ensures.on.0 c.in-Some.ensures.gives (λ hs p w more is.
-    let h = head_in c.in-Some.header in
-    let found = c.in_ok-lacks.ensures.found hs p.1.each w.so.1 in
-    let each = c.in_ok-keep_range.ensures.each c.args.target hs p.1.each (between_among hs w h more is) w.so.0.each in
-    (judged_more c.args.target hs w.front h c.headers.lacking c.in_ok-lacks.lacks c.headers.list.items c.keep_range.new.list.items w.so.0 found.0 found.1 c.in_ok-keep_range.ensures.found each, found.2)))
+pub judge_next-requires-clause-fits : goal.judge_next-requires-clause-fits
+judge_next-requires-clause-fits c =
+    let q = c.requires.cies in
+    rw (places_are c.args.target q.0 c.args.places.now c.args.initials.now q.2) (says_fits c.args.target c.args.places.now (piece_in c.in-Some.piece) c.in_ok-fde.fde c.in-Some.ensures.below c.in_ok-fde.ensures.found)
 
-pub returns-in_err-lacks-clause-first : goal.returns-in_err-lacks-clause-first
-returns-in_err-lacks-clause-first c =
-    let q = c.requires.headers in
-    let w = c.headers.invariant.at q.0 (q.1, q.2, q.3) in
-    handed_on c.from_residual.result _ c.from_residual.ensures.1 (refuses_by c.in_err-lacks.field-0.0 _ _
-    (λ r h. inl (inr (q.0, (q.1.are, q.2.run), walk_stuck _ _ c.headers.invariant c.in-Some.ensures.gives (FdeRuns c.args.target q.0) (FdeBroken c.args.target q.0) r q.0 (q.1, q.2, q.3) (λ front so. so.0.run) h))) (c.in_err-lacks.ensures.stuck q.0 q.2.each w.so.1))
+pub judge_next-requires-clause-each : goal.judge_next-requires-clause-each
+judge_next-requires-clause-each c =
+    let ks = map (initial_in Dwarf32) c.args.initials.now in
+    let each = (c.requires.run ks (some_headers c.args.initials.now)).each in
+    (ks, each, c.pieces.invariant.2 ks each)
+
+pub pieces-preserved : goal.pieces-preserved
+pieces-preserved c =
+    let q = c.requires.cies in
+    let t = c.args.target in
+    let places = c.args.places.now in
+    let judge = c.in_default-judge_next.ensures in (
+      held (goal.at.pieces-preserved c).In_ok-fde,
+      record {
+        stays = stays_then _ c.pieces.cursor c.next_piece.new.cursor c.pieces.invariant.1.stays c.in-Some.ensures.on.0;
+        at = λ hs headers.
+            let w = c.pieces.invariant.1.at hs headers in
+            let h = next (goal.at.pieces-preserved c).In-Some w.rest w.left in
+            let each = (c.requires.run hs (of_headers t c.args.bytes.now q.0 places c.args.initials.now q.1 q.2 hs headers)).each in
+            let tells = says_tells t places (piece_in c.in-Some.piece) c.in_ok-fde.fde h.0 c.in_ok-fde.ensures.found h.3 in
+            between_next hs w h.0 h.1 h.2 h.4 (judge.found hs w.front h.0 tells each (c.pieces.invariant.2 hs each) (between_among hs w h.0 h.1 h.2) w.so);
+      },
+      λ hs all. judge.runner hs all (c.pieces.invariant.2 hs all),
+    )
+
+pub returns-in_err-fde-clause-first : goal.returns-in_err-fde-clause-first
+returns-in_err-fde-clause-first c =
+    let q = c.requires.cies in
+    handed_on c.from_residual.result _ c.from_residual.ensures.1
+    (inl (inl (inl (fields_fault c.args.target c.args.bytes.now q.0 c.args.places.now c.args.initials.now q.1 q.2 _ (walk_stuck _ _ c.pieces.invariant.0 c.in-Some.ensures.gives _ _ _ q.0 q.1 (λ front so. so) c.in_err-fde.ensures.stuck)))))
+
+pub returns-in-Err-clause-first : goal.returns-in-Err-clause-first
+returns-in-Err-clause-first c =
+    let q = c.requires.cies in
+    let t = c.args.target in
+    let s = c.args.bytes.now in
+    let places = c.args.places.now in
+    let w = (held (goal.at.returns-in-Err-clause-first c).In_ok-fde).at q.0 q.1 in
+    elim (c.or_fields_fault.ensures w.rest w.left) [
+      | inl fields ↦ refuses_by c.or_fields_fault.result _ _ (λ r h. inl (inl (inl (fields_fault t s q.0 places c.args.initials.now q.1 q.2 r (between_later (FdeHolds t places) (FdeStuck t places) q.0 w r w.so h))))) fields
+      | inr broken ↦
+          let hs = headers_exist t s q.0 places c.args.initials.now q.1 q.2 (between_rest (FdeHolds t places) q.0 w w.so broken.1) in
+          let v = c.pieces.invariant.1.at hs.0 hs.1 in
+          let h = next (goal.at.returns-in-Err-clause-first c).In-Some v.rest v.left in
+          let initials = c.requires.run hs.0 (of_headers t s q.0 places c.args.initials.now q.1 q.2 hs.0 hs.1) in
+          let tells = says_tells t places (piece_in c.in-Some.piece) c.in_ok-fde.fde h.0 c.in_ok-fde.ensures.found h.3 in
+          rw broken.0 (refuses_by c.in-Err.broken _ _ (λ r stuck. inl (inr (hs.0, (hs.1, initials.run), between_stuck (FdeRuns t hs.0) (FdeBroken t hs.0) hs.0 v h.0 h.1 r h.2 v.so.run stuck)))
+          (c.in-Err.ensures.stuck hs.0 h.0 tells initials.each (c.pieces.invariant.2 hs.0 initials.each)))
+    ]
 
 pub returns-clause-found : goal.returns-clause-found
-returns-clause-found c = let q = c.requires.headers in (q.0, q.1, q.2, (walk_end _ c.headers.invariant c.in_default.ensures.gives q.0 (q.1, q.2, q.3)).0)
+returns-clause-found c =
+    let q = c.requires.cies in
+    let t = c.args.target in
+    let s = c.args.bytes.now in
+    let places = c.args.places.now in
+    let hs = headers_exist t s q.0 places c.args.initials.now q.1 q.2 (walk_end _ c.pieces.invariant.0 c.in_default.ensures.gives q.0 q.1) in
+    let none = λ (ks : List Head) (left : HeadsLeft places c.pieces.cursor ks). heads_none c.pieces.cursor.target places left.parts ks (c.in_default.ensures.gives left.parts left.left) left.each in
+    (hs.0, hs.1, c.requires.run hs.0 (of_headers t s q.0 places c.args.initials.now q.1 q.2 hs.0 hs.1), walk_end _ c.pieces.invariant.1 none hs.0 hs.1)

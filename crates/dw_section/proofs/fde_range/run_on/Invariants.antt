@@ -1,11 +1,13 @@
-use Rattle.dw_section.proofs.Words.{length, AreJudged, AreInitials, HeadsLeft, AreHeaders, IsRunner}
+use Rattle.dw_section.proofs.Words.{List, length, AllByRecursion, AreJudged, FdeHolds, Head, Headers, HeadsLeft, IsInitial, IsRunner, Pieces, PiecesLeft}
 use Rattle.dw_section.proofs.Walk.{Walk}
 use Rattle.dw_section.proofs.fde_range.run_on.Given as goal
 
-abbrev pub invariant-headers : goal.invariant-headers
-invariant-headers l =
-    Walk (HeadsLeft l.places) (λ hs. AreHeaders l.fn.target l.bytes l.places hs × AreInitials l.fn.target hs hs l.initials × IsRunner l.fn.target hs l.fn.runner)
-    (λ hs front. AreJudged l.fn.target hs front l.lacking l.list.items × IsRunner l.fn.target hs l.runner) (record { at = 0; bytes = l.bytes; target = l.fn.target }) l.cursor
+-- the fields so far hold; and of whatever headers the section has, these were judged
+abbrev pub invariant-pieces : goal.invariant-pieces
+invariant-pieces l =
+    Walk PiecesLeft (Pieces l.fn.target l.bytes) (λ ps. AllByRecursion (FdeHolds l.fn.target l.places)) (record { at = 0; bytes = l.bytes; target = l.fn.target }) l.cursor
+    × Walk (HeadsLeft l.places) (Headers l.fn.target l.bytes) (λ hs front. AreJudged l.fn.target hs front l.judged.lacking l.judged.list.items) (record { at = 0; bytes = l.bytes; target = l.fn.target }) l.cursor
+    × ((hs : List Head) → AllByRecursion (IsInitial l.fn.target hs) l.initials → IsRunner l.fn.target hs l.runner)
 
-abbrev pub decreases-headers : goal.decreases-headers
-decreases-headers l = length l.cursor.bytes
+abbrev pub decreases-pieces : goal.decreases-pieces
+decreases-pieces l = length l.cursor.bytes

@@ -30,4 +30,4 @@ returns-in_err-header_of-clause-first c =
 pub returns-clause-found : goal.returns-clause-found
 returns-clause-found c =
     let q = c.requires.cies in
-    (headers_so c.args.target c.args.bytes.now q.0 c.args.places.now _ q.1.0 q.2 (walk_end _ c.pieces.invariant c.in_default.ensures.gives q.0 q.1)).are
+    headers_so c.args.target c.args.bytes.now q.0 c.args.places.now _ q.1.0 q.2 (walk_end _ c.pieces.invariant c.in_default.ensures.gives q.0 q.1)

@@ -1,4 +1,4 @@
-use Rattle.dw_section.proofs.Words.{sym, ap, ◌∙◌, ◌++◌, take, subst, arith, List, AllByRecursion, Dwarf32, Initial, drop_more, take-append-drop, take_all, refuses_by}
+use Rattle.dw_section.proofs.Words.{sym, take, subst, AllByRecursion, Dwarf32, drop_more, take-append-drop, take_all, refuses_by}
 use Rattle.std.proofs.lemmas.List.{take_more}
 use Rattle.dw_section.proofs.KeptCies.{Ran, all_ran, first_broken}
 use Rattle.dw_section.proofs.Stages.{all_push, handed_on}

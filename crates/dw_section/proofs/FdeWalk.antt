@@ -1,0 +1,35 @@
+-- The walk that reads the fields of FDEs and runs their programs.
+use Rattle.dw_section.proofs.Words.{◌≡◌, ◌≤◌, ℕ, List, Option, Some, None, sym, ap, subst, ◌∙◌, inl, inr, IfSome, AllByRecursion, Form, Target, Refusal, Piece, Pieces, cie_places, FirstStuck, Head, Has, Headers, HeadersFault, FdeHolds, FdeStuck, FdeFits}
+use Rattle.dw_section.proofs.Words.{FdeEntry, SaysFde, Tells, entry_in, Initial, AreCies}
+use Rattle.dw_section.proofs.Items.{one_pieces}
+use Rattle.dw_section.proofs.Left.{headers_so}
+use Rattle.dw_section.proofs.Lent.HeaderLaws.{has_fde, has_one, heads_of}
+use Rattle.dw_section.proofs.Lent.Heads.{has_at, has_fits}
+
+-- ---- a piece
+
+module _ (target : Target) (places : List ℕ) (p : Piece) where
+  pub says_holds : (e : Option FdeEntry) → SaysFde target places p e → FdeHolds target places p
+  says_holds None says = λ is. absurd cc
+  says_holds (Some e) says = has_fde target places p (entry_in p.form e) says
+
+  pub says_tells : (e : Option FdeEntry) (h : Head) → SaysFde target places p e → Has target places p h → Tells e h
+  says_tells None h says (inl c) = subst (Tells None) (sym c.3) tt
+  says_tells None h says (inr f) = let is = f.2.0 in absurd cc
+  says_tells (Some e) h says has = (p.form, has_one target places p h (entry_in p.form e) has says)
+
+  pub says_fits : (e : Option FdeEntry) → p.at ≤ 2147483647 → SaysFde target places p e → IfSome e (λ f. (f.at ≤ 2147483647) × ((form : Form) × FdeFits target places (entry_in form f)))
+  says_fits None le says = tt
+  says_fits (Some e) le says = (subst (λ (n : ℕ). n ≤ 2147483647) (sym (has_at target places p (entry_in p.form e) says)) le, (p.form, has_fits target places p (entry_in p.form e) says))
+
+-- ---- a section whose CIEs hold
+
+module _ (target : Target) (s : List ℕ) (ps : List Piece) (at : List ℕ) (cs : List Initial) (cut : Pieces target s ps) (w : AreCies target ps at cs) where
+  pub places_at : (hs : List Head) (headers : Headers target s hs) → at ≡ cie_places headers.entries
+  places_at hs headers = w.are ∙ ap cie_places (one_pieces target s ps headers.entries cut headers.cut)
+
+  pub headers_exist : AllByRecursion (FdeHolds target at) ps → (hs : List Head) × Headers target s hs
+  headers_exist fdes = let heads = heads_of target at ps w.hold fdes in (heads.0, headers_so target s ps at heads.0 cut w.are heads.1)
+
+  pub fields_fault : (r : Refusal) → FirstStuck (FdeHolds target at) (FdeStuck target at) ps r → HeadersFault target s r
+  fields_fault r stuck = inr (ps, (cut, w.hold), subst (λ (l : List ℕ). FirstStuck (FdeHolds target l) (FdeStuck target l) ps r) w.are stuck)
