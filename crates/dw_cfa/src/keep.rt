@@ -155,8 +155,7 @@ impl<'a> Keep<'a> for Machine<'a> {
     // Out of line, as the loop that runs a program is large enough.
     #[inline(never)]
     fn restore(&mut self, register: u16, _at: u64, _fault: &mut Refusal) -> End {
-        let rule = self.initial.rule(register);
-        if self.states.set(register, rule).is_err() {
+        if self.states.set_as(&self.initial, register).is_err() {
             return End::OutOfMemory;
         }
         End::On

@@ -2,10 +2,11 @@
 
 ghost use Rattle.std.specs.Prelude.{◌≡◌, ◌<◌, [], ◌∷◌, length, reverse, Some, None, OnOk, IfOk, IsTrue, ◌↔◌, true, false};
 ghost use Rattle.dw_cfa.specs.Difference.{FirstDifference, place_behind};
-ghost use Rattle.dw_cfa.specs.Rows.{AreSpecified, blank};
+ghost use Rattle.dw_cfa.specs.Rows.{AreSpecified, blank, rule_in};
 ghost use Rattle.dw_cfa.specs.Inner.Rows.{with_cfa, with_rule};
 ghost use Rattle.dw_cfa.specs.Inner.States.{Held, first_if, BeganWith, Restored, TakenBack, rows_before};
 
+use crate::entries::NEAR;
 use crate::kept_row::KeptRow;
 use crate::row::Row;
 use crate::rule::{CfaRule, RegRule};
@@ -287,6 +288,23 @@ impl<'a> States<'a> {
         self.saved.marks.mark(register)?;
         self.rows.row().ascends();
         self.rows.set(register, rule)
+    }
+
+    /// Gives a register the rule that a row gives it, or answers want of memory.
+    #[inline(always)]
+    pub(crate) fn set_as(&mut self, row: &Row<'a>, register: u16) -> Result<(), AllocError>
+        ensures kept { self.new.kept ≡ self.old.kept }
+        ensures set { OnOk result (self.new ≡ record { row = with_rule register (rule_in row.now.registers register) self.old.row; stack = self.old.stack; first = self.old.first; kept = self.old.kept }) }
+    {
+        if register >= NEAR {
+            return self.set(register, row.rule(register));
+        }
+        if self.is_listed {
+            return self.change(register, row.rule(register));
+        }
+        self.saved.marks.mark(register)?;
+        self.rows.row().ascends();
+        self.rows.copy_rule(row, register)
     }
 
     // Lists the current row as one that is remembered.

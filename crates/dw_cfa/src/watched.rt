@@ -1,8 +1,8 @@
 //! The current row beside one that was kept (6.4.1).
 
-ghost use Rattle.std.specs.Prelude.{◌≡◌, ◌↔◌, IsTrue, OnErr, OnOk};
+ghost use Rattle.std.specs.Prelude.{◌≡◌, ◌<◌, ◌↔◌, IsTrue, OnErr, OnOk};
 ghost use Rattle.dw_cfa.specs.Difference.{FirstDifference, place_behind};
-ghost use Rattle.dw_cfa.specs.Rows.{AreSpecified, blank};
+ghost use Rattle.dw_cfa.specs.Rows.{AreSpecified, blank, rule_in};
 ghost use Rattle.dw_cfa.specs.Inner.Rows.{with_cfa, with_rule};
 ghost use Rattle.dw_cfa.specs.Inner.Marks.{KeptSo, watching};
 
@@ -73,6 +73,18 @@ impl<'a> WatchedRow<'a> {
         self.kept.marks.mark(register)?;
         self.row.ascends();
         self.row.set(register, rule)
+    }
+
+    /// Gives a register below 128 the rule that another row gives it, or answers want of memory.
+    #[inline(always)]
+    pub(crate) fn copy_rule(&mut self, other: &Row<'a>, register: u16) -> Result<(), AllocError>
+        requires { register < 128 }
+        ensures ok { OnOk result (self.new ≡ watching (with_rule register (rule_in other.now.registers register) self.old.row) self.old.kept) }
+        ensures err { OnErr result (self.new ≡ self.old) }
+    {
+        self.kept.marks.mark(register)?;
+        self.row.ascends();
+        self.row.copy_rule(other, register)
     }
 
     /// Goes on with a copy of another row, or answers want of memory.
