@@ -45,11 +45,6 @@ set_so (Ok x) old new kept row row' r rule h up so more marked is err = record {
 }
 set_so (Err x) old new kept row row' r rule h up so more marked ok is = rw is (more_so old new kept row.registers h so more)
 
--- the row becomes one that was saved, and what was set since is marked
-pub back_so : (old since new : Marks) (kept : List Entry) (saved row row' : Rules) → KeptSo old kept row.registers → KeptSo since saved.registers row.registers → MarksSo new → MarksMore old new → MarksMore since new → row' ≡ saved
-    → KeptSo new kept row'.registers
-back_so old since new kept saved row row' h back so more more' is = record { marks = so; same = λ q none. rw is (h.same q (more q none) ∙ sym (back.same q (more' q none))) }
-
 -- ---- both rows
 
 pub kept_exactly : (a b : Rules) (o : Option ℕ) (none : Bool) → a.cfa ≡ b.cfa → AreSpecified 0 a.registers → AreSpecified 0 b.registers → FirstDifference 0 a.registers b.registers o → is_some o ≡ not none

@@ -1,9 +1,8 @@
 -- Remembered rows, kept by what was changed since.
 use Rattle.dw_cfa.proofs.Words.{◌≡◌, ℕ, suc, ◌+◌, ◌-◌, ◌<◌, ◌≤◌, Bool, true, false, length-append, List, [], ◌∷◌, ◌++◌, length, reverse, Some, None, Result, OnOk, OnErr, Ok, Err, refl, sym, ap, ◌∙◌, subst, arith, append-nil, nil_from_length, reverse-append, AreSpecified, CfaRule, IsTrue, Watching, watching}
-use Rattle.dw_cfa.proofs.Words.{KeptRow, KeptSo, Marks, MarksMore, MarksSo, RegRule, Rules, Undo, Remembered, Register, rule_in, with_cfa, with_rule, Held, StatesSo, rows_before, first_if, shown, held, stacked, saved_if, BeganWith, TakenBack, Restored}
+use Rattle.dw_cfa.proofs.Words.{KeptRow, KeptSo, Marks, RegRule, Rules, Undo, Remembered, Register, rule_in, with_cfa, with_rule, Held, StatesSo, rows_before, first_if, shown, held, stacked, BeganWith, TakenBack, Restored}
 use Rattle.dw_cfa.proofs.Lent.RowLists.{Entry}
 use Rattle.std.proofs.lemmas.Result.{on_err_weaker, on_ok_weaker}
-use Rattle.dw_cfa.proofs.Marked.{more_so}
 use Rattle.dw_cfa.proofs.WideRows.{put_back, put_same}
 
 abbrev Before : Type 0
@@ -65,10 +64,6 @@ rows_set result rows row kept = on_ok_weaker result (λ same. ap (λ (w : Watchi
 pub rows_same : {X E : Type 0} (result : Result X E) (rows old : Watching) → OnErr result (rows ≡ old) → OnErr result (rows.row ≡ old.row)
 rows_same result rows old = on_err_weaker result (λ same. ap (λ (w : Watching). w.row) same)
 
-none_stacked : (b : Bool) (row : Rules) (rows : List Rules) → length (rows ++ saved_if b row) ≡ 0 → b ≡ false
-none_stacked false row rows e = refl
-none_stacked true row rows e = absurd (omega (arith, e, length-append rows (row ∷ [])))
-
 module _ (tracked is_listed : Bool) (saved : KeptRow) (row kept : Rules) (items : List Undo) (now : Held) (is : held tracked saved row kept items ≡ now) (depth : ℕ)
     (so : StatesSo tracked is_listed saved depth (rows_before row.registers (reverse items)) items) where
   abbrev before : Before
@@ -96,16 +91,14 @@ module _ (tracked is_listed : Bool) (saved : KeptRow) (row kept : Rules) (items 
     pub same_so : before' ≡ before → StatesSo tracked true saved depth before' items'
     same_so same = record { count = so.count ∙ ap (λ (b : Before). length (stacked saved b.0)) (sym same); unlisted = λ e. absurd cc; untracked = so.untracked; since = subst (λ (b : Before). KeptSo saved.marks saved.row.registers b.1) (sym same) so.since }
 
-    -- one row more
-    pub listed_held : before' ≡ (row ∷ before.0, before.1) → row' ≡ row → held tracked saved row' kept' items' ≡ record { row = now.row; stack = now.row ∷ now.stack; first = now.first; kept = kept' }
-    listed_held one same =
-        ap (shown tracked saved row' kept') one
-        ∙ ap (λ (x : Rules). let h : Held = record { row = x; stack = row ∷ stacked saved before.0; first = first_if tracked before.1; kept = kept' } in h) same
-        ∙ ap (λ (h : Held). let x : Held = record { row = h.row; stack = h.row ∷ h.stack; first = h.first; kept = kept' } in x) is
+  -- one row more
+  module _ (items' : List Undo) (one : rows_before row.registers (reverse items') ≡ (row ∷ before.0, before.1)) where
+    pub listed_held : held tracked saved row kept items' ≡ record { row = now.row; stack = now.row ∷ now.stack; first = now.first; kept = now.kept }
+    listed_held = ap (shown tracked saved row kept) one ∙ ap (λ (h : Held). let x : Held = record { row = h.row; stack = h.row ∷ h.stack; first = h.first; kept = h.kept } in x) is
 
-    pub listed_so : before' ≡ (row ∷ before.0, before.1) → StatesSo tracked true saved (depth + 1) before' items'
-    listed_so one =
-        let more : length (stacked saved before'.0) ≡ suc (length (stacked saved before.0)) = ap (λ (b : Before). length (stacked saved b.0)) one in
+    pub listed_so : StatesSo tracked true saved (depth + 1) (rows_before row.registers (reverse items')) items'
+    listed_so =
+        let more : length (stacked saved (rows_before row.registers (reverse items')).0) ≡ suc (length (stacked saved before.0)) = ap (λ (b : Before). length (stacked saved b.0)) one in
         record { count = omega (arith, so.count, more); unlisted = λ e. absurd cc; untracked = so.untracked; since = subst (λ (b : Before). KeptSo saved.marks saved.row.registers b.1) (sym one) so.since }
 
   -- nothing is listed: a register that is set is marked
@@ -131,31 +124,23 @@ module _ (tracked is_listed : Bool) (saved : KeptRow) (row kept : Rules) (items 
           since = rw new since;
         }
 
-    -- as it stood
-    pub since_so : MarksSo marks → MarksMore saved.marks marks → StatesSo tracked is_listed marked depth (rows_before row.registers (reverse items)) items
-    since_so ok more = record { count = rw same so.count; unlisted = so.unlisted; untracked = λ on. so.untracked (sym same ∙ on); since = more_so saved.marks marks saved.row.registers before.1 so.since ok more }
-
   -- nothing is listed before the current row
   pub since_row : is_listed ≡ false → KeptSo saved.marks saved.row.registers row.registers
   since_row free = subst (λ (b : Before). KeptSo saved.marks saved.row.registers b.1) (none_before row.registers items (so.unlisted free).1) so.since
 
   -- a row is saved where none is remembered
-  module _ (off : tracked ≡ false) (none : depth ≡ 0) (saved' : KeptRow) (kept' : Rules) (items' : List Undo) (empty : items' ≡ []) where
-    pub unsaved : saved.marks.watched ≡ false
-    unsaved = none_stacked saved.marks.watched saved.row before.0 (sym so.count ∙ none)
-
-    pub saved_held : saved'.row ≡ row → IsTrue saved'.marks.watched → held tracked saved' row kept' items' ≡ record { row = now.row; stack = now.row ∷ now.stack; first = now.first; kept = kept' }
+  module _ (off : tracked ≡ false) (none : depth ≡ 0) (saved' : KeptRow) (items' : List Undo) (empty : items' ≡ []) where
+    pub saved_held : saved'.row ≡ row → IsTrue saved'.marks.watched → held tracked saved' row kept items' ≡ record { row = now.row; stack = now.row ∷ now.stack; first = now.first; kept = now.kept }
     saved_held same on =
         let nothing = nil_from_length now.stack (omega (arith, none, depth_is)) in
         let first = sym (ap (λ (h : Held). h.first) is) ∙ ap (λ (t : Bool). first_if t before.1) off in
         let new = none_before row.registers items' empty in
-        rw (nothing, first, new, off, on, same, ← ap (λ (h : Held). h.row) is) refl
+        rw (nothing, first, new, off, on, same, ← ap (λ (h : Held). h.row) is, ← ap (λ (h : Held). h.kept) is) refl
 
     pub saved_so : (count : ℕ) → count ≡ length (stacked saved' []) → KeptSo saved'.marks saved'.row.registers row.registers → StatesSo tracked false saved' count (rows_before row.registers (reverse items')) items'
     saved_so count are since = let new = none_before row.registers items' empty in record { count = rw new are; unlisted = λ e. (off, empty); untracked = λ on. off; since = rw new since }
 
-  -- ---- changes are taken back
-
+  -- changes are taken back
   module _ (row' kept' : Rules) (items' : List Undo) where
     pub found_count : (cfa : CfaRule) → TakenBack (Some cfa) row (reverse items) row' (reverse items') → (1 ≤ depth) × (depth - 1 ≡ length (stacked saved (rows_before row'.registers (reverse items')).0))
     unfolding rows_before
@@ -187,11 +172,6 @@ module _ (tracked is_listed : Bool) (saved : KeptRow) (row kept : Rules) (items 
 
       pub none_since : KeptSo saved.marks saved.row.registers row'.registers
       none_since = subst (λ (b : Before). KeptSo saved.marks saved.row.registers b.1) taken_all so.since
-
-      pub none_so : StatesSo tracked is_listed saved depth (rows_before row'.registers (reverse items')) items'
-      none_so =
-          let same = none_before row'.registers items' none_left ∙ sym taken_all in
-          subst (λ (b : Before). StatesSo tracked is_listed saved depth b items') (sym same) (record { count = so.count; unlisted = λ e. ((so.unlisted e).0, none_left); untracked = so.untracked; since = so.since })
 
       pub none_held : saved.marks.watched ≡ false → now.stack ≡ []
       none_held off = ap (λ (h : Held). h.stack) (sym is) ∙ ap (λ (b : Before). stacked saved b.0) taken_all ∙ rw off refl
