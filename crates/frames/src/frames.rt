@@ -1,12 +1,15 @@
-//! Worked frames: plain ones, each fault, and a memory whose device fails.
+//! Worked frames, by a table and by its index: plain ones, each fault, and a memory whose device fails.
 
 ghost use Rattle.std.specs.Prelude.{◌+◌, ◌-◌, ◌<◌};
 ghost use Rattle.dw_unwind.specs.Ranges.{byte_in};
 
+use dw_cfa::RowRoom;
 use dw_eval::{Memory, Policy, ReadFault};
 use dw_num::{Order, Size, Target};
 use dw_section::check;
-use dw_unwind::{Dump, DumpMemory, Frame, FrameRoom, unwind};
+use dw_unwind::{
+    Dump, DumpMemory, Frame, FrameRoom, UnwindAtError, UnwindError, unwind, unwind_at,
+};
 use std::alloc::Global;
 use std::test::Fail;
 
@@ -91,6 +94,33 @@ fn frame_text(alloc: Global, frame: &Frame<'_>) -> Result<String, Fail> {
     Ok(text)
 }
 
+// Fails where another frame or fault is told.
+fn is_told(
+    alloc: Global,
+    answer: Result<Frame<'_>, UnwindError>,
+    wanted: &str,
+) -> Result<(), Fail> {
+    let told = match answer {
+        Ok(frame) => frame_text(alloc, &frame)?,
+        Err(error) => format!(in alloc; "{error:?}")?,
+    };
+    if told.as_str() != wanted {
+        return Err(Fail::new(format_args!("{told}, and not {wanted}")));
+    }
+    Ok(())
+}
+
+// By the index of the section itself nothing else is answered.
+fn own_error(
+    answer: Result<Frame<'_>, UnwindAtError>,
+) -> Result<Result<Frame<'_>, UnwindError>, Fail> {
+    match answer {
+        Ok(frame) => Ok(Ok(frame)),
+        Err(UnwindAtError::Unwind(error)) => Ok(Err(error)),
+        Err(error) => Err(Fail::new(format_args!("{error}"))),
+    }
+}
+
 /// A section, a dump, the read of memory that fails, where one does, and the frame or the fault.
 type Row<'a> = (&'a str, &'a str, u64, &'a str);
 
@@ -113,7 +143,7 @@ fn agree(
         reads: 0,
         failures: 0,
     };
-    let answer = match unwind(
+    let answer = unwind(
         alloc,
         &table,
         target,
@@ -123,14 +153,24 @@ fn agree(
         &mut memory,
         default,
         1_000,
-    ) {
-        Ok(frame) => frame_text(alloc, &frame)?,
-        Err(error) => format!(in alloc; "{error:?}")?,
-    };
-    if answer.as_str() != wanted {
-        return Err(Fail::new(format_args!("{answer}, and not {wanted}")));
-    }
-    Ok(())
+    );
+    is_told(alloc, answer, wanted)?;
+    memory.reads = 0;
+    memory.failures = 0;
+    let answer = unwind_at(
+        alloc,
+        &bytes,
+        target,
+        table.index(),
+        pc,
+        &mut RowRoom::new(alloc),
+        room,
+        &dump.registers,
+        &mut memory,
+        default,
+        1_000,
+    );
+    is_told(alloc, own_error(answer)?, wanted)
 }
 
 // At size 8, with the value of a register that has no rule.
