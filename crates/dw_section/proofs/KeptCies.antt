@@ -110,19 +110,13 @@ some_headers (c ∷ cs) = (c, cs, refl, refl, some_headers cs)
 
 -- ---- where they stand
 
-module _ (target : Target) where
-  at_next : (p : Piece) (ps : List Piece) (cs : List Initial) (k : Kind) → AllZip (IsRead target) (cons_option (if_cie k p) (cie_pieces ps)) cs → ((more : List Initial) → AllZip (IsRead target) (cie_pieces ps) more → map place_of more ≡ cie_places ps)
-      → map place_of cs ≡ cons_option (place_if k p.at) (cie_places ps)
-  at_next p ps [] kind.Cie read rest = absurd read
-  at_next p ps (c ∷ cs) kind.Cie read rest = let at : c.at ≡ p.at = has_at target [] p (initial_in p.form c) (read.0 []) in rw (at, rest cs read.1) refl
-  at_next p ps cs kind.Fde read rest = rest cs read
+at_each : (target : Target) (ps : List Piece) (cs : List Initial) → AllZip (IsRead target) ps cs → map place_of cs ≡ map (λ (p : Piece). p.at) ps
+at_each target [] [] read = refl
+at_each target (p ∷ ps) (c ∷ cs) read = let at : c.at ≡ p.at = has_at target [] p (initial_in p.form c) (read.0 []) in rw (at, at_each target ps cs read.1) refl
+at_each target ps cs read = absurd read
 
-  at_all : (ps : List Piece) (cs : List Initial) → AllZip (IsRead target) (cie_pieces ps) cs → map place_of cs ≡ cie_places ps
-  at_all [] cs read = rw (none_read target cs read) refl
-  at_all (p ∷ ps) cs read = at_next p ps cs p.kind read (at_all ps)
-
-  pub places_are : (ps : List Piece) (at : List ℕ) (cs : List Initial) → AreCies target ps at cs → map place_of cs ≡ at
-  places_are ps at cs w = at_all ps cs w.read ∙ sym w.are
+pub places_are : (target : Target) (ps : List Piece) (at : List ℕ) (cs : List Initial) → AreCies target ps at cs → map place_of cs ≡ at
+places_are target ps at cs w = at_each target (cie_pieces ps) cs w.read ∙ piece_places target ps ∙ sym w.are
 
 -- ---- as they run
 
