@@ -1,5 +1,5 @@
 -- A walk between the items that it has seen and those that are left.
-use Rattle.dw_section.proofs.Words.{◌≡◌, List, [], ◌∷◌, ◌++◌, refl, sym, ap, subst, ◌∙◌, append_assoc, append-nil, AllByRecursion, Refusal, FirstStuck, Head, IsAmong}
+use Rattle.dw_section.proofs.Words.{◌≡◌, List, [], ◌∷◌, ◌++◌, refl, sym, ap, subst, ◌∙◌, append_assoc, append-nil, AllByRecursion, Refusal, FirstStuck, IsAmong}
 use Rattle.dw_section.proofs.Stages.{among_here, holds_at}
 
 pub record Between {X : Type 0} (Left Front : List X → Type 0) (xs : List X) : Type 0 where
@@ -32,9 +32,9 @@ between_stuck Holds Stuck xs w x more r e hold stuck = record { before = w.front
 pub between_now : {X : Type 0} {Left Front : List X → Type 0} (Holds : X → Type 0) (xs : List X) (w : Between Left Front xs) (x : X) (more : List X) → w.rest ≡ x ∷ more → AllByRecursion Holds xs → Holds x
 between_now Holds xs w x more e all = holds_at Holds w.front x more (subst (AllByRecursion Holds) (w.whole ∙ ap (λ ys. w.front ++ ys) e) all)
 
--- the header that comes next is among them
-pub between_among : {Left Front : List Head → Type 0} (hs : List Head) (w : Between Left Front hs) (h : Head) (more : List Head) → w.rest ≡ h ∷ more → IsAmong h hs
-between_among hs w h more e = subst (IsAmong h) (sym (w.whole ∙ ap (λ ys. w.front ++ ys) e)) (among_here w.front h more)
+-- the item that comes next is among them
+pub between_among : {X : Type 0} {Left Front : List X → Type 0} (xs : List X) (w : Between Left Front xs) (x : X) (more : List X) → w.rest ≡ x ∷ more → IsAmong x xs
+between_among xs w x more e = subst (IsAmong x) (sym (w.whole ∙ ap (λ ys. w.front ++ ys) e)) (among_here w.front x more)
 
 -- what holds of those seen and of those left, and where one of those left is stuck
 both : {X : Type 0} (Holds : X → Type 0) (xs ys : List X) → AllByRecursion Holds xs → AllByRecursion Holds ys → AllByRecursion Holds (xs ++ ys)

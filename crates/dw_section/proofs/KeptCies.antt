@@ -1,27 +1,84 @@
 -- What is kept of CIEs as they are read, and what running their programs tells.
-use Rattle.dw_section.proofs.Words.{◌≡◌, ℕ, List, [], ◌∷◌, ◌++◌, length, refl, sym, ap, ◌∙◌, subst, arith, inl, inr, append-nil, length-append, filter_map-append, map, cons_option, Some, None, Dwarf32, all_zipped_more, AllByRecursion, AllZip, Form, Target, Refusal, Kind, Piece, CieHead}
-use Rattle.dw_section.proofs.Words.{Head, cie, fde, Has, Headers, Pieces, cie_places, place_if, place_of, CieHolds, CieRuns, CieBroken, FirstStuck, IsAmong, Initial, initial_head, initial_in, cie_pieces, if_cie, IsRead, AreCies, AreOf, AreInitials, IsInitial}
+use Rattle.dw_section.proofs.Words.{◌≡◌, ◌≤◌, ℕ, List, [], ◌∷◌, ◌++◌, length, refl, sym, ap, ◌∙◌, subst, arith, inl, inr, length-append, map, cons_option, Dwarf32, AllByRecursion, AllZip, Form, Target, Refusal, Kind, Piece, CieHead}
+use Rattle.dw_section.proofs.Words.{Head, cie, fde, Has, Headers, Pieces, cie_places, place_if, place_of, CieHolds, CieStuck, CieRuns, CieBroken, FirstStuck, IsAmong, Initial, initial_head, initial_in, cie_pieces, if_cie, IsRead, AreCies, AreOf, AreInitials, IsInitial}
 use Rattle.dw_section.specs.declared.entry.Kind.TheVariants as kind
+use Rattle.dw_section.proofs.Words.{StandsIn}
+use Rattle.dw_section.proofs.Between.{Between, between_among}
 use Rattle.dw_section.proofs.Items.{one_pieces}
+use Rattle.dw_section.proofs.StandLaws.{stands_in}
 use Rattle.dw_section.proofs.Lent.HeaderLaws.{has_cie, has_one}
 use Rattle.dw_section.proofs.Lent.Heads.{has_at}
-use Rattle.dw_section.proofs.Stages.{all_push}
+use Rattle.dw_section.proofs.Stages.{all_from_zip}
 
 -- ---- as they are read
 
-pub cies_more : (target : Target) (ps : List Piece) (at : List ℕ) (cs : List Initial) (p : Piece) (c : Initial) → AreCies target ps at cs → p.kind ≡ kind.Cie → IsRead target p c → AreCies target (ps ++ p ∷ []) (at ++ p.at ∷ []) (cs ++ c ∷ [])
-cies_more target ps at cs p c w is read = let here : if_cie p.kind p ≡ Some p = ap (λ (k : Kind). if_cie k p) is in record {
-  hold = all_push (CieHolds target) ps p w.hold (has_cie target [] p (initial_in p.form c) (read []));
-  are = rw (filter_map-append, w.are, is) refl;
-  read = rw (filter_map-append, here) (all_zipped_more (IsRead target) (cie_pieces ps) cs p c w.read read);
-}
+module _ (target : Target) where
+  -- the CIEs among pieces are pieces, and stand at these places
+  among_next : (p q : Piece) (ps : List Piece) (k : Kind) → p.kind ≡ k → IsAmong q (cons_option (if_cie k p) (cie_pieces ps)) → (IsAmong q (cie_pieces ps) → IsAmong q ps × (q.kind ≡ kind.Cie)) → IsAmong q (p ∷ ps) × (q.kind ≡ kind.Cie)
+  among_next p q ps kind.Cie is (inl e) rest = (inl e, rw e is)
+  among_next p q ps kind.Cie is (inr i) rest = let w = rest i in (inr w.0, w.1)
+  among_next p q ps kind.Fde is i rest = let w = rest i in (inr w.0, w.1)
 
-pub fdes_more : (target : Target) (ps : List Piece) (at : List ℕ) (cs : List Initial) (p : Piece) → AreCies target ps at cs → p.kind ≡ kind.Fde → AreCies target (ps ++ p ∷ []) at cs
-fdes_more target ps at cs p w is = let none : if_cie p.kind p ≡ None = ap (λ (k : Kind). if_cie k p) is in record {
-  hold = all_push (CieHolds target) ps p w.hold (λ e. absurd cc);
-  are = rw (filter_map-append, w.are, is, append-nil) refl;
-  read = rw (filter_map-append, none, append-nil) w.read;
-}
+  pub cie_among : (ps : List Piece) (q : Piece) → IsAmong q (cie_pieces ps) → IsAmong q ps × (q.kind ≡ kind.Cie)
+  cie_among [] q i = absurd i
+  cie_among (p ∷ ps) q i = among_next p q ps p.kind refl i (cie_among ps q)
+
+  piece_next : (p : Piece) (ps : List Piece) (k : Kind) → map (λ (q : Piece). q.at) (cie_pieces ps) ≡ cie_places ps → map (λ (q : Piece). q.at) (cons_option (if_cie k p) (cie_pieces ps)) ≡ cons_option (place_if k p.at) (cie_places ps)
+  piece_next p ps kind.Cie rest = ap (λ (l : List ℕ). p.at ∷ l) rest
+  piece_next p ps kind.Fde rest = rest
+
+  pub piece_places : (ps : List Piece) → map (λ (q : Piece). q.at) (cie_pieces ps) ≡ cie_places ps
+  piece_places [] = refl
+  piece_places (p ∷ ps) = piece_next p ps p.kind (piece_places ps)
+
+  -- where these hold, all pieces do
+  holds_next : (p : Piece) (ps : List Piece) (k : Kind) → p.kind ≡ k → AllByRecursion (CieHolds target) (cons_option (if_cie k p) (cie_pieces ps)) → (AllByRecursion (CieHolds target) (cie_pieces ps) → AllByRecursion (CieHolds target) ps) → AllByRecursion (CieHolds target) (p ∷ ps)
+  holds_next p ps kind.Cie is hold rest = (hold.0, rest hold.1)
+  holds_next p ps kind.Fde is hold rest = ((λ e. absurd cc), rest hold)
+
+  pub all_hold : (ps : List Piece) → AllByRecursion (CieHolds target) (cie_pieces ps) → AllByRecursion (CieHolds target) ps
+  all_hold [] hold = tt
+  all_hold (p ∷ ps) hold = holds_next p ps p.kind refl hold (all_hold ps)
+
+  -- and the first of them that is stuck is the first of all
+  stuck_next : (p : Piece) (ps before : List Piece) (it : Piece) (after : List Piece) (r : Refusal) (k : Kind) → p.kind ≡ k → cons_option (if_cie k p) (cie_pieces ps) ≡ before ++ it ∷ after → AllByRecursion (CieHolds target) before → CieStuck target it r
+      → ((front : List Piece) → cie_pieces ps ≡ front ++ it ∷ after → AllByRecursion (CieHolds target) front → FirstStuck (CieHolds target) (CieStuck target) ps r) → FirstStuck (CieHolds target) (CieStuck target) (p ∷ ps) r
+  stuck_next p ps [] it after r kind.Cie is whole hold stuck rest = let same : it ≡ p = cc in record { before = []; it = p; after = ps; whole = refl; hold = tt; stuck = subst (λ (q : Piece). CieStuck target q r) same stuck }
+  stuck_next p ps (b ∷ before) it after r kind.Cie is whole hold stuck rest =
+      let same : b ≡ p = cc in
+      let more : cie_pieces ps ≡ before ++ it ∷ after = cc in
+      let w = rest before more hold.1 in
+      record { before = p ∷ w.before; it = w.it; after = w.after; whole = ap (λ (l : List Piece). p ∷ l) w.whole; hold = (subst (CieHolds target) same hold.0, w.hold); stuck = w.stuck }
+  stuck_next p ps before it after r kind.Fde is whole hold stuck rest =
+      let w = rest before whole hold in
+      record { before = p ∷ w.before; it = w.it; after = w.after; whole = ap (λ (l : List Piece). p ∷ l) w.whole; hold = ((λ e. absurd cc), w.hold); stuck = w.stuck }
+
+  stuck_cie : (ps before : List Piece) (it : Piece) (after : List Piece) (r : Refusal) → cie_pieces ps ≡ before ++ it ∷ after → AllByRecursion (CieHolds target) before → CieStuck target it r → FirstStuck (CieHolds target) (CieStuck target) ps r
+  stuck_cie [] before it after r whole hold stuck = absurd (omega (arith, ap length whole, length-append before (it ∷ after)))
+  stuck_cie (p ∷ ps) before it after r whole hold stuck = stuck_next p ps before it after r p.kind refl whole hold stuck (λ front e all. stuck_cie ps front it after r e all stuck)
+
+  pub first_cie : (ps : List Piece) (r : Refusal) → FirstStuck (CieHolds target) (CieStuck target) (cie_pieces ps) r → FirstStuck (CieHolds target) (CieStuck target) ps r
+  first_cie ps r w = stuck_cie ps w.before w.it w.after r w.whole w.hold w.stuck
+
+  -- what is read holds
+  pub read_holds : (ps : List Piece) (cs : List Initial) → AllZip (IsRead target) ps cs → AllByRecursion (CieHolds target) ps
+  read_holds ps cs read = all_from_zip (IsRead target) (CieHolds target) (λ p c is. has_cie target [] p (initial_in p.form c) (is [])) ps cs read
+
+-- the next of them, where the places are known that are left
+next_of : (ps : List Piece) (at : ℕ) (more : List ℕ) → map (λ (q : Piece). q.at) ps ≡ at ∷ more → (p : Piece) × (rest : List Piece) × (ps ≡ p ∷ rest) × (p.at ≡ at) × (map (λ (q : Piece). q.at) rest ≡ more)
+next_of [] at more e = absurd cc
+next_of (p ∷ ps) at more e = (p, ps, refl, cc, cc)
+
+pub next_cie : {Left Front : List Piece → Type 0} (target : Target) (s : List ℕ) (ps : List Piece) (at : ℕ) (more : List ℕ) → Pieces target s ps → (w : Between Left Front (cie_pieces ps)) → map (λ (q : Piece). q.at) w.rest ≡ at ∷ more
+    → (p : Piece) × (rest : List Piece) × (w.rest ≡ p ∷ rest) × (p.at ≡ at) × (map (λ (q : Piece). q.at) rest ≡ more) × StandsIn target.order s p × (p.kind ≡ kind.Cie)
+next_cie target s ps at more cut w e =
+    let n = next_of w.rest at more e in
+    let among = cie_among target ps n.0 (between_among (cie_pieces ps) w n.0 n.1 n.2) in
+    (n.0, n.1, n.2, n.3, n.4, stands_in target s ps n.0 cut among.0, among.1)
+
+pub none_of : {left : List ℕ} (ps : List Piece) → map (λ (q : Piece). q.at) ps ≡ left → length left ≤ 0 → ps ≡ []
+none_of [] e none = refl
+none_of (p ∷ ps) e none = absurd (omega (arith, ap length e, none))
 
 -- ---- among headers
 
@@ -53,19 +110,13 @@ some_headers (c ∷ cs) = (c, cs, refl, refl, some_headers cs)
 
 -- ---- where they stand
 
-module _ (target : Target) where
-  at_next : (p : Piece) (ps : List Piece) (cs : List Initial) (k : Kind) → AllZip (IsRead target) (cons_option (if_cie k p) (cie_pieces ps)) cs → ((more : List Initial) → AllZip (IsRead target) (cie_pieces ps) more → map place_of more ≡ cie_places ps)
-      → map place_of cs ≡ cons_option (place_if k p.at) (cie_places ps)
-  at_next p ps [] kind.Cie read rest = absurd read
-  at_next p ps (c ∷ cs) kind.Cie read rest = let at : c.at ≡ p.at = has_at target [] p (initial_in p.form c) (read.0 []) in rw (at, rest cs read.1) refl
-  at_next p ps cs kind.Fde read rest = rest cs read
+at_each : (target : Target) (ps : List Piece) (cs : List Initial) → AllZip (IsRead target) ps cs → map place_of cs ≡ map (λ (p : Piece). p.at) ps
+at_each target [] [] read = refl
+at_each target (p ∷ ps) (c ∷ cs) read = let at : c.at ≡ p.at = has_at target [] p (initial_in p.form c) (read.0 []) in rw (at, at_each target ps cs read.1) refl
+at_each target ps cs read = absurd read
 
-  at_all : (ps : List Piece) (cs : List Initial) → AllZip (IsRead target) (cie_pieces ps) cs → map place_of cs ≡ cie_places ps
-  at_all [] cs read = rw (none_read target cs read) refl
-  at_all (p ∷ ps) cs read = at_next p ps cs p.kind read (at_all ps)
-
-  pub places_are : (ps : List Piece) (at : List ℕ) (cs : List Initial) → AreCies target ps at cs → map place_of cs ≡ at
-  places_are ps at cs w = at_all ps cs w.read ∙ sym w.are
+pub places_are : (target : Target) (ps : List Piece) (at : List ℕ) (cs : List Initial) → AreCies target ps at cs → map place_of cs ≡ at
+places_are target ps at cs w = at_each target (cie_pieces ps) cs w.read ∙ piece_places target ps ∙ sym w.are
 
 -- ---- as they run
 

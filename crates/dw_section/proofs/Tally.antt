@@ -1,34 +1,35 @@
--- Entries are counted as a section is walked.
-use Rattle.dw_section.proofs.Words.{◌≡◌, ℕ, ◌+◌, ◌≤◌, List, [], ◌∷◌, ◌++◌, length, refl, arith, length-append, append-nil, filter_map-append, Form, Target, length_bytes, Input, Takes, Kind, Cie, AreCounts, gap, entry, IsItem, item_bytes}
+-- Entries are counted as a section is walked, and the places of CIEs are kept.
+use Rattle.dw_section.proofs.Words.{◌≡◌, ℕ, ◌+◌, ◌≤◌, List, [], ◌∷◌, ◌++◌, length, refl, arith, length-append, append-nil, filter_map-append, Form, Target, length_bytes, Input, Takes, Kind, gap, entry, IsItem, item_bytes}
 use Rattle.dw_section.proofs.Words.{is_cie, Piece}
-use Rattle.dw_section.specs.declared.entry.EntryCounts.{EntryCounts}
-use Rattle.dw_section.specs.declared.entry.Kind.TheVariants.{Fde}
-use Rattle.dw_section.specs.Inner.Counts.{counted_by}
+use Rattle.dw_section.specs.declared.entry.Kind.TheVariants as kind
+use Rattle.dw_section.specs.Inner.Counts.{ArePlaced}
 use Rattle.dw_section.proofs.Items.{IsWalked, walked_more, walked_entry, item_some}
 
-counts_more : (ps : List Piece) (p : Piece) (n : EntryCounts) (kind : Kind) → p.kind ≡ kind → AreCounts ps n → AreCounts (ps ++ p ∷ []) (counted_by n kind)
-counts_more ps p n Cie is w = (rw (filter_map-append, length-append, is) (omega (arith, w.0)), rw length-append (omega (arith, w.1)))
-counts_more ps p n Fde is w = (rw (filter_map-append, length-append, is) (omega (arith, w.0)), rw length-append (omega (arith, w.1)))
+pub placed_cie : (ps : List Piece) (p : Piece) (cies : List ℕ) (fdes : ℕ) → p.kind ≡ kind.Cie → ArePlaced ps cies fdes → ArePlaced (ps ++ p ∷ []) (cies ++ p.at ∷ []) fdes
+placed_cie ps p cies fdes is w = record { cies = rw (filter_map-append, w.cies, is) refl; all = omega (arith, w.all, length-append cies (p.at ∷ []), length-append ps (p ∷ [])) }
+
+pub placed_fde : (ps : List Piece) (p : Piece) (cies : List ℕ) (fdes : ℕ) → p.kind ≡ kind.Fde → ArePlaced ps cies fdes → ArePlaced (ps ++ p ∷ []) cies (fdes + 1)
+placed_fde ps p cies fdes is w = record { cies = rw (filter_map-append, w.cies, is, append-nil) refl; all = omega (arith, w.all, length-append ps (p ∷ [])) }
 
 -- what a walk that counts knows
-pub record IsTallied (target : Target) (s : List ℕ) (now : Input) (n : EntryCounts) : Type 0 where
+pub record IsTallied (target : Target) (s : List ℕ) (now : Input) (cies : List ℕ) (fdes : ℕ) : Type 0 where
   pub parts : List Piece
   pub walked : IsWalked target s now parts
-  pub counts : AreCounts parts n
-  pub few : n.cies + n.fdes ≤ now.at
+  pub placed : ArePlaced parts cies fdes
+  pub few : length cies + fdes ≤ now.at
 
-pub tallied_entry : (target : Target) (s : List ℕ) (old new : Input) (n : EntryCounts) (form : Form) (kind : Kind) (place : ℕ) (body : List ℕ) → IsTallied target s old n
-    → IsItem (entry form body) → Takes old (item_bytes old.target.order (entry form body)) new → kind ≡ is_cie form body → place ≡ old.at + length (length_bytes old.target.order form (length body))
-    → IsTallied target s new (counted_by n kind)
-tallied_entry target s old new n form kind place body w is t kind-is place-is =
-    let part : Piece = record { at = old.at; form = form; kind = kind; contents = record { at = place; bytes = body } } in
-    let counts = counts_more w.parts part n kind refl w.counts in
+pub tallied_entry : (target : Target) (s : List ℕ) (old new : Input) (cies more : List ℕ) (fdes others : ℕ) (form : Form) (kind : Kind) (at place : ℕ) (body : List ℕ) → IsTallied target s old cies fdes
+    → IsItem (entry form body) → Takes old (item_bytes old.target.order (entry form body)) new → at ≡ old.at → kind ≡ is_cie form body → place ≡ old.at + length (length_bytes old.target.order form (length body))
+    → ((ps : List Piece) (p : Piece) → p.kind ≡ kind → p.at ≡ at → ArePlaced ps cies fdes → ArePlaced (ps ++ p ∷ []) more others) → IsTallied target s new more others
+tallied_entry target s old new cies more fdes others form kind at place body w is t at-is kind-is place-is next =
+    let part : Piece = record { at = at; form = form; kind = kind; contents = record { at = place; bytes = body } } in
+    let placed = next w.parts part refl refl w.placed in
     record {
       parts = w.parts ++ part ∷ [];
-      walked = walked_entry target s old new w.parts form kind old.at place body w.walked is t refl kind-is place-is;
-      counts = counts;
-      few = omega (arith, counts.1, length-append w.parts (part ∷ []), w.counts.1, w.few, t.at, item_some old.target.order (entry form body));
+      walked = walked_entry target s old new w.parts form kind at place body w.walked is t at-is kind-is place-is;
+      placed = placed;
+      few = omega (arith, placed.all, length-append w.parts (part ∷ []), w.placed.all, w.few, t.at, item_some old.target.order (entry form body));
     }
 
-pub tallied_gap : (target : Target) (s : List ℕ) (old new : Input) (n : EntryCounts) → IsTallied target s old n → Takes old (item_bytes old.target.order gap) new → IsTallied target s new n
-tallied_gap target s old new n w t = record { parts = w.parts; walked = rw append-nil at (walked_more target s old new w.parts gap w.walked tt t); counts = w.counts; few = omega (arith, t.at, w.few) }
+pub tallied_gap : (target : Target) (s : List ℕ) (old new : Input) (cies : List ℕ) (fdes : ℕ) → IsTallied target s old cies fdes → Takes old (item_bytes old.target.order gap) new → IsTallied target s new cies fdes
+tallied_gap target s old new cies fdes w t = record { parts = w.parts; walked = rw append-nil at (walked_more target s old new w.parts gap w.walked tt t); placed = w.placed; few = omega (arith, t.at, w.few) }

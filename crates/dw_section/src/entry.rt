@@ -1,6 +1,6 @@
 //! Cutting a section into its entries (6.4.1, 7.4).
 
-ghost use Rattle.std.specs.Prelude.{◌≡◌, ℕ, ◌+◌, ◌<◌, ◌≤◌, ◌==◌, List, length, take, MatchResult, IfOk, IfErr, IfSome};
+ghost use Rattle.std.specs.Prelude.{◌≡◌, ℕ, ◌+◌, ◌<◌, ◌≤◌, ◌==◌, List, [], ◌∷◌, ◌++◌, length, take, MatchResult, IfOk, IfErr, IfSome, OnOk};
 ghost use Rattle.std.specs.List.{list_all};
 ghost use Rattle.dw_num.specs.declared.target.Order.{Order};
 ghost use Rattle.dw_num.specs.declared.target.Target.{Target};
@@ -11,8 +11,7 @@ ghost use Rattle.dw_section.specs.Inner.Reads.{Gives};
 ghost use Rattle.dw_num.specs.Refusals.{Refuses};
 ghost use Rattle.dw_num.specs.declared.error.ReadError.TheVariants.{OutOfMemory};
 ghost use Rattle.dw_section.specs.Cut.{Cut, Item, IsItem, Piece, item_bytes, is_cie, id_width};
-ghost use Rattle.dw_section.specs.Counts.{AreCounts};
-ghost use Rattle.dw_section.specs.Inner.Counts.{counted_by};
+ghost use Rattle.dw_section.specs.Inner.Counts.{ArePlaced};
 ghost use Rattle.dw_section.specs.Inner.Left.{PiecesLeft, GivesPiece, GoesOn};
 ghost use Rattle.dw_section.specs.Pieces.{Pieces, Entries};
 ghost use Rattle.dw_section.specs.Inner.Pieces.{IsPlaced};
@@ -23,7 +22,7 @@ ghost use Rattle.dw_op.specs.Faults.{IsWithin};
 ghost use Rattle.dw_section.specs.declared.entry.Entry.{Entry};
 
 use dw_num::{Code, Cursor, Form, Program, ReadError, Refusal, Target};
-use std::alloc::Global;
+use std::alloc::{AllocError, Global};
 
 /// What an entry is (6.4.1).
 #[derive(Clone, Copy, Debug, PartialEq, Eq)]
@@ -187,40 +186,46 @@ fn start<'a>(bytes: &'a [u8], target: Target) -> Result<Cursor<'a>, Refusal>
     Ok(Cursor::new(bytes, 0, target))
 }
 
-// One entry more.
-fn counted(counts: EntryCounts, kind: Kind) -> EntryCounts
-    requires { counts.cies + counts.fdes ≤ 2147483647 }
-    ensures { result ≡ counted_by counts kind }
-{
-    match kind {
-        Kind::Cie => EntryCounts {
-            cies: counts.cies + 1,
-            fdes: counts.fdes,
-        },
-        Kind::Fde => EntryCounts {
-            cies: counts.cies,
-            fdes: counts.fdes + 1,
-        },
-    }
+/// Where the CIEs of a section stand, and how many FDEs it has.
+#[derive(Drop)]
+pub(crate) struct EntryPlaces {
+    pub(crate) cies: Vec<u64>,
+    pub(crate) fdes: usize,
 }
 
-/// Cuts a section, and counts its entries. Takes no memory.
-#[tactic(auto, using(crate::proofs::Tally::tallied_gap, crate::proofs::Tally::tallied_entry))]
-pub(crate) fn cut(bytes: &[u8], target: Target) -> Result<EntryCounts, Refusal>
-    ensures found { IfOk result (λ n. (ps : List Piece) × Pieces target bytes.now ps × AreCounts ps n) }
-    ensures first { IfErr result (CutFault target bytes.now) }
+// One entry more.
+fn keep_entry(places: &mut EntryPlaces, kind: Kind, at: u64) -> Result<(), AllocError>
+    requires { places.old.fdes ≤ 2147483647 }
+    ensures { (ps : List Piece) (p : Piece) → p.kind ≡ kind → p.at ≡ at → ArePlaced ps places.old.cies.items places.old.fdes → OnOk result (ArePlaced (ps ++ p ∷ []) places.new.cies.items places.new.fdes) }
+{
+    match kind {
+        Kind::Cie => places.cies.push(at)?,
+        Kind::Fde => places.fdes += 1,
+    }
+    Ok(())
+}
+
+/// Cuts a section, and keeps where its CIEs stand.
+#[tactic(auto, using(crate::proofs::Tally::tallied_gap))]
+pub(crate) fn cut(alloc: Global, bytes: &[u8], target: Target) -> Result<EntryPlaces, ReadError>
+    ensures found { IfOk result (λ n. (ps : List Piece) × Pieces target bytes.now ps × ArePlaced ps n.cies.items n.fdes) }
+    ensures first { IfErr result (Refuses (CutFault target bytes.now)) }
 {
     let mut cursor = start(bytes, target)?;
-    let mut counts = EntryCounts { cies: 0, fdes: 0 };
+    let mut places = EntryPlaces {
+        cies: Vec::new(alloc),
+        fdes: 0,
+    };
     'items: while cursor.left() > 0 {
+        let at = cursor.at();
         match next_part(&mut cursor)? {
             Part::Gap => {}
             Part::Entry(form, contents) => {
-                counts = counted(counts, kind_in(form, contents.bytes));
+                keep_entry(&mut places, kind_in(form, contents.bytes), at)?;
             }
         }
     }
-    Ok(counts)
+    Ok(places)
 }
 
 #[tactic(auto, using(crate::proofs::Items::listed_gap))]

@@ -17,7 +17,8 @@ ghost use Rattle.dw_section.specs.Pieces.{Pieces};
 ghost use Rattle.dw_section.specs.Inner.Pieces.{piece_in};
 ghost use Rattle.dw_section.specs.Places.{cie_places};
 ghost use Rattle.dw_section.specs.Inner.Places.{Rises};
-ghost use Rattle.dw_section.specs.Inner.Initials.{AreCies};
+ghost use Rattle.dw_section.specs.Inner.Initials.{AreCies, IsRead};
+ghost use Rattle.dw_section.specs.StandingFde.{StandsIn};
 ghost use Rattle.dw_section.specs.Inner.Left.{PiecesLeft};
 ghost use Rattle.dw_section.specs.Inner.PieceHeader.{SaysFde, cie_at, fde_at, initial_in, entry_in, program_of};
 ghost use Rattle.dw_section.specs.Headers.{Head, Has, Headers, head_in, CieHolds, CieStuck, CiesHold, FdeHolds, FdeStuck, CieFieldsFault, HeadersFault};
@@ -26,6 +27,7 @@ ghost use Rattle.dw_section.specs.Laws.{SomeHeaders};
 
 use crate::entry::{EntryCounts, Kind, Placed, cut, next_piece, width_of};
 use crate::fields::{read_cie, read_fde};
+use crate::standing_fde::cie_at;
 use dw_cfa::Factors;
 use dw_num::{Cursor, Form, Program, ReadError, Refusal, Target, are_bytes};
 use std::alloc::Global;
@@ -105,7 +107,7 @@ pub(crate) struct FdeEntry<'a> {
 pub(crate) fn read_initial<'a>(piece: &Placed<'a>, target: Target) -> Result<Initial<'a>, Refusal>
     requires { piece.now.kind ≡ kind.Cie }
     ensures exact { Answers (initial_in piece.now.form) result (cie_at target (piece_in piece.now)) }
-    ensures found { (places : List ℕ) → IfOk result (λ c. Has target places (piece_in piece.now) (initial_in piece.now.form c)) }
+    ensures found { IfOk result (IsRead target (piece_in piece.now)) }
 {
     let contents = piece.contents;
     are_bytes(contents.bytes);
@@ -212,50 +214,35 @@ pub(crate) struct Cies<'a> {
     pub(crate) initials: Vec<Initial<'a>>,
 }
 
-// Keeps what a piece says that is a CIE, and where it stands.
-#[tactic(auto, using(crate::proofs::Lent::HeaderLaws::cie_faulty))]
-fn keep_cie<'a>(cies: &mut Cies<'a>, piece: &Placed<'a>, target: Target) -> Result<(), ReadError>
-    ensures found { (ps : List Piece) → AreCies target ps cies.old.places.items cies.old.initials.items → OnOk result (AreCies target (ps ++ piece_in piece.now ∷ []) cies.new.places.items cies.new.initials.items) }
-    ensures counts { cies.new.counts ≡ cies.old.counts }
-    ensures first { IfErr result (Refuses (CieStuck target (piece_in piece.now))) }
+// Reads the CIE that stands at a place.
+fn read_cie_at<'a>(bytes: &'a [u8], at: u64, target: Target) -> Result<Initial<'a>, Refusal>
+    requires small { length bytes.now ≤ 2147483647 }
+    requires stands { (p : Piece) × StandsIn target.order bytes.now p × (p.at ≡ at) × (p.kind ≡ kind.Cie) }
+    ensures found { (p : Piece) → StandsIn target.order bytes.now p → p.at ≡ at → p.kind ≡ kind.Cie → IfOk result (IsRead target p) }
+    ensures stuck { (p : Piece) → StandsIn target.order bytes.now p → p.at ≡ at → p.kind ≡ kind.Cie → IfErr result (CieStuck target p) }
 {
-    match piece.kind {
-        Kind::Cie => {
-            let cie = read_initial(piece, target)?;
-            cies.places.push(piece.at)?;
-            cies.initials.push(cie)?;
-            Ok(())
-        }
-        Kind::Fde => Ok(()),
+    match cie_at(bytes, at, target)? {
+        Some(piece) => read_initial(&piece, target),
+        None => unreachable!(),
     }
 }
 
-// Reads the fields of the CIEs of a section that has a cut and so many of them.
-fn find_cies<'a>(
+// Reads the CIEs of a section that has a cut, which stand at these places.
+fn read_cies<'a>(
     alloc: Global,
     bytes: &'a [u8],
     target: Target,
-    counts: EntryCounts,
-) -> Result<Cies<'a>, ReadError>
-    requires pieces { (ps : List Piece) × Pieces target bytes.now ps × AreCounts ps counts }
-    ensures found { IfOk result (λ c. (ps : List Piece) × Pieces target bytes.now ps × AreCies target ps c.places.items c.initials.items) }
-    ensures counts { IfOk result (λ c. c.counts ≡ counts) }
+    places: &[u64],
+) -> Result<Vec<Initial<'a>>, ReadError>
+    requires pieces { (ps : List Piece) × Pieces target bytes.now ps × (places.now ≡ cie_places ps) }
+    ensures found { (ps : List Piece) → Pieces target bytes.now ps → places.now ≡ cie_places ps → IfOk result (λ v. AreCies target ps places.now v.items) }
     ensures first { IfErr result (Refuses (CieFieldsFault target bytes.now)) }
 {
-    let mut cies = Cies {
-        counts,
-        places: Vec::with_capacity(alloc, counts.cies)?,
-        initials: Vec::with_capacity(alloc, counts.cies)?,
-    };
-    let mut cursor = Cursor::new(bytes, 0, target);
-    'pieces: while let Some(piece) = next_piece(&mut cursor) {
-        keep_cie(&mut cies, &piece, target)?;
-        // Often all CIEs stand before the FDEs.
-        if cies.places.len() == counts.cies {
-            return Ok(cies);
-        }
+    let mut initials = Vec::with_capacity(alloc, places.len())?;
+    for at in places {
+        initials.push(read_cie_at(bytes, *at, target)?)?;
     }
-    Ok(cies)
+    Ok(initials)
 }
 
 /// What a piece says that is an FDE. Of a CIE it is nothing.
@@ -333,8 +320,16 @@ pub(crate) fn cies_of<'a>(
     ensures ascending { IfOk result (λ c. Rises 0 c.places.items) }
     ensures first { IfErr result (Refuses (CieFieldsFault target bytes.now)) }
 {
-    let counts = cut(bytes, target)?;
-    find_cies(alloc, bytes, target, counts)
+    let places = cut(alloc, bytes, target)?;
+    let initials = read_cies(alloc, bytes, target, &places.cies)?;
+    Ok(Cies {
+        counts: EntryCounts {
+            cies: places.cies.len(),
+            fdes: places.fdes,
+        },
+        places: places.cies,
+        initials,
+    })
 }
 
 fn all_headers<'a>(
@@ -357,7 +352,7 @@ fn all_headers<'a>(
 /// from left to right: `Truncated` (1), `BadVersion` (4), `Augmentation` (5), `AddressSize` (6), `SegmentSelector` (7),
 /// `NumberTooLarge` (8), `RegisterTooLarge` (9); then of the fields of FDEs by place: `Truncated` (1), `NoSuchCie` (10),
 /// `RangeTooLarge` (11). Each has its place at the field. `OutOfMemory` may come in place of any answer: memory is taken for the
-/// list and for the places of CIEs. A pointer is looked up by halving.
+/// list, and for the places and the fields of CIEs. A pointer is looked up by halving.
 pub fn headers<'a>(
     alloc: Global,
     bytes: &'a [u8],

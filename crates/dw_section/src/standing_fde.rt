@@ -68,9 +68,13 @@ pub(crate) fn piece_at<'a>(
     }
 }
 
-// The CIE that stands at a place, or none, or what is wrong there.
+/// The CIE that stands at a place, or none, or what is wrong there.
 #[inline(always)]
-fn cie_at<'a>(bytes: &'a [u8], at: u64, target: Target) -> Result<Option<Placed<'a>>, Refusal>
+pub(crate) fn cie_at<'a>(
+    bytes: &'a [u8],
+    at: u64,
+    target: Target,
+) -> Result<Option<Placed<'a>>, Refusal>
     requires { length bytes.now ≤ 2147483647 }
     ensures found { IfOk result (λ o. IfSome o (λ p. (p.at ≡ at) × (p.kind ≡ kind.Cie) × StandsIn target.order bytes.now (piece_in p))) }
     ensures within { IfErr result (IsWithin bytes.now) }

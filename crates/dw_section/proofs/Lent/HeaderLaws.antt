@@ -108,7 +108,7 @@ headers_hold target s hs p =
 pub pieces_rise : (target : Target) (s : List ℕ) (ps : List Piece) → Pieces target s ps → Rises 0 (cie_places ps)
 pieces_rise target s ps p = subst (λ (qs : List Piece). Rises 0 (cie_places qs)) (sym p.are) (places_rise target.order 0 p.items)
 
--- a CIE that holds is not refused
-pub cie_never : {X : Type 0} (view : X → Head) (target : Target) (p : Piece) (r : Result X Refusal) (Q : Refusal → Type 0) → CieHolds target p → p.kind ≡ kind.Cie → Answers view r (cie_at target p) → IfErr r Q
-cie_never view target p (Ok x) Q h is a = tt
-cie_never view target p (Err e) Q h is a = absurd (cie_apart target p e h (is, cie_faulty target p e a))
+-- a CIE that is refused is stuck
+pub cie_stuck : {X : Type 0} (view : X → Head) (target : Target) (p : Piece) (r : Result X Refusal) → p.kind ≡ kind.Cie → Answers view r (cie_at target p) → IfErr r (CieStuck target p)
+cie_stuck view target p (Ok x) is a = tt
+cie_stuck view target p (Err e) is a = (is, cie_faulty target p e a)

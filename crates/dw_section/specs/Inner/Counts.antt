@@ -1,10 +1,9 @@
 -- What the code and its proofs say beside Counts.
-use Rattle.std.specs.Prelude.{◌+◌}
-use Rattle.dw_section.specs.declared.entry.EntryCounts.{EntryCounts}
-use Rattle.dw_section.specs.declared.entry.Kind.{Kind}
-use Rattle.dw_section.specs.declared.entry.Kind.TheVariants.{Cie, Fde}
+use Rattle.std.specs.Prelude.{◌≡◌, ℕ, ◌+◌, List, length}
+use Rattle.dw_section.specs.Cut.{Piece}
+use Rattle.dw_section.specs.Places.{cie_places}
 
--- one more
-abbrev pub counted_by : EntryCounts → Kind → EntryCounts
-counted_by n Cie = record { cies = n.cies + 1; fdes = n.fdes }
-counted_by n Fde = record { cies = n.cies; fdes = n.fdes + 1 }
+-- the CIEs among pieces stand at these places, and so many are FDEs
+pub record ArePlaced (ps : List Piece) (at : List ℕ) (fdes : ℕ) : Type 0 where
+  pub cies : at ≡ cie_places ps
+  pub all : length at + fdes ≡ length ps

@@ -3,7 +3,7 @@ use Rattle.dw_section.proofs.Tally.{IsTallied}
 use Rattle.dw_section.proofs.entry.cut.Given as goal
 
 abbrev pub invariant-items : goal.invariant-items
-invariant-items l = IsTallied l.fn.target l.bytes l.cursor l.counts
+invariant-items l = IsTallied l.fn.target l.bytes l.cursor l.places.cies.items l.places.fdes
 
 abbrev pub decreases-items : goal.decreases-items
 decreases-items l = length l.cursor.bytes
