@@ -77,17 +77,14 @@ alike names.Rows = (refl, (refl, refl), (refl, refl), refl, refl)
 alike names.Same = (refl, (refl, refl), (refl, refl), refl, refl)
 alike names.Unwind = (refl, (refl, refl), (refl, refl), refl, refl)
 
-pub free : (o : Option Name) → is_simple_and_free (asked o) ≡ true
+free_of : (o : Option Name) → is_simple_and_free (asked o) ≡ true
 unfolding clap_on_literals
-free None = refl
-free (Some n) = (alike n).0
+free_of None = refl
+free_of (Some n) = (alike n).0
 
-pub simple : (o : Option Name) → is_simple (asked o) ≡ true
-simple o = (both (is_simple (asked o)) _ (free o)).0
-
-pub wanted : (o : Option Name) → (asked o).top.subcommand_required ≡ true
-wanted None = refl
-wanted (Some n) = refl
+wants_of : (o : Option Name) → (asked o).top.subcommand_required ≡ true
+wants_of None = refl
+wants_of (Some n) = refl
 
 -- words are read by either in the same way
 abbrev Same : App → App → List Text → Type 0
@@ -103,11 +100,25 @@ named_same n program rest =
       subcommand_is a word h.1 rest ∙ ap (option_map (λ s. rows_at s rest)) h.4 ∙ sym (subcommand_is b word h.2 rest),
     )
 
-pub same : (words : List Text) → Same (asked (asked_by words)) dwframe words
-same [] = (refl, refl)
-same (program ∷ []) = (refl, refl)
-same (program ∷ word ∷ rest) = go (name_of word) refl
+words_same : (words : List Text) → Same (asked (asked_by words)) dwframe words
+words_same [] = (refl, refl)
+words_same (program ∷ []) = (refl, refl)
+words_same (program ∷ word ∷ rest) = go (name_of word) refl
   where
     go : (o : Option Name) → name_of word ≡ o → Same (asked o) dwframe (program ∷ word ∷ rest)
     go None e = (refl, refl)
     go (Some n) e = rw (named word n e) (named_same n program rest)
+
+-- a command that is made for the words
+module _ (a : App) (words : List Text) (made : a ≡ asked (asked_by words)) where
+  pub free : is_simple_and_free a ≡ true
+  free = rw made (free_of (asked_by words))
+
+  pub simple : is_simple a ≡ true
+  simple = (both (is_simple a) _ free).0
+
+  pub wants : a.top.subcommand_required ≡ true
+  wants = rw made (wants_of (asked_by words))
+
+  pub same : Same a dwframe words
+  same = rw made (words_same words)

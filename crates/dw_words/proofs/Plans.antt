@@ -1,14 +1,19 @@
 -- From what clap says of words to what is planned.
-use Rattle.std.proofs.Common.{◌≡◌, ◌∙◌, true, false, List, [], Option, Some, None, option_map, Result, Ok, Err, refl, ap, ap₂, sym, inl, inr}
+use Rattle.std.proofs.Common.{◌≡◌, ◌∙◌, true, false, List, [], Option, Some, None, option_map, Result, Ok, Err, ap, ap₂, sym, inl, inr}
+use Rattle.std.specs.Box.{box_value}
 use Rattle.clap.specs.declared.error.Error.{Error}
-use Rattle.clap.specs.Words.{HasKind, Row, Text, fault_of, subcommand_of}
+use Rattle.clap.specs.declared.parser.matches.ArgMatches.{ArgMatches}
+use Rattle.clap.specs.declared.parser.matches.ArgMatches.TheViews.{out-ArgMatches, out-SubCommand}
+use Rattle.clap.specs.Words.{App, HasKind, HasMatchesOf, Row, Text, fault_of, found_of, is_simple_and_free, rows_of, subcommand_name_of, subcommand_of, subcommand_rows_of}
 use Rattle.dw_words.specs.CommandLine.{dwframe}
 use Rattle.dw_words.specs.declared.request.PlanError.{PlanError}
 use Rattle.dw_words.specs.declared.request.PlanError.TheVariants as errors
 use Rattle.dw_words.specs.declared.request.Request.{Request}
 use Rattle.dw_words.specs.declared.request.Request.TheVariants as requests
 use Rattle.dw_words.specs.Plan.{Planned, is_help}
-use Rattle.dw_words.specs.Inner.Plan.{Fails, FromFault, IsSupplied, run_in}
+use Rattle.dw_words.specs.Inner.CommandLine.{asked}
+use Rattle.dw_words.specs.Inner.Plan.{Fails, FromFault, IsSupplied, asked_by, run_in}
+use Rattle.dw_words.proofs.Asked.{free, same, simple}
 use Rattle.dw_words.proofs.Jobs.{none_asked}
 use Rattle.dw_words.proofs.Subcommands.{supplied}
 
@@ -16,13 +21,23 @@ module _ {X : Type 0} (f : X → Text) (g : X → List Row) where
   abbrev both : X → Text × List Row
   both x = (f x, g x)
 
-  pub pair_of : (o : Option X) (name : Text) (rows : List Row) → Some name ≡ option_map f o → Some rows ≡ option_map (λ (p : Text × List Row). p.1) (option_map both o) → option_map both o ≡ Some (name, rows)
+  pair_of : (o : Option X) (name : Text) (rows : List Row) → Some name ≡ option_map f o → Some rows ≡ option_map (λ (p : Text × List Row). p.1) (option_map both o) → option_map both o ≡ Some (name, rows)
   pair_of None name rows h k = absurd cc
   pair_of (Some x) name rows h k =
       let p : f x ≡ name = cc in
       let q : g x ≡ rows = cc in
       let P : Text → List Row → Option (Text × List Row) = λ a b. Some (a, b) in
       ap₂ P p q
+
+-- words that clap takes, by the command that was made for them
+pub taken : (a : App) (words : List Text) (m : ArgMatches) (name : Text) (rows : List Row) → a ≡ asked (asked_by words)
+    → (is_simple_and_free a ≡ true → fault_of a words ≡ []) → HasMatchesOf a words m
+    → Some name ≡ subcommand_name_of m → Some rows ≡ option_map (λ (p : Text × List Row). p.1) (subcommand_rows_of m)
+    → (fault_of dwframe words ≡ []) × (subcommand_of dwframe words ≡ Some (name, rows))
+taken a words m name rows made none matches named values =
+    let alike = same a words made in
+    let pair : subcommand_rows_of m ≡ Some (name, rows) = pair_of (λ b. (out-SubCommand (box_value b)).name.now) (λ b. rows_of (found_of (out-SubCommand (box_value b)).matches)) (out-ArgMatches m).subcommand name rows named values in
+    (sym alike.0 ∙ none (free a words made), sym ((matches (simple a words made)).1 ∙ alike.1) ∙ pair)
 
 -- words that clap takes, with a value that is none
 pub failed : (words : List Text) (name : Text) (values : List Row) (e : PlanError) → fault_of dwframe words ≡ [] → subcommand_of dwframe words ≡ Some (name, values)
