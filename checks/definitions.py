@@ -48,15 +48,25 @@ def read(path):
         return it.read()
 
 
+GROUP = re.compile(r"([^\s,{}]+)\.\{([^{}]*)\}")
+
+
+def items(path):
+    """The paths that a `use` line brings, which may have groups in groups."""
+    flat = path
+    while GROUP.search(flat):
+        flat = GROUP.sub(lambda it: ", ".join(f"{it[1]}.{name.strip()}" for name in it[2].split(",")), flat)
+    return [path] if flat == path else flat.split(", ")
+
+
 def imports(text, keyword):
     """What `use` lines bring: a short name, and the module and the name there, which is none for a module itself."""
     found = {}
     for line in re.findall(rf"^\s*{keyword} ([^;\n]+);?$", text, re.M):
-        group = re.match(r"(.*)\.\{(.*)\}$", line.strip())
-        parts = group[2].split(",") if group else [line]
-        for part in parts:
-            name, _, other = part.strip().partition(" as ")
-            found[other or name.rpartition(".")[2]] = (group[1], name) if group else (name, None)
+        for item in items(line.strip()):
+            path, _, other = item.partition(" as ")
+            module, _, name = path.rpartition(".")
+            found[other or name] = (module, name) if ".{" in line else (path, None)
     return found
 
 

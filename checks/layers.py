@@ -105,7 +105,8 @@ class Layers:
         """What a crate names of those below: definitions of specs/Inner, and lemmas."""
         inner, lemmas = set(), set()
         for module in self.files[crate]:
-            for at, name in self.uses[module].values():
+            for it in self.uses[module].values():
+                at, name = self.declared(*it) if it[1] else it
                 below = BELOW.match(f"{at}.")
                 if below and below[1] != crate:
                     (inner if below[2] == "specs.Inner" else lemmas).add((at, name or "*"))

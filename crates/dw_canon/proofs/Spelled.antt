@@ -2,12 +2,11 @@
 use Rattle.dw_canon.proofs.Words.{◌≡◌, ◌⊎◌, ℕ, zero, suc, ◌+◌, ◌*◌, ◌<◌, ◌^◌, true, false, List, [], ◌∷◌, ◌++◌, length, refl, sym, inl, inr, arith, ℤ, pos, negsuc, unsigned_abs, nat_lt, FitsSigned, IsTrue, w64, AllByRecursion, cases_Bool}
 use Rattle.dw_canon.proofs.Words.{ltb-true, lt-ltb, le-ltb, Target, Size, Four, Eight, Register, Fixed, Address, fixed_bytes, is_specified, shortest_uleb, shortest_sleb, byte_count, address_limit, shortest_uleb-spells, shortest_sleb-spells}
 use Rattle.dw_canon.proofs.Words.{least_block, Expression, Code, Both, least_block_exists, least_no_longer, block_of_least, Instr, SetLoc, Advance, DefCfa, DefCfaRegister, DefCfaOffset, DefCfaExpression, Set, Restore, RegRule, IsOffset}
-use Rattle.dw_canon.proofs.Words.{BlockSpells, InstrSpells, ProgramSpells, Plain, Factored, SignedFactored, AdvanceSpells, RuleSpells, IsSpelled, in_table, HasBlock, RuleFits, InstrFits, expression_bytes, rule_bytes, instr_bytes, program_bytes}
-use Rattle.dw_canon.proofs.Words.{advance_bytes, packed, factors}
+use Rattle.dw_canon.proofs.Words.{BlockSpells, InstrSpells, ProgramSpells, Plain, Factored, SignedFactored, AdvanceSpells, RuleSpells, IsSpelled, in_table, HasBlock, RuleFits, InstrFits, expression_bytes, rule_bytes, instr_bytes}
+use Rattle.dw_canon.proofs.Words.{program_bytes, advance_bytes, packed, factors, Alone}
 use Rattle.std.proofs.lemmas.Int.{fits_signed_from_abs}
-use Rattle.dw_op.specs.Inner.ByOperation.{Alone}
-use Rattle.dw_cfa.specs.declared.rule.RegRule.TheVariants as rules
 use Rattle.dw_canon.specs.Spelling.{instr_bytes as instr_with}
+use Rattle.dw_cfa.specs.declared.rule.RegRule.TheVariants as rules
 
 code : (c : ℕ) (P : List ℕ → Type 0) (rest : List ℕ) → P rest → Code c P (c ∷ rest)
 code c P rest h = record { rest = rest; operands = h; whole = refl }

@@ -1,11 +1,7 @@
 -- A row that becomes a copy of another one: the slots one after another, before the registers behind them.
-use Rattle.dw_cfa.proofs.Words.{◌≡◌, ℕ, List, ◌+◌, ◌≤◌, Some, None, refl, sym, ap, ◌∙◌, arith, cases_lt, bit_at, bit_at-zero, Entries, EntriesSo, FirstBit, entries_of, rule_in, put, CopiedUpTo, SameUnset}
-use Rattle.dw_cfa.proofs.Words.{◌<◌, get_or, inl, inr, is_specified, length, listed_from, near_rule, no_slot, rule_if, subst, AreSpecified, IsTrue, RegRule, SameSlots, Slot}
-use Rattle.std.proofs.lemmas.Nat.Bits.{bit_at-lt}
-use Rattle.dw_cfa.proofs.Lent.RowLists.{Entry}
-use Rattle.dw_cfa.proofs.Lent.SameRows.{same_entries}
-use Rattle.dw_cfa.proofs.Marked.{copied_next, copied_on}
-use Rattle.dw_cfa.proofs.Slots.{behind_slots, cases_bit, entries_ascend, not_set, rules_same, unset_rule}
+use Rattle.dw_cfa.proofs.Words.{◌≡◌, ℕ, List, ◌+◌, ◌≤◌, Some, None, refl, sym, ap, ◌∙◌, arith, cases_lt, bit_at, bit_at-zero, Entries, EntriesSo, FirstBit, entries_of, rule_in, put, CopiedUpTo, SameUnset, ◌<◌, get_or, inl, inr}
+use Rattle.dw_cfa.proofs.Words.{is_specified, length, listed_from, near_rule, no_slot, rule_if, subst, AreSpecified, IsTrue, RegRule, SameSlots, Slot, bit_at-lt}
+use Rattle.dw_cfa.proofs.{Lent.RowLists.Entry, Lent.SameRows.same_entries, Marked.{copied_next, copied_on}, Slots.{behind_slots, cases_bit, entries_ascend, not_set, rules_same, unset_rule}}
 
 module _ (old others : Entries) (so : EntriesSo old) (so' : EntriesSo others) (none : old.used ≡ 0) where
   unset : SameUnset others.used (entries_of old) (entries_of others)

@@ -1,10 +1,7 @@
 -- The first register whose rule differs between two rows.
-use Rattle.dw_cfa.proofs.Words.{◌≡◌, ℕ, suc, ◌+◌, ◌<◌, ◌≤◌, Bool, true, false, List, [], ◌∷◌, length, Option, Some, None, refl, sym, ap, ◌∙◌, subst, arith, bit_or, bit_at, filter, nat_cmp, range_contains, Bound, Unbounded}
-use Rattle.dw_cfa.proofs.Words.{if◌then◌else◌, nat_lt, nat_tests, Entries, Unspecified, AreSpecified, far_behind, rule_in, entries_of, EntriesSo, SameBetween, DiffersFirst, FirstDifference, place_behind, SameUnset, start_behind}
-use Rattle.dw_cfa.proofs.Lent.RowLists.{Entry, lower, unlisted}
-use Rattle.dw_cfa.proofs.Lent.SameRows.{first_rule, not_specified, same_entries}
-use Rattle.dw_cfa.proofs.Slots.{behind_slots, neither, not_set}
-use Rattle.dw_cfa.proofs.Lent.Narrowed.{filter_keeps, filter_rule}
+use Rattle.dw_cfa.proofs.Words.{◌≡◌, ℕ, suc, ◌+◌, ◌<◌, ◌≤◌, Bool, true, false, List, [], ◌∷◌, length, Option, Some, None, refl, sym, ap, ◌∙◌, subst, arith, bit_or, bit_at, filter, nat_cmp, range_contains, Bound, Unbounded, if◌then◌else◌}
+use Rattle.dw_cfa.proofs.Words.{nat_lt, nat_tests, Entries, Unspecified, AreSpecified, far_behind, rule_in, entries_of, EntriesSo, SameBetween, DiffersFirst, FirstDifference, place_behind, SameUnset, start_behind}
+use Rattle.dw_cfa.proofs.{Lent.RowLists.{Entry, lower, unlisted}, Lent.SameRows.{first_rule, not_specified, same_entries}, Slots.{behind_slots, neither, not_set}, Lent.Narrowed.{filter_keeps, filter_rule}}
 
 -- ---- two lists, from both fronts
 

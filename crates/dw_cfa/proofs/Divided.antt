@@ -2,10 +2,7 @@
 use Rattle.dw_cfa.proofs.Words.{◌≡◌, ℕ, ◌+◌, ◌<◌, List, [], ◌∷◌, ◌++◌, length, Option, None, Some, Ok, Err, refl, sym, ap, ◌∙◌, subst, append_assoc, arith, length-append, append-nil, AreBytes, Factors, Input, Instr, Placed, Read, Refusal}
 use Rattle.dw_cfa.proofs.Words.{Target, done, taken_bytes, InstrSpells, ProgramSpells, instr_at, Placing, place_of, placed}
 use Rattle.dw_op.specs.Inner.Walks.{put}
-use Rattle.dw_cfa.proofs.Lent.InstrLaws.{instr_found}
-use Rattle.dw_cfa.proofs.InstrAgain.{instr_again}
-use Rattle.dw_cfa.proofs.Placings.{placed_end, placed_step, placed_stuck, reads, some_spelled}
-use Rattle.dw_cfa.proofs.Lent.RowsAt.{instrs_of}
+use Rattle.dw_cfa.proofs.{Lent.InstrLaws.instr_found, InstrAgain.instr_again, Placings.{placed_end, placed_step, placed_stuck, reads, some_spelled}, Lent.RowsAt.instrs_of}
 
 abbrev pub input : ℕ → List ℕ → Target → Input
 input at bytes t = record { at = at; bytes = bytes; target = t }

@@ -3,8 +3,7 @@
 use Rattle.dw_cfa.proofs.Words.{◌≡◌, ℕ, zero, suc, ◌+◌, ◌<◌, List, [], ◌∷◌, ◌++◌, length, length-append, Some, refl, ap, arith, Instr, RememberState, RestoreState, look_back, cfa_change, rule_change, ◌↔◌, cond, slice_get, is_remember}
 use Rattle.dw_cfa.proofs.Words.{is_restore, remembered, restored, onto}
 use Rattle.dw_cfa.specs.Match.{IsBetween, MatchExists, RestoresMatched}
-use Rattle.dw_cfa.proofs.Lent.KeptLaws.{counted}
-use Rattle.dw_cfa.proofs.Lent.KeptRuns.{more_remembered, more_restored}
+use Rattle.dw_cfa.proofs.Lent.{KeptLaws.counted, KeptRuns.{more_remembered, more_restored}}
 
 -- an instruction among what has to be passed, by how it counts
 module _ (i : Instr) (inner inner' : ℕ) (e : cond (is_restore i) 1 0 + inner ≡ cond (is_remember i) 1 0 + inner') where

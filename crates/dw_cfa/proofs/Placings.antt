@@ -1,10 +1,8 @@
 -- A walk over a program, instruction by instruction, and what is left of it behind one.
 use Rattle.dw_cfa.proofs.Words.{◌≡◌, ℕ, zero, suc, ◌<◌, ◌≤◌, List, [], ◌∷◌, length, Some, None, Ok, Err, refl, sym, ap, ◌∙◌, arith, inl, inr, length-append, cases_lt, ◌^◌, AreBytes, Factors, Input, Instr, Read, Refusal, Size, Target}
-use Rattle.dw_cfa.proofs.Words.{address_limit, byte_count, SetLoc, InstrSpells, instr_at, InLimit, Placing, place_of, placed, ended, on_left, walked_by, taken_bytes}
-use Rattle.dw_num.specs.declared.target.Size.TheVariants.{Four, Eight}
+use Rattle.dw_cfa.proofs.Words.{address_limit, byte_count, SetLoc, InstrSpells, instr_at, InLimit, Placing, place_of, placed, ended, on_left, walked_by, taken_bytes, Four, Eight}
 use Rattle.dw_op.specs.Inner.Walks.{put}
-use Rattle.dw_cfa.proofs.Lent.Spellings.{IsSpelled, by_table}
-use Rattle.dw_cfa.proofs.Lent.InstrLaws.{instr_found}
+use Rattle.dw_cfa.proofs.Lent.{Spellings.{IsSpelled, by_table}, InstrLaws.instr_found}
 
 -- what is read is shorter by its spelling
 pub record Reads (f : Factors) (i : Input) (x : Instr × Input) : Type 0 where

@@ -1,6 +1,5 @@
 -- Products of operands and factors fit their types.
-use Rattle.dw_cfa.proofs.Words.{◌≡◌, ℕ, ◌*◌, ◌^◌, ◌<◌, ◌≤◌, ℤ, pos, negsuc, arith, ◌*ℤ◌, unsigned_abs, FitsSigned, w128, of_z, to_z, mul-le-mul, fits_signed_mul, to_z-of_z}
-use Rattle.std.specs.Int.{w64}
+use Rattle.dw_cfa.proofs.Words.{◌≡◌, ℕ, ◌*◌, ◌^◌, ◌<◌, ◌≤◌, ℤ, pos, negsuc, arith, ◌*ℤ◌, unsigned_abs, FitsSigned, w128, of_z, to_z, mul-le-mul, fits_signed_mul, to_z-of_z, w64}
 
 abs_below : (z : ℤ) → FitsSigned w64 z → unsigned_abs z ≤ 9223372036854775808
 abs_below (pos n) h = omega (arith, h)

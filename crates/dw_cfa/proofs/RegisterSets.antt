@@ -1,12 +1,8 @@
 -- Sets of registers: one register more, all of another set, and what two rows have in common among them.
 use Rattle.dw_cfa.proofs.Words.{◌≡◌, ◌⊎◌, ℕ, suc, ◌<◌, ◌||◌, Bool, true, false, List, ◌∷◌, Result, Ok, Err, OnErr, OnOk, refl, sym, ap, ◌∙◌, subst, arith, inl, inr, if◌then◌else◌, bit_or, bit_at_or, nat_tests, cases_Bool, IsTrue, ◌↔◌}
-use Rattle.dw_cfa.proofs.Words.{CfaRule, RegRule, Rules, Unset, Unspecified, AreSpecified, rule, rule_in, with_cfa, with_rule, InCommon, IsAgreed, is_agreed, same_rule, rule_tells, left, LeavesAmong, LeavesAt}
-use Rattle.dw_cfa.proofs.Words.{IsAdded, Marks, MarksMore, MarksSo, Unmarked, Registers, is_specified, AgreesBeside, has, in_mask, in_tree, marked}
-use Rattle.std.proofs.lemmas.Nat.Bits.{bit_at-lt}
-use Rattle.std.proofs.lemmas.Result.{on_err_weaker, on_ok_weaker}
-use Rattle.dw_cfa.proofs.Lent.RowLists.{Entry, lower, unlisted}
-use Rattle.dw_cfa.proofs.Lent.Equal.{common_rule, test_of}
-use Rattle.dw_cfa.proofs.Lent.Narrowed.{leaves_none, none_left}
+use Rattle.dw_cfa.proofs.Words.{CfaRule, RegRule, Rules, Unset, Unspecified, AreSpecified, rule, rule_in, with_cfa, with_rule, InCommon, IsAgreed, is_agreed, same_rule, rule_tells, left, LeavesAmong, LeavesAt, IsAdded, Marks, MarksMore}
+use Rattle.dw_cfa.proofs.Words.{MarksSo, Unmarked, Registers, is_specified, AgreesBeside, has, in_mask, in_tree, marked, bit_at-lt, on_err_weaker, on_ok_weaker}
+use Rattle.dw_cfa.proofs.Lent.{RowLists.{Entry, lower, unlisted}, Equal.{common_rule, test_of}, Narrowed.{leaves_none, none_left}}
 
 -- ---- registers that are put in
 

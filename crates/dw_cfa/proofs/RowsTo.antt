@@ -2,9 +2,7 @@
 use Rattle.dw_cfa.proofs.Words.{◌≡◌, ℕ, ◌<◌, ◌≤◌, Bool, true, false, List, [], ◌∷◌, length, Option, Some, None, Result, Ok, Err, refl, sym, ap, ◌∙◌, subst, arith, le-leb, le-ltb, lt-ltb, Factors, Input, Leading, LocatedRow, Machine}
 use Rattle.dw_cfa.proofs.Words.{Outcome, Progress, ReadError, Refusal, Refuses, Rules, IfErr, IfOk, Refused, OutOfMemory, or_here, last_at, left_above, rows_above, NeverFalls, finished, row_then, RanTo, RunsSo, here, rows_left, state_of}
 use Rattle.dw_cfa.proofs.Words.{AllSpecify, AreLeft, RanUpTo, WalkedTo}
-use Rattle.dw_cfa.proofs.Lent.RowsAt.{none_at}
-use Rattle.dw_cfa.proofs.RunSteps.{rows_end}
-use Rattle.dw_cfa.proofs.Lent.RunLaws.{left_from}
+use Rattle.dw_cfa.proofs.{Lent.RowsAt.none_at, RunSteps.rows_end, Lent.RunLaws.left_from}
 
 -- a row is the last one where no later one is
 here_is : (a : ℕ) (first : LocatedRow) (rows : List LocatedRow) → first.location ≤ a → last_at a rows ≡ None → last_at a (first ∷ rows) ≡ Some first.row

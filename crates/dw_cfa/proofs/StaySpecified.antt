@@ -2,14 +2,9 @@
 use Rattle.dw_cfa.proofs.Words.{◌≡◌, ℕ, Bool, true, List, [], ◌∷◌, Option, Some, None, Ok, Result, refl, sym, ap, ◌∙◌, subst, arith, inl, inr, IsTrue, AllZip, AreBytes, Factors, Input, Instr, Leading, LocatedRow, Machine, Outcome, Progress}
 use Rattle.dw_cfa.proofs.Words.{ReadError, Refusal, RegRule, Rules, Stepping, is_kept, kept, IsRowAfter, GivesUpTo, ends, is_specified, rule, GivesRow, RunsSo, rows_behind, rows_left, program_input, progress_after, AllKeep, AllSpecify}
 use Rattle.dw_cfa.proofs.Words.{Readied, WalkKeeps, finished, initial_of, walk_of}
+use Rattle.dw_cfa.proofs.{Lent.FaultLaws.initial_leaves, Lent.Narrowed.left_too, Lent.Openings.{AllSet, all_set, stays_specified}, Lent.RowLists.Entry, RunSteps.started, Walks.KeptWhere}
 use Rattle.dw_cfa.specs.declared.steps.Progress.TheVariants as progress
-use Rattle.dw_cfa.proofs.Lent.FaultLaws.{initial_leaves}
 use Rattle.dw_cfa.proofs.Lent.Given.{behind_runs}
-use Rattle.dw_cfa.proofs.Lent.Narrowed.{left_too}
-use Rattle.dw_cfa.proofs.Lent.Openings.{AllSet, all_set, stays_specified}
-use Rattle.dw_cfa.proofs.Lent.RowLists.{Entry}
-use Rattle.dw_cfa.proofs.RunSteps.{started}
-use Rattle.dw_cfa.proofs.Walks.{KeptWhere}
 
 -- ---- a run
 

@@ -1,15 +1,10 @@
 -- What can't be read as an instruction has the fault that the table of operands gives it.
 use Rattle.dw_cfa.proofs.Words.{◌≡◌, ℕ, ◌+◌, ◌^◌, List, ◌∷◌, Option, Some, None, Result, Ok, Err, refl, sym, ap, subst, ◌∙◌, ◌⊎◌, arith, inl, inr, option_map, unsigned_abs, cases_lt, lt-ltb, le-ltb, OffsetTooLarge, AreBytes, Factors, Input}
 use Rattle.dw_cfa.proofs.Words.{Instr, Op, Opcode, Read, Refusal, Target, Takes, fault, take_at, uleb_at, ◌>>=◌, Again, take_again, take_found, byte_again, done, uleb_found, uleb_again, taken_bytes, Frame, BlockFault, block_input}
-use Rattle.dw_cfa.proofs.Words.{decode_at, fault_found, opcode_of, form_of, Operand, expression, InstrForm, none, one, two, form_for, offset_of, leaving, expression_of, expression_in, block_in, after_length, block_at, operand_at, with_instr}
-use Rattle.dw_cfa.proofs.Words.{then_operand, form_at, judged, instr_at, known_at}
+use Rattle.dw_cfa.proofs.Words.{decode_at, fault_found, opcode_of, form_of, Operand, expression, InstrForm, none, one, two, form_for, offset_of, leaving, expression_of, expression_in, block_in, after_length, block_at, operand_at}
+use Rattle.dw_cfa.proofs.Words.{with_instr, then_operand, form_at, judged, instr_at, known_at, taken_is}
 use Rattle.dw_cfa.specs.InstrFaults.{ContentsFault, OperandFault, FormFault, CodeFault}
-use Rattle.dw_cfa.proofs.CodeForms.{form_known}
-use Rattle.dw_cfa.proofs.Divided.{input}
-use Rattle.dw_cfa.proofs.Expressions.{expression_refused}
-use Rattle.dw_cfa.proofs.Lent.InstrLaws.{FormWide, operand_finds, form_wide, form_finds, front_bytes}
-use Rattle.dw_cfa.proofs.InstrAgain.{operand_again, form_again}
-use Rattle.dw_num.proofs.Lent.ShortNumbers.{taken_is}
+use Rattle.dw_cfa.proofs.{CodeForms.form_known, Divided.input, Expressions.expression_refused, Lent.InstrLaws.{FormWide, operand_finds, form_wide, form_finds, front_bytes}, InstrAgain.{operand_again, form_again}}
 
 -- what is spelled at the front is read
 read_taken : {X : Type 0} (read : Input → Read X) (x : X) (front : List ℕ) (i new : Input) → Takes i front new → Again i.target read x front → read i ≡ done (x, new)

@@ -1,8 +1,10 @@
 -- What the table reads of an opcode is what the code reads.
 use Rattle.dw_cfa.proofs.Words.{◌≡◌, ℕ, ◌^◌, Bool, true, false, Option, Some, Ok, Err, refl, sym, ap, ◌∙◌, ℤ, pos, ◌*ℤ◌, unsigned_abs, nat_lt, Factors, Input, Instr, Opcode, Read, fixed_at, register_at, uleb_at, sleb_at, ◌>>=◌, DefCfa}
 use Rattle.dw_cfa.proofs.Words.{DefCfaOffset, opcode_of, form_of, offset_of, leaving, block_at, with_instr, form_at, judged, known_at, instr_at}
+use Rattle.dw_cfa.specs.Inner.ByOpcode.{offset_in, plain_in, plain_at, factored_in, factored_at, signed_in, signed_at, set_loc_at, advance_at, def_cfa_register_at, def_cfa_offset_at, def_cfa_offset_sf_at, def_cfa_expression_at, then_plain}
+use Rattle.dw_cfa.specs.Inner.ByOpcode.{def_cfa_at, then_signed, def_cfa_sf_at, restore_at, undefined_at, same_value_at, set_offset, set_val_offset, set_register, set_expression, set_val_expression, offset_at, then_offset}
+use Rattle.dw_cfa.specs.Inner.ByOpcode.{offset_extended_at, offset_extended_sf_at, then_factored, val_offset_at, val_offset_sf_at, then_register, register_rule_at, then_block, expression_at, val_expression_at, operands_at}
 use Rattle.dw_cfa.specs.declared.opcode.Opcode.TheVariants as opcodes
-use Rattle.dw_cfa.specs.Inner.ByOpcode.{offset_in, plain_in, plain_at, factored_in, factored_at, signed_in, signed_at, set_loc_at, advance_at, def_cfa_register_at, def_cfa_offset_at, def_cfa_offset_sf_at, def_cfa_expression_at, then_plain, def_cfa_at, then_signed, def_cfa_sf_at, restore_at, undefined_at, same_value_at, set_offset, set_val_offset, set_register, set_expression, set_val_expression, offset_at, then_offset, offset_extended_at, offset_extended_sf_at, then_factored, val_offset_at, val_offset_sf_at, then_register, register_rule_at, then_block, expression_at, val_expression_at, operands_at}
 
 module _ (at : ℕ) where
   -- an instruction without an offset is not judged

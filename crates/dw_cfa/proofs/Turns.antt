@@ -1,12 +1,9 @@
 -- One turn of the loop, in the rows still to come.
-use Rattle.dw_cfa.proofs.Words.{◌≡◌, ℕ, ◌<◌, ◌^◌, Bool, true, false, length, None, Ok, Err, refl, sym, ap, ◌∙◌, subst, AreBytes, End, Factors, Input, Instr, Machine, Read, Refusal, Rules, SetLoc, Advance, Restore, RememberState, RestoreState}
-use Rattle.dw_num.specs.declared.target.Size.{Size}
-use Rattle.dw_num.specs.declared.target.Size.TheVariants.{Four, Eight}
-use Rattle.dw_cfa.proofs.Words.{◌≤◌, arith, address_limit, moves_location, instr_at, fails, RunsSo, RanTo, WroteTo, IsAfter, State, after, written, cie_fault, state_of}
-use Rattle.dw_cfa.specs.declared.machine.End.TheVariants as ends
-use Rattle.dw_cfa.specs.Inner.Machine.{program_fault}
-use Rattle.dw_cfa.specs.Inner.Turns.{Did, Does, Entered, Stays, Taken, Turned, cie_machine}
+use Rattle.dw_cfa.proofs.Words.{◌≡◌, ℕ, ◌<◌, ◌^◌, Bool, true, false, length, None, Ok, Err, refl, sym, ap, ◌∙◌, subst, AreBytes, Factors, Input, Instr, Machine, Read, Refusal, Rules, SetLoc, Advance, Restore, RememberState, RestoreState}
+use Rattle.dw_cfa.proofs.Words.{Size, Four, Eight, ◌≤◌, arith, address_limit, moves_location, instr_at, fails, RunsSo, RanTo, WroteTo, IsAfter, State, after, written, cie_fault, state_of, program_fault}
+use Rattle.dw_cfa.specs.{declared.machine.End.End, Inner.Turns.{Did, Does, Entered, Stays, Taken, Turned, cie_machine}}
 use Rattle.dw_cfa.proofs.RunSteps.{fde_is, rows_stuck, rows_fault, rows_ran, initial_stuck, initial_fault, initial_wrote}
+use Rattle.dw_cfa.specs.declared.machine.End.TheVariants as ends
 
 abbrev Takes : Type 0 → Type 1
 Takes K = K → Instr → ℕ → End → Refusal → K → Type 0

@@ -1,13 +1,9 @@
 -- Lines of addresses, one behind another.
-use Rattle.std.proofs.Common.{◌≡◌, ◌∙◌, ℕ, zero, suc, ◌+◌, ◌<◌, ◌≤◌, Bool, true, false, List, [], ◌∷◌, ◌++◌, length, take, drop, Option, Some, None, Result, Ok, Err, refl, sym, ap, arith, inl, inr}
-use Rattle.std.specs.Prelude.{◌==◌}
+use Rattle.dw_command.proofs.Words.{◌≡◌, ◌∙◌, ℕ, zero, suc, ◌+◌, ◌<◌, ◌≤◌, Bool, true, false, List, [], ◌∷◌, ◌++◌, length, take, drop, Option, Some, None, Result, Ok, Err, refl, sym, ap, arith, inl, inr, ◌==◌, append_assoc, append-nil}
+use Rattle.dw_command.proofs.Words.{length-drop, Size, addresses_of, behind_line, ReadUpTo, behind, line_len}
 use Rattle.std.proofs.lemmas.Bool.Decides.{eqb_tells}
-use Rattle.std.proofs.lemmas.List.{append_assoc, append-nil, length-drop}
-use Rattle.dw_num.specs.declared.target.Size.{Size}
 use Rattle.dw_unwind.specs.Lines.{in_front, lines_of}
 use Rattle.dw_words.specs.Values.{address}
-use Rattle.dw_command.specs.Addresses.{addresses_of, behind_line}
-use Rattle.dw_command.specs.Inner.Lines.{ReadUpTo, behind, line_len}
 
 -- ---- the first line
 

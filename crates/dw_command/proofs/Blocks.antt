@@ -1,14 +1,6 @@
 -- What has a block in a profile has a block, and is not too far.
-use Rattle.std.proofs.Common.{◌≡◌, ℕ, List, Result, Ok, Err, sym, subst}
-use Rattle.std.specs.Prelude.{IfErr}
-use Rattle.dw_num.specs.declared.target.Target.{Target}
-use Rattle.dw_op.specs.declared.op.Op.{Op}
-use Rattle.dw_op.specs.declared.least_block.EncodeError.{EncodeError}
-use Rattle.dw_op.specs.declared.least_block.EncodeError.TheVariants.{BranchTooFar, OutOfMemory}
-use Rattle.dw_op.specs.declared.profile.Profile.{Profile}
-use Rattle.dw_op.specs.declared.profile.Profile.TheVariants.{Frame, Location}
-use Rattle.dw_op.specs.Block.{Block}
-use Rattle.dw_op.specs.Faults.{IsBlock}
+use Rattle.dw_command.proofs.Words.{◌≡◌, ℕ, List, Result, Ok, Err, sym, subst, IfErr, Target, Op, Location, IsBlock}
+use Rattle.dw_op.specs.{declared.least_block.EncodeError.EncodeError, declared.least_block.EncodeError.TheVariants.{BranchTooFar, OutOfMemory}, declared.profile.Profile.Profile, declared.profile.Profile.TheVariants.Frame, Block.Block}
 
 pub is_block : (profile : Profile) (t : Target) (ops : List Op) (bytes : List ℕ) → IsBlock profile t ops bytes → Block t ops bytes
 is_block Frame t ops bytes h = h.0

@@ -1,14 +1,9 @@
 -- Hexadecimal digits without leading zeros, and how many they are.
-use Rattle.std.proofs.Common.{◌≡◌, ◌∙◌, ◌⊎◌, inl, inr, ℕ, zero, suc, ◌+◌, ◌-◌, ◌*◌, ◌/◌, ◌%◌, ◌^◌, ◌<◌, ◌≤◌, ◌==◌, Bool, true, false, List, [], ◌∷◌, ◌++◌, length, take, refl, ap, ap₂, sym, arith, codes, ⊎_elim}
-use Rattle.std.specs.Prelude.{nat_lt, if◌then◌else◌, min}
+use Rattle.dw_command.proofs.Words.{◌≡◌, ◌∙◌, ◌⊎◌, inl, inr, ℕ, zero, suc, ◌+◌, ◌-◌, ◌*◌, ◌/◌, ◌%◌, ◌^◌, ◌<◌, ◌≤◌, ◌==◌, Bool, true, false, List, [], ◌∷◌, ◌++◌, length, take, refl, ap, ap₂, sym, arith, codes, ⊎_elim, nat_lt, if◌then◌else◌}
+use Rattle.dw_command.proofs.Words.{min, digit_glyph, digits, digits_onto, eqb-true, ltb-true, ltb-false, append_assoc, append-nil, length-append, leading_top, pow-add, eq-or-lt_of_le, mod-eq_of_lt, mul_assoc, mul-lt-mul_of_pos_right}
+use Rattle.dw_command.proofs.Words.{pow-suc, take-append-add, take-append_seam, last_digits}
 use Rattle.std.specs.Int.Count.{count_leading_zeros, leading_of_zero}
-use Rattle.std.specs.Fmt.{digit_glyph, digits, digits_onto}
-use Rattle.std.proofs.lemmas.Bool.{eqb-true, ltb-true, ltb-false}
-use Rattle.std.proofs.lemmas.List.{append_assoc, append-nil, length-append}
-use Rattle.std.proofs.lemmas.Nat.{leading_top, pow-add}
-use Rattle.std.proofs.Math.Nat.{eq-or-lt_of_le, mod-eq_of_lt, mul_assoc, mul-lt-mul_of_pos_right, one-le-pow, pow-le-pow_right, pow-suc}
-use Rattle.std.proofs.Math.Seq.{take-append-add, take-append_seam}
-use Rattle.dw_command.specs.Inner.Hex.{last_digits}
+use Rattle.std.proofs.Math.Nat.{one-le-pow, pow-le-pow_right}
 
 -- ---- the digits of a number that has so many
 

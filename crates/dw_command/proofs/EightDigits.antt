@@ -1,13 +1,7 @@
 -- Hexadecimal digits of all bytes at once.
-use Rattle.std.proofs.Common.{◌≡◌, ◌∙◌, ℕ, zero, suc, ◌+◌, ◌-◌, ◌*◌, ◌/◌, ◌%◌, ◌^◌, ◌<◌, Bool, true, false, List, [], ◌∷◌, get_or, map, refl, ap, ap₂, sym, arith, w64}
-use Rattle.std.proofs.Math.Nat.{mul_assoc, mul_comm, add-mul, mod-eq_of_lt}
-use Rattle.std.specs.Prelude.{nat_lt, if◌then◌else◌}
-use Rattle.std.specs.Int.{to_be_bytes, from_be_bytes}
-use Rattle.std.specs.Int.Bits.{bit_and, bit_or, or_zero_l, or_zero_r, and_zero_r}
-use Rattle.std.specs.Fmt.{digit_glyph}
-use Rattle.std.proofs.lemmas.Bool.{ltb-true, ltb-false}
-use Rattle.std.proofs.lemmas.Nat.{and_mask, and_block, or_block, or_lt, be_bytes_8}
-use Rattle.dw_command.specs.Inner.Hex.{last_digits}
+use Rattle.dw_command.proofs.Words.{◌≡◌, ◌∙◌, ℕ, zero, suc, ◌+◌, ◌-◌, ◌*◌, ◌/◌, ◌%◌, ◌^◌, ◌<◌, Bool, true, false, List, [], ◌∷◌, get_or, map, refl, ap, ap₂, sym, arith, w64, mul_assoc, mul_comm, add-mul, mod-eq_of_lt, nat_lt, if◌then◌else◌}
+use Rattle.dw_command.proofs.Words.{bit_and, bit_or, digit_glyph, ltb-true, ltb-false, and_mask, and_block, or_block, or_lt, be_bytes_8, last_digits}
+use Rattle.std.specs.{Int.{to_be_bytes, from_be_bytes}, Int.Bits.{or_zero_l, or_zero_r, and_zero_r}}
 
 -- ---- blocks
 

@@ -1,51 +1,20 @@
 -- Runs that end: a load of later files, and what a call that writes becomes.
-use Rattle.std.proofs.Common.{◌≡◌, ◌∙◌, ◌⊎◌, ℕ, List, [], length, Option, Some, None, option_map, Result, Ok, Err, refl, inl, inr, subst, sym}
-use Rattle.std.specs.Io.KnownBytes.{Appends}
-use Rattle.std.proofs.KnownBytes.{Appends-trans, Keeps-refl}
-use Rattle.std.proofs.lemmas.List.{append-nil}
-use Rattle.std.specs.Result.{MatchResult, result_map_both}
-use Rattle.clap.specs.Words.{Text}
-use Rattle.dw_num.specs.declared.target.Target.{Target}
-use Rattle.dw_num.specs.declared.error.ReadError.{ReadError}
-use Rattle.dw_num.specs.Refusals.{Refuses}
-use Rattle.dw_num.specs.declared.error.ReadError.TheVariants as read_error
-use Rattle.dw_op.specs.declared.op.Op.{Op}
-use Rattle.dw_op.specs.declared.profile.Profile.TheVariants.{Location}
-use Rattle.dw_op.specs.Faults.{BlockFault, IsBlock}
-use Rattle.dw_eval.specs.declared.error.EvalError.{EvalError}
-use Rattle.dw_eval.specs.declared.error.EvalError.TheVariants as eval_error
-use Rattle.dw_eval.specs.Evaluation.{Evaluates, first_stack}
-use Rattle.dw_normal.specs.declared.error.WriteError.{WriteError}
-use Rattle.dw_normal.specs.declared.error.WriteError.TheVariants as write_error
-use Rattle.dw_section.specs.Table.{Section}
-use Rattle.dw_section.specs.Accepted.{Accepted}
-use Rattle.dw_section.specs.Counts.{AreCounts}
-use Rattle.dw_section.specs.Cut.{Piece}
-use Rattle.dw_section.specs.Meaning.{RowStarts}
-use Rattle.dw_section.specs.Pieces.{Pieces}
+use Rattle.dw_command.proofs.Words.{◌≡◌, ◌∙◌, ◌⊎◌, ℕ, List, [], length, Option, Some, None, option_map, Result, Ok, Err, refl, inl, inr, subst, sym, Appends, Appends-trans, Keeps-refl, append-nil, MatchResult, Text, Target, Op, Location}
+use Rattle.dw_command.proofs.Words.{BlockFault, IsBlock, Section, Accepted, RowStarts, LoadError, Failure, Evaluation, Lookup, Unwinding, lines_in, At, at_text, Asks, AtEnds, Before, Checks, Costs, CostsBehind, EvalEnds, Frames, HasCounts}
+use Rattle.dw_command.proofs.Words.{Loads, LoadsDump, LoadsText, Normalises, OverFile, Parses, Prints, PrintsOf, Tells, AndThen, UnwindEnds, Unprinted, Values, costs_text, Output, frame_text, lines, value_text}
+use Rattle.std.specs.Result.{result_map_both}
+use Rattle.dw_num.specs.{declared.error.ReadError.ReadError, Refusals.Refuses}
+use Rattle.dw_eval.specs.{declared.error.EvalError.EvalError, Evaluation.{Evaluates, first_stack}, declared.policy.Policy.Policy}
+use Rattle.dw_normal.specs.{declared.error.WriteError.WriteError, Answers.{FitsCap, Writes}}
+use Rattle.dw_section.specs.{Counts.AreCounts, Cut.Piece, Pieces.Pieces, declared.entry.EntryCounts.EntryCounts}
 use Rattle.dw_canon.specs.Normal.{IsNormalForm}
-use Rattle.dw_section.specs.declared.entry.EntryCounts.{EntryCounts}
-use Rattle.dw_normal.specs.Answers.{FitsCap, Writes}
-use Rattle.dw_unwind.specs.declared.dump.Dump.{Dump}
-use Rattle.dw_unwind.specs.declared.frame.Frame.{Frame}
-use Rattle.dw_eval.specs.declared.policy.Policy.{Policy}
-use Rattle.dw_unwind.specs.declared.frame.UnwindError.{UnwindError}
+use Rattle.dw_unwind.specs.{declared.dump.Dump.Dump, declared.frame.Frame.Frame, declared.frame.UnwindError.UnwindError, Ranges.byte_in, Unwound.{Unwound, stopped}}
+use Rattle.dw_command.specs.{Failure.of_read, Inner.Failure.of_write}
+use Rattle.dw_num.specs.declared.error.ReadError.TheVariants as read_error
+use Rattle.dw_eval.specs.declared.error.EvalError.TheVariants as eval_error
+use Rattle.dw_normal.specs.declared.error.WriteError.TheVariants as write_error
 use Rattle.dw_unwind.specs.declared.frame.UnwindError.TheVariants as unwind_error
-use Rattle.dw_unwind.specs.Ranges.{byte_in}
-use Rattle.dw_unwind.specs.Unwound.{Unwound, stopped}
-use Rattle.dw_command.specs.declared.files.LoadError.{LoadError}
-use Rattle.dw_command.specs.declared.failure.Failure.{Failure}
 use Rattle.dw_command.specs.declared.failure.Failure.TheVariants as failures
-use Rattle.dw_words.specs.declared.request.Evaluation.{Evaluation}
-use Rattle.dw_words.specs.declared.request.Lookup.{Lookup}
-use Rattle.dw_words.specs.declared.request.Unwinding.{Unwinding}
-use Rattle.dw_command.specs.Addresses.{lines_in}
-use Rattle.dw_command.specs.RowTexts.{At, at_text}
-use Rattle.dw_command.specs.Answers.{Asks, AtEnds, Before, Checks, Costs, CostsBehind, EvalEnds, Frames, HasCounts, Loads, LoadsDump, LoadsText, Normalises, OverFile, Parses, Prints, PrintsOf, Tells, AndThen, UnwindEnds, Unprinted, Values, costs_text}
-use Rattle.dw_command.specs.Output.{Output}
-use Rattle.dw_command.specs.Texts.{frame_text, lines, value_text}
-use Rattle.dw_command.specs.Failure.{of_read}
-use Rattle.dw_command.specs.Inner.Failure.{of_write}
 
 -- what later files give, the earlier ones may give
 module _ (old new : Text → Result (List ℕ) LoadError → Type 0) (same : (p : Text) (r : Result (List ℕ) LoadError) → new p r → old p r) where

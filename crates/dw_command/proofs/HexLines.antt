@@ -1,7 +1,6 @@
 -- Bytes as hexadecimal digits, byte by byte.
-use Rattle.std.proofs.Common.{◌≡◌, ℕ, zero, suc, ◌+◌, ◌/◌, ◌%◌, ◌<◌, ◌==◌, false, List, [], ◌∷◌, ◌++◌, codes, length, take, get_or, slice_index, refl, ap, arith, Result, Ok, Err, IsOk, OnOk}
-use Rattle.hex.specs.Hex.{encode_lower, encode_with, lower_digits}
-use Rattle.dw_command.specs.Texts.{least_text, line_end}
+use Rattle.dw_command.proofs.Words.{◌≡◌, ℕ, zero, suc, ◌+◌, ◌/◌, ◌%◌, ◌<◌, ◌==◌, false, List, [], ◌∷◌, ◌++◌, codes, length, take, get_or, slice_index, refl, ap, arith, Result, Ok, Err, IsOk, OnOk, encode_lower, encode_with, lower_digits}
+use Rattle.dw_command.proofs.Words.{least_text, line_end}
 
 pub encode_none : encode_lower [] ≡ []
 unfolding encode_with

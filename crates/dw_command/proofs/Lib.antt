@@ -1,3 +1,4 @@
+mod Words
 pub mod AddressLines
 pub mod Blocks
 pub mod Digits

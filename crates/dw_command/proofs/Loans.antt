@@ -1,27 +1,12 @@
 -- What a run tells of an output that is lent, and what the output holds behind it.
-use Rattle.std.proofs.Common.{◌≡◌, ◌∙◌, ℕ, ◌-◌, List, [], ◌∷◌, ◌++◌, length, take, if◌then◌else◌, Option, Some, None, option_map, Result, Ok, Err, inl, inr, sym, ap, arith, refl}
-use Rattle.std.specs.Io.KnownBytes.{Appends, Keeps}
-use Rattle.std.proofs.lemmas.List.{append-nil, length-append}
-use Rattle.clap.specs.Words.{Text}
-use Rattle.dw_num.specs.declared.target.Target.{Target}
-use Rattle.dw_op.specs.declared.profile.Profile.TheVariants.{Location}
-use Rattle.dw_words.specs.declared.request.Evaluation.{Evaluation}
-use Rattle.dw_words.specs.declared.request.Lookup.{Lookup}
-use Rattle.dw_words.specs.declared.request.Unwinding.{Unwinding}
-use Rattle.dw_words.specs.declared.request.Request.{Request}
+use Rattle.dw_command.proofs.Words.{◌≡◌, ◌∙◌, ℕ, ◌-◌, List, [], ◌∷◌, ◌++◌, length, take, if◌then◌else◌, Option, Some, None, option_map, Result, Ok, Err, inl, inr, sym, ap, arith, refl, Appends, Keeps, append-nil, length-append, Text}
+use Rattle.dw_command.proofs.Words.{Target, Location, Evaluation, Lookup, Unwinding, LoadError, Failure, lines_in, AndThen, Asks, AtEnds, Before, Checks, Compares, Costs, Cuts, Decodes, Ends, EvalEnds, Follows, Frames, ListsFdes, Loads}
+use Rattle.dw_command.proofs.Words.{LoadsDump, LoadsText, Normalises, OverBlock, OverFile, Parses, Plans, Prints, PrintsOf, PrintsText, SameEnds, SpellsLeast, Tallies, TaskEnds, UnwindEnds, Values, costs_text, Output, put_so_far, at_text}
+use Rattle.dw_command.proofs.Words.{member_text, block_text, counts_text, entry_text, frame_text, lines, sameness_text, value_text}
+use Rattle.dw_words.specs.declared.request.{Request.Request, Task.Task}
+use Rattle.dw_command.specs.{Answers.{Tells as SaysOf}, Engine.holding, Inner.Lent.lent_bytes}
 use Rattle.dw_words.specs.declared.request.Request.TheVariants as requests
-use Rattle.dw_words.specs.declared.request.Task.{Task}
 use Rattle.dw_words.specs.declared.request.Task.TheVariants as tasks
-use Rattle.dw_command.specs.declared.files.LoadError.{LoadError}
-use Rattle.dw_command.specs.declared.failure.Failure.{Failure}
-use Rattle.dw_command.specs.Addresses.{lines_in}
-use Rattle.dw_command.specs.Answers.{AndThen, Asks, AtEnds, Before, Checks, Compares, Costs, Cuts, Decodes, Ends, EvalEnds, Follows, Frames, ListsFdes, Loads, LoadsDump, LoadsText, Normalises, OverBlock, OverFile, Parses, Plans, Prints, PrintsOf, PrintsText, Tells as SaysOf, SameEnds, SpellsLeast, Tallies, TaskEnds, UnwindEnds, Values, costs_text}
-use Rattle.dw_command.specs.Engine.{holding}
-use Rattle.dw_command.specs.Output.{Output}
-use Rattle.dw_command.specs.Inner.Output.{put_so_far}
-use Rattle.dw_command.specs.RowTexts.{at_text, member_text}
-use Rattle.dw_command.specs.Texts.{block_text, counts_text, entry_text, frame_text, lines, sameness_text, value_text}
-use Rattle.dw_command.specs.Inner.Lent.{lent_bytes}
 
 -- ---- one loan
 

@@ -1,16 +1,6 @@
 -- What a look-up in a section that was accepted finds.
-use Rattle.std.proofs.Common.{◌≡◌, ◌∙◌, ℕ, ◌≤◌, ◌^◌, Bool, true, false, List, Option, Some, None, map, refl, sym, subst}
-use Rattle.dw_num.specs.Input.{AreBytes}
-use Rattle.dw_cfa.specs.Rows.{Rules}
-use Rattle.dw_section.specs.Accepted.{Accepted}
-use Rattle.dw_section.specs.Among.{IsAmong}
-use Rattle.dw_section.specs.Lookups.{FindsFde, LooksUp}
-use Rattle.dw_section.specs.Meaning.{AreFdes, Covers, RulesAt}
-use Rattle.dw_section.specs.Table.{Section}
-use Rattle.dw_section.specs.declared.lookup.Fde.{Fde}
-use Rattle.dw_canon.specs.Members.{fde_of}
-use Rattle.dw_canon.proofs.Lent.Canonical.{members_exist}
-use Rattle.dw_command.specs.Answers.{TellsOf}
+use Rattle.dw_command.proofs.Words.{◌≡◌, ◌∙◌, ℕ, ◌≤◌, ◌^◌, Bool, true, false, List, Option, Some, None, map, refl, sym, subst, AreBytes, Rules, Accepted, IsAmong, FindsFde, LooksUp, AreFdes, Covers, RulesAt, Section, Fde, fde_of}
+use Rattle.dw_command.proofs.Words.{members_exist, TellsOf}
 use Rattle.dw_command.proofs.Members.{fde_low}
 
 some_is : {A : Type 0} (x y : A) → Some x ≡ Some y → x ≡ y

@@ -1,28 +1,11 @@
 -- The FDEs of a section with their changes, one by one.
-use Rattle.std.proofs.Common.{◌≡◌, ◌∙◌, ℕ, ◌+◌, ◌-◌, ◌<◌, ◌≤◌, ◌^◌, min, List, [], ◌∷◌, length, map, get_or, inl, inr, refl, ap, arith, subst, sym, Result, Ok, Err, IfOk}
-use Rattle.std.specs.List.{AllByRecursion, AllZip}
+use Rattle.dw_command.proofs.Words.{◌≡◌, ◌∙◌, ℕ, ◌+◌, ◌-◌, ◌<◌, ◌≤◌, ◌^◌, min, List, [], ◌∷◌, length, map, get_or, inl, inr, refl, ap, arith, subst, sym, Result, Ok, Err, IfOk, AllByRecursion, AllZip, length-map, AreBytes, Size, Target}
+use Rattle.dw_command.proofs.Words.{Rules, blank, Accepted, IsAmong, AreFdes, ChangesOf, RowStarts, total, Section, Fde, AreMembers, IsMember, Member, changes_of, fde_of, members_exist, ChangeCount, change_count}
 use Rattle.std.proofs.Math.ListN.{get_or-map}
-use Rattle.std.proofs.lemmas.List.{length-map}
-use Rattle.dw_num.specs.Input.{AreBytes}
-use Rattle.dw_num.specs.Target.{address_limit}
-use Rattle.dw_num.specs.declared.target.Size.{Size}
-use Rattle.dw_num.specs.declared.target.Size.TheVariants.{Four, Eight}
-use Rattle.dw_num.specs.declared.target.Target.{Target}
-use Rattle.dw_cfa.specs.Rows.{Rules, blank}
-use Rattle.dw_section.specs.Accepted.{Accepted}
-use Rattle.dw_section.specs.Among.{IsAmong}
-use Rattle.dw_section.specs.Meaning.{AreFdes, ChangesOf, RowStarts, total}
-use Rattle.dw_section.specs.Table.{Section}
-use Rattle.dw_section.specs.declared.lookup.Fde.{Fde}
-use Rattle.dw_section.proofs.Lent.Judged.{all_get}
-use Rattle.dw_section.proofs.Lent.Sames.{one_change_list}
-use Rattle.dw_section.proofs.Lent.Totals.{least_total}
-use Rattle.dw_canon.specs.Inner.Fits.{ChangesStand, MemberStands}
-use Rattle.dw_canon.specs.Members.{AreMembers, IsMember, Member, changes_of, fde_of}
-use Rattle.dw_canon.specs.Inner.Canon.{initial_of}
-use Rattle.dw_canon.proofs.Lent.Canonical.{members_exist}
+use Rattle.dw_num.specs.{Target.address_limit, declared.target.Size.TheVariants.{Four, Eight}}
+use Rattle.dw_section.proofs.Lent.{Judged.all_get, Sames.one_change_list, Totals.least_total}
+use Rattle.dw_canon.specs.Inner.{Fits.{ChangesStand, MemberStands}, Canon.initial_of}
 use Rattle.dw_canon.proofs.Lent.Rendered.{nonempty, stand}
-use Rattle.dw_command.specs.Answers.{ChangeCount, change_count}
 
 -- ---- addresses
 

@@ -1,11 +1,6 @@
 -- The operations of an expression, one behind another.
-use Rattle.std.proofs.Common.{◌≡◌, ℕ, List, [], ◌∷◌, ◌++◌, codes, map, suc, decimal, refl, ap, ◌∙◌}
+use Rattle.dw_command.proofs.Words.{◌≡◌, ℕ, List, [], ◌∷◌, ◌++◌, codes, map, suc, decimal, refl, ap, ◌∙◌, Op, Implicit, op_text, next_text, line_end, lines, numbered}
 use Rattle.dw_op.specs.Expression.{bare}
-use Rattle.dw_op.specs.declared.op.Op.{Op}
-use Rattle.dw_op.specs.declared.op.Op.TheVariants.{Implicit}
-use Rattle.dw_command.specs.OpTexts.{op_text}
-use Rattle.dw_command.specs.RowTexts.{next_text}
-use Rattle.dw_command.specs.Texts.{line_end, lines, numbered}
 
 -- wherever its bytes lie
 pub text_bare : (op : Op) → op_text (bare op) ≡ op_text op

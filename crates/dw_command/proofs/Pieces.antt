@@ -1,9 +1,5 @@
 -- A text that is put piece by piece, and what of it the room still holds.
-use Rattle.std.proofs.Common.{◌≡◌, ℕ, ◌+◌, ◌-◌, List, [], ◌++◌, length, take, drop, inl, inr, false, Result, Ok, Err, sym, ap, ◌∙◌}
-use Rattle.std.specs.Prelude.{OnOk, ◌⊎◌}
-use Rattle.std.specs.Result.{is_err}
-use Rattle.std.proofs.Math.Seq.{take-add}
-use Rattle.std.proofs.lemmas.List.{append_assoc, take_rest, length-take, take_min}
+use Rattle.dw_command.proofs.Words.{◌≡◌, ℕ, ◌+◌, ◌-◌, List, [], ◌++◌, length, take, drop, inl, inr, false, Result, Ok, Err, sym, ap, ◌∙◌, OnOk, ◌⊎◌, is_err, take-add, append_assoc, take_rest, length-take, take_min}
 
 pub was_ok : {T E P : Type 0} (r : Result T E) → is_err r ≡ false → OnOk r P → P
 was_ok (Ok x) is h = h

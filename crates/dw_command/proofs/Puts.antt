@@ -1,11 +1,6 @@
 -- What was put so far, while the output gets what is left and texts are put behind.
-use Rattle.std.proofs.Common.{◌≡◌, ◌∙◌, ℕ, zero, suc, ◌+◌, ◌-◌, ◌≤◌, List, [], ◌∷◌, ◌++◌, length, take, drop, refl, sym, ap, arith, subst, Option, Some, None, Result, Ok, Err}
-use Rattle.std.specs.Prelude.{OnOk, min}
-use Rattle.std.specs.Io.KnownBytes.{Appends, Keeps, append_known}
-use Rattle.std.proofs.KnownBytes.{Keeps-refl}
-use Rattle.std.proofs.lemmas.List.{append_assoc, length-take-le, length-drop, drop-take, take_min, take-append-drop, append-nil}
-use Rattle.std.proofs.Math.Seq.{take-append_seam}
-use Rattle.dw_command.specs.Inner.Output.{put_so_far}
+use Rattle.dw_command.proofs.Words.{◌≡◌, ◌∙◌, ℕ, zero, suc, ◌+◌, ◌-◌, ◌≤◌, List, [], ◌∷◌, ◌++◌, length, take, drop, refl, sym, ap, arith, subst, Option, Some, None, Result, Ok, Err, OnOk, min, Appends, Keeps, append_known, Keeps-refl}
+use Rattle.dw_command.proofs.Words.{append_assoc, length-take-le, length-drop, drop-take, take_min, take-append-drop, append-nil, take-append_seam, put_so_far}
 use lib.Seq.{paste}
 
 -- no more than all

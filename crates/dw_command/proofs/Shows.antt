@@ -1,8 +1,5 @@
 -- What a terminal is shown: a text before the first order is shown as it is.
-use Rattle.std.proofs.Common.{◌≡◌, ◌≤◌, ◌+◌, ◌∙◌, ap, arith, ℕ, suc, Bool, true, false, List, [], ◌∷◌, refl, sym, length, take, Option, Some, None}
-use Rattle.std.specs.Prelude.{nat_lt, cond, not, position}
-use Rattle.std.specs.List.{position_or_len}
-use Rattle.std.proofs.lemmas.Bool.{ltb-false}
+use Rattle.dw_command.proofs.Words.{◌≡◌, ◌≤◌, ◌+◌, ◌∙◌, ap, arith, ℕ, suc, Bool, true, false, List, [], ◌∷◌, refl, sym, length, take, Option, Some, None, nat_lt, cond, not, position, position_or_len, ltb-false}
 use Rattle.std.proofs.lemmas.List.Sums.{prefix_len-le-length}
 use Rattle.dw_command.specs.Inner.Terminal.{is_order, shown}
 

@@ -1,11 +1,5 @@
 -- Texts of lists, element by element.
-use Rattle.std.proofs.Common.{◌≡◌, ◌∙◌, ℕ, zero, suc, ◌+◌, ◌<◌, ◌≤◌, List, [], ◌∷◌, ◌++◌, length, map, take, get_or, Option, sym, ap, arith}
-use Rattle.std.specs.List.{AllZip}
-use Rattle.std.specs.Io.KnownBytes.{Appends}
-use Rattle.std.proofs.KnownBytes.{Appends-nil, Appends-trans}
-use Rattle.std.proofs.lemmas.List.{append_assoc, append-nil}
-use Rattle.dw_section.specs.Meaning.{total}
-use Rattle.dw_command.specs.Texts.{lines}
+use Rattle.dw_command.proofs.Words.{◌≡◌, ◌∙◌, ℕ, zero, suc, ◌+◌, ◌<◌, ◌≤◌, List, [], ◌∷◌, ◌++◌, length, map, take, get_or, Option, sym, ap, arith, AllZip, Appends, Appends-nil, Appends-trans, append_assoc, append-nil, total, lines}
 
 -- one element more
 pub lines_more : {A : Type 0} (text : A → List ℕ) (xs : List A) (i : ℕ) (d : A) → i < length xs → lines text (take (i + 1) xs) ≡ lines text (take i xs) ++ text (get_or xs i d)

@@ -1,12 +1,7 @@
 -- What registers hold is what their places say.
-use Rattle.dw_eval.proofs.Words.{◌≡◌, ℕ, zero, suc, ◌+◌, ◌-◌, Bool, false, List, [], length, Option, Some, None, inl, inr, refl, sym, ap, subst, arith, ◌∙◌, get_or, if◌then◌else◌}
-use Rattle.std.specs.Prelude.{◌≤◌, ◌<◌, ◌==◌, max}
-use Rattle.std.proofs.Math.ListN.{replicate}
-use Rattle.std.proofs.lemmas.Bool.{cases_lt}
-use Rattle.std.proofs.lemmas.Bool.Decides.{nat_tests}
-use Rattle.std.proofs.lemmas.List.{get_or-replicate}
-use Rattle.dw_eval.specs.Registers.{held}
-use Rattle.dw_eval.specs.Inner.Registers.{any_held, first_held, near_held, PlacesSo}
+use Rattle.dw_eval.proofs.Words.{◌≡◌, ℕ, zero, suc, ◌+◌, ◌-◌, Bool, false, List, [], length, Option, Some, None, inl, inr, refl, sym, ap, subst, arith, ◌∙◌, get_or, if◌then◌else◌, ◌≤◌, ◌<◌, ◌==◌, max, replicate, cases_lt, held, any_held}
+use Rattle.dw_eval.proofs.Words.{first_held, near_held, PlacesSo}
+use Rattle.std.proofs.lemmas.{Bool.Decides.nat_tests, List.get_or-replicate}
 
 -- ---- the list of what the first registers hold
 

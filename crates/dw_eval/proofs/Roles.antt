@@ -2,8 +2,7 @@
 use Rattle.dw_eval.proofs.Words.{◌≡◌, ℕ, ◌+◌, Bool, true, false, List, [], ◌∷◌, length, Option, Some, None, Result, Err, refl, sym, subst, arith, inl, inr, nat_eq, slice_get, if◌then◌else◌, ◌%◌, slice_get-get_or, slice_get_past, byte_count}
 use Rattle.dw_eval.proofs.Words.{address_limit, Op, Addr, Deref, Const, Dup, Drop, Pick, Rot, Abs, Div, Mod, Neg, Not, PlusUconst, Bra, Eq, Ge, Gt, Le, Lt, Ne, Skip, Reg, Breg, Fbreg, Piece, DerefSize, Nop, PushObjectAddress, CallFrameCfa}
 use Rattle.dw_eval.proofs.Words.{BitPiece, Implicit, StackValue, EvalError, Kind, StackUnderflow, MissingPiece, DivideByZero, NoRegister, Unreadable, NoFrameBase, NoCfa, NoObject, Place, Context, read_at, OpEffect, Next, Jump, Faults}
-use Rattle.dw_eval.proofs.Words.{on_top, on_two, on_three, known, tell, effect, PlaceState, refused, free_step, held_step, step_by, place_step, role, free_by, refused_by, held_by, step_of, StepsTo}
-use Rattle.std.proofs.lemmas.Bool.{cases_lt, lt-ltb, le-ltb}
+use Rattle.dw_eval.proofs.Words.{on_top, on_two, on_three, known, tell, effect, PlaceState, refused, free_step, held_step, step_by, place_step, role, free_by, refused_by, held_by, step_of, StepsTo, cases_lt, lt-ltb, le-ltb}
 
 -- an outcome that is no short stack
 abbrev IsMissing : OpEffect → Type 0

@@ -1,9 +1,8 @@
 -- Signed readings of numbers.
 use Rattle.dw_eval.proofs.Words.{◌≡◌, Bool, true, false, ℕ, zero, suc, ◌%◌, ◌^◌, ◌<◌, ◌≤◌, ℤ, pos, negsuc, ◌<ℤ◌, ◌≤ℤ◌, to_z, of_z, w32, w64, FitsSigned, refl, sym, ◌∙◌, ap, arith, min, if◌then◌else◌, ints, to_z-of_z, of_z-to_z, Size, Four}
 use Rattle.dw_eval.proofs.Words.{Eight, address_limit, signed, bit_count, shifted_signed}
-use Rattle.std.specs.Int.{cast_signed, IsNonZero}
+use Rattle.std.specs.{Int.{cast_signed, IsNonZero}, Int.Signed.{shr_z, mag, lt_z}}
 use Rattle.std.proofs.Math.Facts.{sfits_to_z}
-use Rattle.std.specs.Int.Signed.{shr_z, mag, lt_z}
 use Rattle.dw_op.specs.Operands.{modulo}
 
 pub signed_whole : (size : Size) (n : ℕ) (r : ℤ) → size ≡ Eight → n < 2 ^ 64 → r ≡ cast_signed w64 n → to_z w64 (of_z w64 r) ≡ signed size n

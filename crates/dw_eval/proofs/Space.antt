@@ -6,9 +6,9 @@ use Rattle.dw_eval.proofs.Words.{Place, Role, SetsPlace, SetsValue, AddsPiece, W
 use Rattle.dw_eval.proofs.Words.{value_start, top_of, Evaluates, led, PlaceState, place_index, place_here, with_piece, with_value, place_step, place_start, pieces_of, Located, place_led, role, free_by, held_by, step_of, Runs, ValuesInSpace}
 use Rattle.dw_eval.proofs.Words.{LocationsInSpace}
 use Rattle.std.proofs.lemmas.Nat.{mod_below}
-use Rattle.dw_eval.specs.declared.place.Piece as declared
-use Rattle.dw_eval.proofs.Roles.{step_is}
 use Rattle.dw_eval.specs.Space.{AreInSpace, PlaceInSpace, ArePlacesInSpace}
+use Rattle.dw_eval.proofs.Roles.{step_is}
+use Rattle.dw_eval.specs.declared.place.Piece as declared
 
 -- ---- what every state of a run keeps
 

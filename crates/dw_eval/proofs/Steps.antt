@@ -1,10 +1,8 @@
 -- What one operation of the code tells of a run.
 use Rattle.dw_eval.proofs.Words.{◌≡◌, ℕ, ◌+◌, ◌<◌, List, length, Some, Result, Ok, Err, refl, sym, ◌∙◌, ap, subst, inl, inr, arith, slice_get, Op, EvalError, Fault, OutOfMemory, Kind, Device, StepLimit, Runs, OpEffect, Does, Acts, StepsTo}
 use Rattle.std.proofs.Math.Numerals.{suc-eq-add-one}
-use Rattle.dw_eval.specs.Inner.Runs.{Answered, Right, Short, Failed}
-use Rattle.dw_eval.specs.declared.stack.Flow.{Flow}
+use Rattle.dw_eval.specs.{Inner.Runs.{Answered, Right, Short, Failed}, declared.stack.Flow.Flow, declared.stack.Stop.Stop}
 use Rattle.dw_eval.specs.declared.stack.Flow.TheVariants as flow
-use Rattle.dw_eval.specs.declared.stack.Stop.{Stop}
 use Rattle.dw_eval.specs.declared.stack.Stop.TheVariants as stop
 
 -- an operation without memory is one over a memory that stays

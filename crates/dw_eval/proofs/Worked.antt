@@ -3,10 +3,9 @@ use Rattle.dw_eval.proofs.Words.{◌≡◌, ℕ, zero, suc, List, [], ◌∷◌,
 use Rattle.dw_eval.proofs.Words.{StackValue, Fault, DivideByZero, StepLimit, Unreadable, StackUnderflow, EmptyResult, MissingPiece, Context, signed, Next, Jump, Faults, effect, State, Evaluates, ValueRuns, PlaceState, place_step, pieces_of}
 use Rattle.dw_eval.proofs.Words.{Located, Whole, Place}
 use Rattle.dw_num.specs.declared.target.Order.TheVariants.{Little}
+use Rattle.dw_eval.specs.declared.place.{Piece.Piece, Place.TheVariants.{Empty, Memory, Register, Value}}
 use Rattle.dw_op.specs.declared.op.Op.TheVariants as op
 use Rattle.dw_eval.specs.declared.place.Part.TheVariants as part
-use Rattle.dw_eval.specs.declared.place.Piece.{Piece}
-use Rattle.dw_eval.specs.declared.place.Place.TheVariants.{Empty, Memory, Register, Value}
 
 abbrev nothing : Context
 nothing = record { target = record { size = Eight; order = Little }; register = λ r. None; byte = λ a. None; frame_base = None; cfa = None; object = None }

@@ -1,34 +1,12 @@
 -- Changes of an FDE and their rules, one after another over two buffers.
-use Rattle.std.proofs.Common.{◌≡◌, ℕ, zero, suc, ◌+◌, ◌-◌, ◌^◌, ◌<◌, ◌≤◌, List, [], ◌∷◌, ◌++◌, length, map, min, get_or, slice_set, true, false, refl, sym, ap, subst, ◌∙◌, arith, inl, inr, Option, Some, None, Ok}
-use Rattle.std.specs.List.{AllByRecursion}
-use Rattle.std.proofs.lemmas.Bool.Decides.{leb_tells}
-use Rattle.std.proofs.lemmas.List.{flat_map_more, get_or-map, length-append, length-map, map_push}
-use Rattle.std.proofs.lemmas.Option.{same_Some}
-use borrow.Rule.Slice.PartMut.{mid_of, put_mid}
-use Rattle.dw_num.specs.Input.{AreBytes}
-use Rattle.dw_num.specs.Target.{address_limit}
-use Rattle.dw_num.specs.declared.target.Size.{Size}
-use Rattle.dw_num.specs.declared.target.Size.TheVariants.{Four, Eight}
-use Rattle.dw_num.specs.declared.target.Target.{Target}
+use Rattle.dw_library.proofs.Words.{◌≡◌, ℕ, zero, suc, ◌+◌, ◌-◌, ◌^◌, ◌<◌, ◌≤◌, List, [], ◌∷◌, ◌++◌, length, map, min, get_or, slice_set, true, false, refl, sym, ap, subst, ◌∙◌, arith, inl, inr, Option, Some, None, Ok, AllByRecursion}
+use Rattle.dw_library.proofs.Words.{leb_tells, flat_map_more, get_or-map, length-append, length-map, map_push, same_Some, mid_of, put_mid, Target, Rules, Accepted, IsAmong, AreFdes, ChangesOf, IsTable, fde_in, Ranged, Fde, Change, Rule}
+use Rattle.dw_library.proofs.Words.{Room, AreWritten, change_of, over, rule_of, IsLow, IsLeft}
+use Rattle.dw_num.specs.{Input.AreBytes, Target.address_limit, declared.target.Size.Size, declared.target.Size.TheVariants.{Four, Eight}}
 use Rattle.dw_cfa.specs.declared.instr.Instr.{Instr}
-use Rattle.dw_cfa.specs.Rows.{Rules}
-use Rattle.dw_section.specs.Accepted.{Accepted}
-use Rattle.dw_section.specs.Among.{IsAmong}
 use Rattle.dw_section.specs.Changes.{AreChanges, Changing, ChangesBehind, GivesAddress}
-use Rattle.dw_section.specs.Meaning.{AreFdes, ChangesOf}
-use Rattle.dw_section.specs.Ranges.{IsTable, fde_in}
-use Rattle.dw_section.specs.declared.fde_range.Ranged.{Ranged}
-use Rattle.dw_section.specs.declared.lookup.Fde.{Fde}
-use Rattle.dw_section.proofs.Lent.FdeLookup.{listed_are}
-use Rattle.dw_section.proofs.Lent.Sections.{begin_low}
-use Rattle.dw_library.specs.declared.changes.Change.{Change}
-use Rattle.dw_library.specs.declared.changes.Totals.{Totals}
-use Rattle.dw_library.specs.declared.index.Rule.{Rule}
-use Rattle.dw_library.specs.declared.looks.Room.{Room}
-use Rattle.dw_library.specs.Changes.{AreWritten, change_of, rules_in}
-use Rattle.dw_library.specs.Index.{over, rule_of}
-use Rattle.dw_library.specs.Inner.Changes.{IsLow}
-use Rattle.dw_library.specs.Inner.Looks.{IsLeft}
+use Rattle.dw_section.proofs.Lent.{FdeLookup.listed_are, Sections.begin_low}
+use Rattle.dw_library.specs.{declared.changes.Totals.Totals, Changes.rules_in}
 use Rattle.dw_library.proofs.Written.{written_left}
 
 -- ---- one more

@@ -1,16 +1,8 @@
 -- The fault of an expression, as it is told.
-use Rattle.std.proofs.Common.{◌≡◌, ◌⊎◌, ℕ, List, Some, Result, Err, subst, inl, inr}
-use Rattle.dw_num.specs.declared.target.Target.{Target}
-use Rattle.dw_op.specs.declared.op.Op.{Op}
-use Rattle.dw_op.specs.declared.profile.Profile.TheVariants.{Location}
-use Rattle.dw_op.specs.Faults.{IsBlock}
-use Rattle.dw_eval.specs.declared.error.EvalError.{EvalError}
-use Rattle.dw_eval.specs.declared.error.EvalError.TheVariants.{Fault as Faults, OutOfMemory}
-use Rattle.dw_eval.specs.declared.error.Kind.{Kind}
-use Rattle.dw_library.specs.declared.evaluation.Context.{Context}
-use Rattle.dw_library.specs.Answers.{not_refused}
-use Rattle.dw_library.specs.CallerFrame.{Machine}
-use Rattle.dw_library.specs.Evaluation.{IsEvaluated, Told, ValueOf, fault_at}
+use Rattle.dw_library.proofs.Words.{◌≡◌, ◌⊎◌, ℕ, List, Some, Result, Err, subst, inl, inr, Target, not_refused, Machine}
+use Rattle.dw_op.specs.{declared.op.Op.Op, declared.profile.Profile.TheVariants.Location, Faults.IsBlock}
+use Rattle.dw_eval.specs.declared.error.{EvalError.EvalError, EvalError.TheVariants.{Fault as Faults, OutOfMemory}, Kind.Kind}
+use Rattle.dw_library.specs.{declared.evaluation.Context.Context, Evaluation.{IsEvaluated, Told, ValueOf, fault_at}}
 
 pub fault_told : (target own : Target) (block : List ℕ) (ops : List Op) (c : Context) (m : Machine) (t : Told) (kind : Kind) (i : ℕ) (e : EvalError) (r : Result ℕ EvalError)
     → own ≡ target → IsBlock Location target ops block → e ≡ Faults kind i → r ≡ Err e → ((r ≡ Err OutOfMemory) ⊎ ValueOf own ops c m r)

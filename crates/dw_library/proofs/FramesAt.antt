@@ -1,26 +1,9 @@
 -- A frame by an index or why there is none, as the functions over an index answer.
-use Rattle.std.proofs.Common.{◌≡◌, ◌⊎◌, ℕ, List, Option, Some, Result, Ok, Err, MatchResult, map, subst, inl, inr}
-use Rattle.dw_num.specs.declared.target.Target.{Target}
-use Rattle.dw_eval.specs.declared.policy.Policy.{Policy}
-use Rattle.dw_eval.specs.Registers.{held}
-use Rattle.dw_section.specs.declared.fde_range.Ranged.{Ranged}
-use Rattle.dw_section.specs.Accepted.{Accepted}
-use Rattle.dw_section.specs.Ranges.{IsTable, range_in}
-use Rattle.dw_unwind.specs.Unwound.{Unwound, stopped}
-use Rattle.dw_unwind.specs.UnwoundAt.{UnwoundAt}
-use Rattle.dw_unwind.specs.declared.by_index.UnwindAtError.{UnwindAtError}
-use Rattle.dw_unwind.specs.declared.by_index.UnwindAtError.TheVariants.{Unwind}
-use Rattle.dw_unwind.specs.declared.frame.Frame.{Frame as CallerFrame}
-use Rattle.dw_unwind.specs.declared.frame.UnwindError.{UnwindError}
-use Rattle.dw_unwind.specs.declared.frame.UnwindError.TheVariants.{OutOfMemory}
-use Rattle.dw_library.specs.declared.caller.Stop.{Stop}
-use Rattle.dw_library.specs.Answers.{not_refused}
-use Rattle.dw_library.specs.CallerFrame.{Machine, Told, IsFrame, IsUnwound, no_frame, status_of, told_fault}
-use Rattle.dw_library.specs.declared.registers.Register.{Register}
-use Rattle.dw_library.specs.FrameAt.{IsFrameAt}
-use Rattle.dw_library.specs.Inner.FrameAt.{IsOwn, Why, WhyOwn}
-use Rattle.dw_library.specs.Registers.{given_in}
-use Rattle.dw_library.specs.Windows.{byte_among}
+use Rattle.dw_library.proofs.Words.{◌≡◌, ◌⊎◌, ℕ, List, Option, Some, Result, Ok, Err, MatchResult, map, subst, inl, inr, Target, Policy, held, Ranged, Accepted, IsTable, range_in, Stop, not_refused, Machine, Told, IsFrame, IsUnwound}
+use Rattle.dw_library.proofs.Words.{no_frame, status_of, told_fault, Register, given_in, byte_among}
+use Rattle.dw_unwind.specs.{Unwound.{Unwound, stopped}, UnwoundAt.UnwoundAt, declared.by_index.UnwindAtError.UnwindAtError, declared.by_index.UnwindAtError.TheVariants.Unwind, declared.frame.Frame.{Frame as CallerFrame}}
+use Rattle.dw_unwind.specs.declared.frame.{UnwindError.UnwindError, UnwindError.TheVariants.OutOfMemory}
+use Rattle.dw_library.specs.{FrameAt.IsFrameAt, Inner.FrameAt.{IsOwn, Why, WhyOwn}}
 
 is_accepted : (target : Target) (s : List ℕ) (index : List Ranged) → IsTable target s index → Accepted target s
 is_accepted target s index t = (map range_in index, (t.indexed.headers, t.indexed.hold, t.indexed.is_index), t.apart)

@@ -1,3 +1,4 @@
+mod Words
 mod Overlays
 mod JoinedBlocks
 mod Written

@@ -1,11 +1,5 @@
 -- Rules over the front of a buffer, one after another.
-use Rattle.std.proofs.Common.{◌≡◌, ℕ, zero, suc, ◌+◌, ◌<◌, ◌≤◌, List, [], ◌∷◌, length, map, slice_set, refl, sym, ap, subst, ◌∙◌, arith, inl, inr}
-use Rattle.std.proofs.lemmas.Bool.Decides.{leb_tells}
-use Rattle.std.proofs.lemmas.List.{length-set}
-use Rattle.dw_cfa.specs.Rows.{AreSpecified}
-use Rattle.dw_cfa.specs.declared.rule.RegRule.{RegRule}
-use Rattle.dw_library.specs.declared.index.Rule.{Rule}
-use Rattle.dw_library.specs.Index.{over, rule_of}
+use Rattle.dw_library.proofs.Words.{◌≡◌, ℕ, zero, suc, ◌+◌, ◌<◌, ◌≤◌, List, [], ◌∷◌, length, map, slice_set, refl, sym, ap, subst, ◌∙◌, arith, inl, inr, leb_tells, length-set, AreSpecified, RegRule, Rule, over, rule_of}
 
 -- rules over a buffer from a place on
 abbrev pub over_at : ℕ → List Rule → List Rule → List Rule

@@ -1,22 +1,9 @@
 -- Rows of many addresses, and their rules one after another over a buffer.
-use Rattle.std.proofs.Common.{◌≡◌, ℕ, suc, ◌+◌, ◌-◌, ◌<◌, ◌≤◌, List, [], ◌∷◌, ◌++◌, length, take, drop, map, get_or, slice_set, refl, sym, ap, subst, ◌∙◌, arith, true, inl, inr, Option, Some}
-use Rattle.std.specs.List.{AllZip}
-use Rattle.std.proofs.Math.Seq.{append_snoc, drop-cons, set-append_seam, take-length, take-suc}
-use Rattle.std.proofs.lemmas.List.{append-nil, drop_all, flat_map_more, length-drop, length-map, length-take-le, map_push, take_all}
-use Rattle.std.proofs.lemmas.Option.{same_Some}
+use Rattle.dw_library.proofs.Words.{◌≡◌, ℕ, suc, ◌+◌, ◌-◌, ◌<◌, ◌≤◌, List, [], ◌∷◌, ◌++◌, length, take, drop, map, get_or, slice_set, refl, sym, ap, subst, ◌∙◌, arith, true, inl, inr, Option, Some, AllZip, append_snoc, drop-cons}
+use Rattle.dw_library.proofs.Words.{set-append_seam, take-length, take-suc, append-nil, drop_all, flat_map_more, length-drop, length-map, length-take-le, map_push, take_all, same_Some, mid_of, post_of, put_mid, Target, FindsFde, Covers}
+use Rattle.dw_library.proofs.Words.{IsAmong, Fde, Rule, Room, over, IsLook, Look, rules_in, IsLeft}
 use Rattle.std.proofs.lemmas.Slice.Zip.{AllZip-long}
-use borrow.Rule.Slice.PartMut.{mid_of, post_of, put_mid}
-use Rattle.dw_num.specs.declared.target.Target.{Target}
-use Rattle.dw_section.specs.Lookups.{FindsFde}
-use Rattle.dw_section.specs.Meaning.{Covers}
-use Rattle.dw_section.specs.Among.{IsAmong}
-use Rattle.dw_section.specs.declared.lookup.Fde.{Fde}
 use Rattle.dw_library.specs.declared.index.Row.{Row}
-use Rattle.dw_library.specs.declared.index.Rule.{Rule}
-use Rattle.dw_library.specs.declared.looks.Room.{Room}
-use Rattle.dw_library.specs.Index.{over}
-use Rattle.dw_library.specs.Looks.{IsLook, Look, rules_in}
-use Rattle.dw_library.specs.Inner.Looks.{IsLeft}
 
 pub over_length : (rules old : List Rule) → length (over rules old) ≡ length old
 over_length [] old = refl

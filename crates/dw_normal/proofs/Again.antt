@@ -4,8 +4,7 @@ use Rattle.dw_normal.proofs.Words.{AllByRecursion, nat_cmp, le-ltb, Target, AreB
 use Rattle.dw_normal.proofs.Words.{HasJoined, begun_with, initial_rows, joined_by, row_of, with_member}
 use Rattle.dw_section.specs.declared.opening.CieRow.{CieRow}
 use Rattle.dw_section.proofs.Lent.OpeningLaws.{Opened, Specifies, one_first, opened}
-use Rattle.dw_canon.proofs.Lent.Shared.{MemberFits}
-use Rattle.dw_canon.proofs.Lent.Joins.{PartOf, first_part, joined_again, next_part}
+use Rattle.dw_canon.proofs.Lent.{Shared.MemberFits, Joins.{PartOf, first_part, joined_again, next_part}}
 use Rattle.dw_normal.specs.declared.groups.Joined.{Joined}
 use Rattle.dw_normal.proofs.Grouped.{look_members, some_of, told}
 

@@ -1,15 +1,6 @@
 -- Sets of registers outside which two rows are the same: as they are listed, and as one is known by another.
-use Rattle.dw_normal.proofs.Words.{◌≡◌, ℕ, ◌<◌, Bool, true, false, List, Option, Some, None, refl, sym, ◌∙◌, subst, inl, inr, IfSome, BTreeMap, Rules, rule, Changing, row_of, shown_row}
-use Rattle.std.specs.Prelude.{◌||◌}
-use Rattle.dw_cfa.specs.RegisterSets.{Registers, SameBeside, has}
-use Rattle.dw_section.specs.Opening.{CieLeaves}
-use Rattle.dw_section.specs.Table.{Section}
-use Rattle.dw_section.specs.declared.change.Behind.{Behind}
-use Rattle.dw_normal.specs.Inner.Apart.{NotesSame}
-use Rattle.dw_normal.specs.Inner.ChangeWalk.{ShownBehind}
-use Rattle.dw_normal.specs.Inner.Known.{AreSame, HoldsAt}
-use Rattle.dw_normal.specs.declared.known.CieSet.{CieSet}
-use Rattle.dw_normal.specs.declared.known.Known.{Known}
+use Rattle.dw_normal.proofs.Words.{◌≡◌, ℕ, ◌<◌, Bool, true, false, List, Option, Some, None, refl, sym, ◌∙◌, subst, inl, inr, IfSome, BTreeMap, Rules, rule, Changing, row_of, shown_row, ◌||◌, Registers, SameBeside, has, CieLeaves, Section}
+use Rattle.dw_normal.proofs.Words.{Behind, NotesSame, ShownBehind, AreSame, HoldsAt, CieSet, Known}
 
 -- ---- registers that are listed
 

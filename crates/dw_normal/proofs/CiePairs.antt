@@ -1,12 +1,6 @@
 -- What a map by pairs of CIEs holds once a pair is put in or taken out.
-use Rattle.dw_normal.proofs.Words.{ℕ, inl, inr, Option, Some, Result, Ok, Err, ap, subst, IfSome, OnOk, BTreeMap, Updates, is_at, nat_cmp, cases_Bool}
-use Rattle.std.proofs.lemmas.Map.Lookups.{CmpEqualImpliesEq, exact_pairs, exact_unsigned}
-use Rattle.std.proofs.lemmas.Map.Views.{tells_apart}
-use Rattle.std.specs.BTreeMap.{IsUnchanged}
-use Rattle.std.specs.Result.{OnErr}
-use Rattle.dw_cfa.specs.RegisterSets.{Registers}
-use Rattle.dw_section.specs.Table.{Section}
-use Rattle.dw_normal.specs.Inner.Twins.{AreBeside, AreTwins, pair_cmp}
+use Rattle.dw_normal.proofs.Words.{ℕ, inl, inr, Option, Some, Result, Ok, Err, ap, subst, IfSome, OnOk, BTreeMap, Updates, is_at, nat_cmp, cases_Bool, IsUnchanged, OnErr, Registers, Section, AreBeside, AreTwins, pair_cmp}
+use Rattle.std.proofs.lemmas.Map.{Lookups.{CmpEqualImpliesEq, exact_pairs, exact_unsigned}, Views.tells_apart}
 use Rattle.dw_normal.specs.declared.twins.CiePair.{CiePair}
 
 abbrev pair_of : ℕ × ℕ → CiePair

@@ -3,13 +3,8 @@ use Rattle.dw_normal.proofs.Words.{◌≡◌, ℕ, ◌+◌, ◌<◌, ◌≤◌, 
 use Rattle.dw_normal.proofs.Words.{length-append, take_more, take_all, take-append-drop, ◌^◌, is_at, AllByRecursion, nat_cmp, IsErrAnd, Appends-nil, AreBytes, Target, Rules, Accepted, AreFdes, Fde, all_get, InstrFits, part_of, groups_of}
 use Rattle.dw_normal.proofs.Words.{parts_of, canon, cie_instrs, IsPart, Member, AreMembers, Written, contents, entry_bytes, laid_is, renders, initial_rows, cie_with, cies_bytes, fdes_bytes, place_in, cie_place, RowsRise, fde_with, Puts}
 use Rattle.dw_normal.proofs.Words.{taken_by, after, PutError, Memory}
-use Rattle.dw_canon.proofs.Lent.Fields.{entry_length}
-use Rattle.dw_canon.proofs.Lent.Readback.{rendered_laid}
-use Rattle.dw_normal.proofs.Grouped.{no_member}
-use Rattle.dw_normal.proofs.Joined.{put_stops, goes_on, ends_there, counted, same_err}
-use Rattle.dw_normal.proofs.Placed.{as_many}
-use Rattle.dw_normal.proofs.Sited.{Placing, placing_begins, placing_more, placing_ends}
-use Rattle.dw_normal.proofs.Summed.{canon_is, canon_length, fdes_append, front}
+use Rattle.dw_canon.proofs.Lent.{Fields.entry_length, Readback.rendered_laid}
+use Rattle.dw_normal.proofs.{Grouped.no_member, Joined.{put_stops, goes_on, ends_there, counted, same_err}, Placed.as_many, Sited.{Placing, placing_begins, placing_more, placing_ends}, Summed.{canon_is, canon_length, fdes_append, front}}
 
 -- ---- lengths
 

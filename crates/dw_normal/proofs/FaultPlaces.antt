@@ -1,17 +1,11 @@
 -- The place of a refusal lies in the section that it names.
-use Rattle.dw_normal.proofs.Words.{◌≡◌, ℕ, Bool, List, Result, Ok, Err, IfErr, sym, ap, subst, inl, inr, arith, AreBytes, Target, Refuses, NormalFault, too_long, put_is, PutError, First, Second}
-use Rattle.dw_num.specs.declared.refusal.Refusal.{Refusal}
-use Rattle.dw_num.specs.declared.error.ReadError.{ReadError}
-use Rattle.dw_num.specs.declared.error.ReadError.TheVariants as read_error
+use Rattle.dw_normal.proofs.Words.{◌≡◌, ℕ, Bool, List, Result, Ok, Err, IfErr, sym, ap, subst, inl, inr, arith, AreBytes, Target, Refuses, NormalFault, too_long, put_is, PutError, First, Second, Refusal, ReadError, CheckFault}
+use Rattle.dw_normal.proofs.Words.{IsWithinEither, RefusesWithin, LengthFault, blamed, unwritten, SameError, WriteError}
 use Rattle.dw_op.specs.Faults.{IsWithin}
-use Rattle.dw_section.specs.Accepted.{CheckFault}
 use Rattle.dw_section.specs.Laws.{SectionFaultsWithin}
-use Rattle.dw_normal.specs.Answers.{IsWithinEither, RefusesWithin}
-use Rattle.dw_normal.specs.Inner.Answers.{LengthFault, blamed, unwritten}
+use Rattle.dw_num.specs.declared.error.ReadError.TheVariants as read_error
 use Rattle.dw_normal.specs.declared.entry.PutError.TheVariants as put_error
-use Rattle.dw_normal.specs.declared.error.SameError.{SameError}
 use Rattle.dw_normal.specs.declared.error.SameError.TheVariants as same_error
-use Rattle.dw_normal.specs.declared.error.WriteError.{WriteError}
 
 long_within : (s : List ℕ) (r : Refusal) → r ≡ too_long → IsWithin s r
 long_within s r is = omega (arith, ap Refusal.at is)

@@ -1,26 +1,12 @@
 -- What is known of CIEs stays so while the rows of the groups are narrowed.
-use Rattle.dw_normal.proofs.Words.{◌≡◌, ◌⊎◌, ℕ, true, false, cond, List, [], ◌∷◌, Option, Some, None, Result, Ok, Err, refl, sym, ap, ◌∙◌, subst, inl, inr, IsTrue, IfOk, IfSome, OnOk, cases_Bool, AllByRecursion, nat_cmp, insert_entry, is_at, BTreeMap}
-use Rattle.dw_normal.proofs.Words.{AreSpecified, Rules, rule, agreed, same_rule, Changing, kept_by, Member, begun_with, row_of, row_or_blank, shown_row, with_member}
-use Rattle.std.specs.BTreeMap.{get}
-use Rattle.std.specs.Bool.{if◌then◌else◌}
+use Rattle.dw_normal.proofs.Words.{◌≡◌, ◌⊎◌, ℕ, true, false, cond, List, [], ◌∷◌, Option, Some, None, Result, Ok, Err, refl, sym, ap, ◌∙◌, subst, inl, inr, IsTrue, IfOk, IfSome, OnOk, cases_Bool, AllByRecursion, nat_cmp, insert_entry}
+use Rattle.dw_normal.proofs.Words.{is_at, BTreeMap, AreSpecified, Rules, rule, agreed, same_rule, Changing, kept_by, Member, begun_with, row_of, row_or_blank, shown_row, with_member, get, if◌then◌else◌, RegRule, is_kept, kept, is_agreed}
+use Rattle.dw_normal.proofs.Words.{rule_tells, Registers, AgreesBeside, SameBeside, is_specified, same_rows, Behind, AreChanged, CieLeaves, Section, CieSet, ShownBehind, Agree, AgreesAt, AreLess, Notes}
 use Rattle.std.proofs.lemmas.Map.Entries.{lookup_tail}
-use Rattle.dw_cfa.specs.declared.rule.RegRule.{RegRule}
 use Rattle.dw_cfa.specs.declared.rule.RegRule.TheVariants.{Unspecified}
-use Rattle.dw_cfa.specs.Agreement.{is_kept, kept}
-use Rattle.dw_cfa.specs.Inner.Agreement.{is_agreed}
-use Rattle.dw_cfa.specs.Inner.RowEquality.{rule_tells}
-use Rattle.dw_cfa.specs.RegisterSets.{Registers, AgreesBeside, SameBeside}
-use Rattle.dw_cfa.specs.Rows.{is_specified}
 use Rattle.dw_cfa.proofs.Lent.Narrowed.{filter_keeps, filter_rule}
-use Rattle.dw_cfa.proofs.Lent.SameRows.{same_rows}
-use Rattle.dw_section.specs.declared.change.Behind.{Behind}
-use Rattle.dw_section.specs.Opening.{AreChanged, CieLeaves}
-use Rattle.dw_section.specs.Table.{Section}
-use Rattle.dw_normal.specs.declared.known.CieSet.{CieSet}
-use Rattle.dw_normal.specs.Inner.ChangeWalk.{ShownBehind}
-use Rattle.dw_normal.specs.Inner.Known.{Agree, AgreesAt, AreLess, Notes, Puts}
-use Rattle.dw_normal.proofs.Again.{found_written, there_is}
-use Rattle.dw_normal.proofs.Grouped.{told}
+use Rattle.dw_normal.specs.Inner.Known.{Puts}
+use Rattle.dw_normal.proofs.{Again.{found_written, there_is}, Grouped.told}
 
 if_some : {A : Type 0} (o : Option A) (P Q : A → Type 0) → ((x : A) → P x → Q x) → IfSome o P → IfSome o Q
 if_some None P Q to h = tt

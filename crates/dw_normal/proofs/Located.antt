@@ -1,10 +1,7 @@
 -- An FDE that was begun, among the entries of the normal form.
 use Rattle.dw_normal.proofs.Words.{◌≡◌, ℕ, ◌+◌, ◌++◌, ◌<◌, ◌≤◌, List, length, get_or, Some, sym, ap, ◌∙◌, arith, ◌^◌, length-append, fixed_bytes, AreBytes, length-fixed, Target, address_limit, Rules, Accepted, Fde, groups_of, part_of}
 use Rattle.dw_normal.proofs.Words.{canon, initial_of, place_of, IsPart, Member, AreMembers, contents, IsBegun, initial_rows, cies_bytes, place_in, cie_place, fde_with, Begun}
-use Rattle.dw_normal.proofs.Entries.{one_long, contents_less, part_at}
-use Rattle.dw_normal.proofs.Placed.{row_in}
-use Rattle.dw_normal.proofs.Summed.{canon_length}
-use Rattle.dw_normal.proofs.Sited.{place_low, place_is, is_placed}
+use Rattle.dw_normal.proofs.{Entries.{one_long, contents_less, part_at}, Placed.row_in, Summed.canon_length, Sited.{place_low, place_is, is_placed}}
 
 -- an FDE's contents behind room for their length, which can be spelled
 pub contents_low : (t : Target) (ms : List Member) (k : ℕ) (d : Member) → k < length ms → length (canon t ms) ≤ 2147483647

@@ -1,9 +1,6 @@
 -- Nops that are appended, as many as there may be, of which what is not missing goes.
-use Rattle.dw_normal.proofs.Words.{◌≡◌, ℕ, ◌+◌, ◌-◌, ◌≤◌, List, ◌++◌, length, take, replicate, arith, ap, ◌∙◌, missing, take-append-add}
-use Rattle.std.specs.Prelude.{◌%◌, ◌/◌, ◌*◌}
-use Rattle.dw_num.specs.declared.target.Size.{Size}
+use Rattle.dw_normal.proofs.Words.{◌≡◌, ℕ, ◌+◌, ◌-◌, ◌≤◌, List, ◌++◌, length, take, replicate, arith, ap, ◌∙◌, missing, take-append-add, ◌%◌, ◌/◌, ◌*◌, Size, take-replicate}
 use Rattle.dw_num.specs.declared.target.Size.TheVariants.{Four, Eight}
-use Rattle.std.proofs.lemmas.List.{take-replicate}
 use Rattle.std.proofs.lemmas.Nat.{mod_below}
 
 -- a length is rounded up to a multiple of the width by what is missing

@@ -3,8 +3,8 @@ use Rattle.dw_normal.proofs.Words.{◌≡◌, ℕ, ◌+◌, ◌<◌, List, [], �
 use Rattle.dw_normal.proofs.Words.{difference, later_changes, group, shared_by, initial_row, kept_by, agreed, Member, Stand, later_bytes, row_or_blank, shown_row, address_limit, Changing, before_then, ChangesStand, InstrFits}
 use Rattle.dw_normal.proofs.Words.{difference_fits, instr_bytes, program_bytes}
 use Rattle.std.proofs.lemmas.Grind.{flat_map-append}
-use Rattle.dw_normal.proofs.ChangesToCome.{Given}
 use Rattle.dw_canon.proofs.Lent.Programs.{below_end}
+use Rattle.dw_normal.proofs.ChangesToCome.{Given}
 
 -- ---- the pass over members
 

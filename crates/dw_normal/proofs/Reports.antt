@@ -1,22 +1,16 @@
 -- From what is known of a section's members to what the calls over normal forms answer.
 use Rattle.dw_normal.proofs.Words.{◌≡◌, ◌⊎◌, ℕ, ◌≤◌, Bool, List, [], length, take, Option, Some, None, Result, Ok, Err, refl, sym, ap, ◌∙◌, subst, inl, inr, arith, Decides, Appends, Keeps-refl, AreBytes, Target, Refuses, Rules, Accepted}
 use Rattle.dw_normal.proofs.Words.{CheckFault, canon, Member, AreMembers, members_exist, normal_form_is_one, same_exactly, IsTooLong, FitsCap, NormalFault, SameFault, WentOut, Writes, too_long, Puts, put_is, PutError, First, Second, IfOk}
-use Rattle.dw_normal.proofs.Words.{IfErr, initial_rows, Measures}
-use Rattle.dw_num.specs.declared.refusal.Refusal.{Refusal}
-use Rattle.dw_num.specs.declared.error.ReadError.{ReadError}
-use Rattle.dw_num.specs.declared.error.ReadError.TheVariants as read_error
+use Rattle.dw_normal.proofs.Words.{IfErr, initial_rows, Measures, Refusal, ReadError, IsShort, IsMeasured, LengthFault, blamed, unread, unwritten, SameError, WriteError, Section}
 use Rattle.dw_section.specs.Meanings.{SameMeaning}
 use Rattle.dw_section.proofs.Lent.CheckFirst.{fault_or_accepted}
 use Rattle.dw_canon.specs.Normal.{IsNormalForm}
 use Rattle.dw_canon.proofs.Lent.Forms.{is_normal, whole_is}
-use Rattle.dw_normal.specs.Inner.Answers.{IsShort, IsMeasured, LengthFault, blamed, unread, unwritten}
-use Rattle.dw_normal.specs.declared.entry.PutError.TheVariants as put_error
-use Rattle.dw_normal.specs.declared.error.SameError.{SameError}
-use Rattle.dw_normal.specs.declared.error.SameError.TheVariants as same_error
 use Rattle.dw_normal.specs.declared.error.Which.{Which}
-use Rattle.dw_normal.specs.declared.error.WriteError.{WriteError}
+use Rattle.dw_num.specs.declared.error.ReadError.TheVariants as read_error
+use Rattle.dw_normal.specs.declared.entry.PutError.TheVariants as put_error
+use Rattle.dw_normal.specs.declared.error.SameError.TheVariants as same_error
 use Rattle.dw_normal.specs.declared.error.WriteError.TheVariants as write_error
-use Rattle.dw_section.specs.Table.{Section}
 
 -- ---- the members of a section
 

@@ -1,13 +1,6 @@
 -- Groups in a row, as a writer appends them.
-use Rattle.std.proofs.Common.{◌≡◌, ℕ, suc, ◌+◌, ◌*◌, ◌/◌, ◌%◌, ◌^◌, ◌<◌, ◌≤◌, List, [], ◌∷◌, ◌++◌, length, sym, ap, ◌∙◌, append_assoc, add-zero, zero-add, arith, inl, inr}
-use Rattle.std.specs.List.{AllByRecursion}
-use Rattle.std.proofs.Math.Nat.{pow-suc, pow-le-pow_right}
-use Rattle.std.proofs.lemmas.Bool.{cases_lt}
-use Rattle.std.proofs.lemmas.Nat.{mul-le}
-use Rattle.std.proofs.lemmas.Grind.{pow_more}
-use Rattle.std.proofs.lemmas.List.{length-append, append-nil}
-use Rattle.dw_num.specs.Leb.{IsLeb, groups_from, groups, Uleb}
-use Rattle.dw_num.specs.ShortestLeb.{PutsUleb}
+use Rattle.dw_num.proofs.Words.{◌≡◌, ℕ, suc, ◌+◌, ◌*◌, ◌/◌, ◌%◌, ◌^◌, ◌<◌, ◌≤◌, List, [], ◌∷◌, ◌++◌, length, sym, ap, ◌∙◌, append_assoc, add-zero, zero-add, arith, inl, inr, AllByRecursion, pow-suc, pow-le-pow_right, cases_lt, mul-le}
+use Rattle.dw_num.proofs.Words.{pow_more, length-append, append-nil, IsLeb, groups_from, groups, Uleb, PutsUleb}
 use Rattle.dw_num.proofs.LebLemmas.{groups_from-append}
 
 -- a byte that is not the last of a LEB

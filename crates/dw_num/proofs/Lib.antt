@@ -1,3 +1,4 @@
+mod Words
 pub mod LebLemmas
 pub mod Groups
 pub mod SignedGroups

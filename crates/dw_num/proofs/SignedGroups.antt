@@ -1,20 +1,8 @@
 -- Groups in a row, as a writer appends those of a signed number.
-use Rattle.std.proofs.Common.{◌≡◌, ℕ, suc, ◌+◌, ◌-◌, ◌*◌, ◌/◌, ◌%◌, ◌^◌, ◌<◌, ◌≤◌, Bool, true, false, ℤ, pos, negsuc, List, [], ◌∷◌, ◌++◌, length, refl, sym, ap, ◌∙◌, append_assoc, add-zero, arith, inl, inr}
-use Rattle.std.specs.Prelude.{FitsSigned}
-use Rattle.std.proofs.Math.Dec.{leb}
-use Rattle.std.specs.Int.{w64}
-use Rattle.std.specs.List.{AllByRecursion}
-use Rattle.std.proofs.Math.Nat.{pow-suc, pow-le-pow_right}
-use Rattle.std.proofs.lemmas.Bool.{cases_lt, le-leb, lt-leb, leb-true, leb-false}
-use Rattle.std.proofs.lemmas.Nat.{mul-le}
-use Rattle.std.proofs.lemmas.Grind.{pow_more}
-use Rattle.std.proofs.lemmas.List.{length-append, append-nil}
-use Rattle.dw_num.specs.Leb.{IsLeb, last_byte, is_negative, Sleb}
-use Rattle.dw_num.specs.Shortest.{turned}
-use Rattle.dw_num.specs.Inner.Scan.{turned_from, as_signed}
-use Rattle.dw_num.specs.ShortestLeb.{PutsSleb}
-use Rattle.dw_num.proofs.Groups.{IsMore, high-push, leb-push, split_product}
-use Rattle.dw_num.proofs.Lent.Turned.{turned_from-append, signed_groups-turned}
+use Rattle.dw_num.proofs.Words.{◌≡◌, ℕ, suc, ◌+◌, ◌-◌, ◌*◌, ◌/◌, ◌%◌, ◌^◌, ◌<◌, ◌≤◌, Bool, true, false, ℤ, pos, negsuc, List, [], ◌∷◌, ◌++◌, length, refl, sym, ap, ◌∙◌, append_assoc, add-zero, arith, inl, inr, FitsSigned, leb, w64}
+use Rattle.dw_num.proofs.Words.{AllByRecursion, pow-suc, pow-le-pow_right, cases_lt, le-leb, lt-leb, leb-true, leb-false, mul-le, pow_more, length-append, append-nil, IsLeb, last_byte, is_negative, Sleb, turned, turned_from, as_signed}
+use Rattle.dw_num.proofs.Words.{PutsSleb}
+use Rattle.dw_num.proofs.{Groups.{IsMore, high-push, leb-push, split_product}, Lent.Turned.{turned_from-append, signed_groups-turned}}
 
 -- where the last byte has the sign that is turned over, k bytes make less than 64 * 128 ^ (k - 1)
 pub turned_below : (t : Bool) (k : ℕ) (b : ℕ) (bs : List ℕ) → turned t (last_byte (b ∷ bs)) < 64 → turned_from t k (b ∷ bs) + 128 ^ k ≤ 64 * 128 ^ (k + length bs)

@@ -2,14 +2,9 @@
 use Rattle.dw_op.proofs.Words.{◌≡◌, ℕ, ◌+◌, ◌<◌, List, [], ◌∷◌, ◌++◌, length, Option, Some, None, Result, Ok, Err, refl, sym, ap, ◌∙◌, append_assoc, inl, inr, arith, ◌⊎◌, length-append, append-nil, Refusal, Target, Input, AreBytes, done}
 use Rattle.dw_op.proofs.Words.{taken_bytes, Op, Profile, Step, step_at, AllInRange, Walk, walk, end_of, index_at, starts_of, place_index, op_of, put_first, resolve, unless, block_input, decode_at, IsBlock, BlockFault}
 use mathlib.Core.Path.{fun_ext}
-use Rattle.dw_num.specs.declared.error.ReadError.{ReadError}
-use Rattle.dw_num.specs.declared.error.ReadError.TheVariants.{Refused, OutOfMemory}
-use Rattle.dw_num.specs.Refusals.{Refuses}
-use Rattle.dw_op.proofs.Lent.ReadingLaws.{step_found}
-use Rattle.dw_op.proofs.Splits.{walk_step, walk_stuck, walk_end}
-use Rattle.dw_op.proofs.Lent.Blocks.{block_found, block_only, fault_found, fault_only, block_so, answered, refused, same_ops, same_refusal, bad_branch, decoded_fault}
-use Rattle.dw_op.proofs.Lent.LeastBlocks.{in_range_of_block}
-use Rattle.dw_op.proofs.Search.{place_index_is}
+use Rattle.dw_num.specs.{declared.error.ReadError.ReadError, declared.error.ReadError.TheVariants.{Refused, OutOfMemory}, Refusals.Refuses}
+use Rattle.dw_op.proofs.{Lent.ReadingLaws.step_found, Splits.{walk_step, walk_stuck, walk_end}, Lent.Blocks.{block_found, block_only, fault_found, fault_only, block_so, answered, refused, same_ops, same_refusal, bad_branch, decoded_fault}}
+use Rattle.dw_op.proofs.{Lent.LeastBlocks.in_range_of_block, Search.place_index_is}
 
 -- ---- one operation further
 

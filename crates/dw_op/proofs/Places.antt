@@ -1,7 +1,6 @@
 -- Where the parts of a block begin.
 use Rattle.dw_op.proofs.Words.{◌≡◌, ℕ, zero, suc, ◌+◌, ◌≤◌, List, [], ◌∷◌, length, Option, Some, None, refl, ap, subst, arith, inl, inr, cases_eq, eq-eqb, ne_eqb, length-append, Target, Profile, Step, joined, start, plus, index_at}
-use Rattle.dw_op.proofs.Splits.{EachSpells, items_from}
-use Rattle.dw_op.proofs.Lent.ReadingLaws.{some_is}
+use Rattle.dw_op.proofs.{Splits.{EachSpells, items_from}, Lent.ReadingLaws.some_is}
 
 -- the number of the part that begins at a start
 pub index_start : (profile : Profile) (t : Target) (steps : List Step) (parts : List (List ℕ)) (at end place k : ℕ) → EachSpells profile t steps parts → k ≤ length parts

@@ -2,12 +2,12 @@
 use Rattle.dw_op.proofs.Words.{◌≡◌, Option, ℕ, ◌+◌, ◌-◌, Bool, true, List, [], ◌∷◌, ◌++◌, length, Some, None, refl, sym, ap, ◌∙◌, arith, inl, inr, append-nil, cases_Bool, le-leb, Again, again-then, take_again, byte_again, address_again}
 use Rattle.dw_op.proofs.Words.{Target, byte_count, Input, Fixed, fixed_number, fixed_bytes, Read, uleb_at, ◌>>=◌, uleb_again, register_again, sleb_again, fixed_at_again, fixed_again, length-fixed, Op, Profile, Step, Plain, Jump, Opcode}
 use Rattle.dw_op.proofs.Words.{FieldSpells, OpFormSpells, branch_target, StepSpells, step_in_frame, step_allowed, Field, FieldValue, OpForm, op_form_table, form_of, in_range, plain_op, opcode_of, code_in_frame, with_op, width_of, step_at}
-use Rattle.dw_op.specs.declared.op.Op.TheVariants as ops
 use Rattle.dw_op.specs.declared.operation.Branch.TheVariants.{Bra, Skip}
-use Rattle.dw_op.specs.declared.operation.Opcode.TheVariants as opcodes
-use Rattle.dw_op.specs.Operands as fields
 use Rattle.dw_op.proofs.Signed.{count_in, complement_of}
 use Rattle.dw_op.proofs.Lent.ReadingLaws.{some_is, EachEntry, looked_up, ◌&◌, form_for, Wide, FormWide, Makes, opcode_known, allowed_by, counted_in, value_at, then_value, step_of, operands_are, StepForm, form_framed}
+use Rattle.dw_op.specs.declared.op.Op.TheVariants as ops
+use Rattle.dw_op.specs.declared.operation.Opcode.TheVariants as opcodes
+use Rattle.dw_op.specs.Operands as fields
 
 module _ (t : Target) where
   -- ---- the fields of a form

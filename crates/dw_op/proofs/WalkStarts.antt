@@ -1,11 +1,7 @@
 -- Walks from an operation on, and what they know of the block's starts.
-use Rattle.dw_op.proofs.Words.{cases_lt, inl, inr, ◌≡◌, ℕ, ◌+◌, ◌<◌, ◌≤◌, List, [], ◌∷◌, ◌++◌, length, Option, Some, None, Result, Ok, Err, refl, sym, ap, subst, ◌∙◌, arith, eq-eqb, ne_eqb, length-append, append_assoc, Refusal, Target, Input}
-use Rattle.dw_op.proofs.Words.{AreBytes, done, Frame, Plain, Jump, Step, StepSpells, joined, step_at, PlacedStep, Walk, walk, end_of, plus, passed, Measure, Operations, LeastBytes, step_length, weight, sum_in, Shifted}
-use Rattle.dw_op.proofs.Lent.LeastBlocks.{length_of}
-use Rattle.dw_op.proofs.LeastOf.{least}
-use Rattle.dw_op.proofs.ResolvedSteps.{jump_length}
-use Rattle.dw_op.proofs.Lent.ReadingLaws.{step_found}
-use Rattle.dw_op.proofs.Splits.{EachSpells, items_from, split_of, walk_step, walk_stuck, walk_end, step_shorter}
+use Rattle.dw_op.proofs.Words.{cases_lt, inl, inr, ◌≡◌, ℕ, ◌+◌, ◌<◌, ◌≤◌, List, [], ◌∷◌, ◌++◌, length, Option, Some, None, Result, Ok, Err, refl, sym, ap, subst, ◌∙◌, arith, eq-eqb, ne_eqb, length-append, append_assoc, Refusal, Target}
+use Rattle.dw_op.proofs.Words.{Input, AreBytes, done, Frame, Plain, Jump, Step, StepSpells, joined, step_at, PlacedStep, Walk, walk, end_of, plus, passed, Measure, Operations, LeastBytes, step_length, weight, sum_in, Shifted}
+use Rattle.dw_op.proofs.{Lent.LeastBlocks.length_of, LeastOf.least, ResolvedSteps.jump_length, Lent.ReadingLaws.step_found, Splits.{EachSpells, items_from, split_of, walk_step, walk_stuck, walk_end, step_shorter}}
 use Rattle.dw_op.proofs.Decoded.{Within, within_more}
 
 abbrev starts_at : (Step → ℕ) → ℕ → Input → ℕ → Option ℕ

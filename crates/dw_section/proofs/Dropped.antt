@@ -1,11 +1,7 @@
 -- The registers that a change drops from a row that was narrowed by the row before it.
-use Rattle.dw_section.proofs.Words.{◌≡◌, ℕ, suc, Bool, true, false, List, [], ◌∷◌, Option, Some, None, Ok, refl, sym, ap, ◌∙◌, subst, arith, nat_eq, nat_lt, nat_tests, not, inl, inr, filter, cases_Bool, RegRule, kept, Rules, rule, rule_in, is_specified, kept_by}
-use Rattle.dw_section.proofs.Words.{AreSpecified, ChangesKeep, DiffersFirst, is_kept, Entry, Changing, GivesAddress, before_then, same_rows}
-use Rattle.std.specs.Bool.{if◌then◌else◌}
-use Rattle.dw_cfa.proofs.Lent.Narrowed.{filter_keeps, filter_rule}
-use Rattle.dw_cfa.specs.Agreement.{without}
-use Rattle.dw_cfa.specs.Difference.{FirstDifference}
-use Rattle.dw_cfa.specs.declared.rule.RegRule.TheVariants.{Unspecified}
+use Rattle.dw_section.proofs.Words.{◌≡◌, ℕ, suc, Bool, true, false, List, [], ◌∷◌, Option, Some, None, Ok, refl, sym, ap, ◌∙◌, subst, arith, nat_eq, nat_lt, nat_tests, not, inl, inr, filter, cases_Bool, RegRule, kept, Rules, rule, rule_in}
+use Rattle.dw_section.proofs.Words.{is_specified, kept_by, AreSpecified, ChangesKeep, DiffersFirst, is_kept, Changing, GivesAddress, before_then, same_rows, if◌then◌else◌, filter_keeps, filter_rule, without, FirstDifference, Unspecified}
+use Rattle.dw_cfa.proofs.Lent.RowLists.{Entry}
 
 -- a rule that stays where a test keeps it
 abbrev left : (Entry → Bool) → ℕ → RegRule → RegRule

@@ -2,14 +2,9 @@
 use Rattle.dw_section.proofs.Words.{◌≡◌, ℕ, ◌+◌, ◌≤◌, List, length, Result, Err, ap, subst, arith, inl, inr, ◌⊎◌, ◌==◌, ◌&&◌, nat_lt, IfErr, length-append, length-drop, AllByRecursion, Refusal, Order, Target, Input, AreBytes, Read}
 use Rattle.dw_section.proofs.Words.{input_of, ReadError, CheckFault, Item, Piece, all_bytes, id_width, IsWithin, Refuses, CutFault, Head, cie, fde, Has, Headers, CieStuck, FdeStuck, HeadersFault, contents_of, HasBytes, head_at, Range}
 use Rattle.dw_section.proofs.Words.{nonempty, IsAmong, cie_places, CieBroken, FdeBroken, LacksRule, factors_of, Fields, cie_fields, CieHolds, FdeHolds, CieRuns, FdeRuns, HasRules, fde_fields, FieldsFault, StandsIn, cases_lt, lt-ltb, le-ltb}
-use Rattle.dw_section.proofs.Words.{unit_length_at, Inside, stays-then, either_stays, unit_length_stays, cie_within, fde_within, is_32, body_at, item_at, head_program, IfErr-weaker, refuses_by, Stays}
-use Rattle.dw_num.specs.declared.target.UnitLength.{UnitLength}
-use Rattle.dw_section.proofs.Lent.HeaderLaws.{fields_end}
-use Rattle.dw_section.proofs.Lent.Heads.{heads_bytes, all_in}
-use Rattle.dw_section.proofs.FieldLaws.{fault_is, fields_stay}
-use Rattle.dw_section.proofs.Stages.{holds_at, stuck_among}
-use Rattle.dw_section.proofs.Lent.Sections.{range_head}
-use Rattle.dw_section.proofs.StandLaws.{piece_ends, stands_in, stands_of}
+use Rattle.dw_section.proofs.Words.{unit_length_at, stays-then, either_stays, unit_length_stays, cie_within, fde_within, is_32, body_at, item_at, head_program, IfErr-weaker, refuses_by, UnitLength}
+use Rattle.dw_num.proofs.Lent.Stays.{Inside, Stays}
+use Rattle.dw_section.proofs.{Lent.HeaderLaws.fields_end, Lent.Heads.{heads_bytes, all_in}, FieldLaws.{fault_is, fields_stay}, Stages.{holds_at, stuck_among}, Lent.Sections.range_head, StandLaws.{piece_ends, stands_in, stands_of}}
 
 -- ---- items
 

@@ -1,11 +1,11 @@
 -- Fields are read as they are spelled, spelled as they are read, and refused with their first fault.
-pub use Rattle.dw_section.specs.Inner.Fields.{judged, behind_field, fields_at}
 use Rattle.dw_section.proofs.Words.{◌≡◌, ℕ, zero, ◌+◌, ◌==◌, true, false, List, [], ◌∷◌, ◌++◌, length, drop, get_or, Option, Some, None, Ok, Err, refl, sym, ap, subst, ◌∙◌, append_assoc, arith, inl, inr, position, lt-ltb, eqb_tells}
 use Rattle.dw_section.proofs.Words.{length-append, Code, Refusal, Target, IsWidth, Input, AreBytes, Takes, behind, Read, ◌>>=◌, Fields, end, field, empty_string, FieldsSpell, string_fault, FieldsFault, fixed, unsigned, signed, done, ok_is}
-use Rattle.dw_section.proofs.Words.{uleb_again, uleb_found, front_byte, fixed_found, fixed_at_again, taken_bytes, inside_all, stays_in, stays-then, fixed_stays, uleb_stays, sleb_stays, Judged, Number, NumberValue, NumberSpells, number_at, Stays}
+use Rattle.dw_section.proofs.Words.{uleb_again, uleb_found, front_byte, fixed_found, fixed_at_again, taken_bytes, inside_all, stays_in, stays-then, fixed_stays, uleb_stays, sleb_stays, Judged, Number, NumberValue, NumberSpells, number_at}
+use Rattle.dw_section.proofs.Words.{Takes-then, Again, bind_ok}
+use Rattle.dw_num.proofs.Lent.{Stays.Stays, SlebLaws.{sleb_again, sleb_found}}
 use Rattle.std.proofs.lemmas.List.Quantifiers.{position-Some}
-use Rattle.dw_num.proofs.Lent.SlebLaws.{sleb_again, sleb_found}
-use Rattle.dw_num.proofs.Lent.Steps.{Takes-then, Again, bind_ok}
+pub use Rattle.dw_section.specs.Inner.Fields.{judged, behind_field, fields_at}
 
 -- ---- numbers
 

@@ -4,8 +4,7 @@ use Rattle.dw_section.proofs.Words.{AllByRecursion, cons_option, length-append, 
 use Rattle.dw_section.proofs.Words.{Dwarf64, Input, Takes, Item, gap, entry, IsItem, item_bytes, is_cie, id_width, all_bytes, Piece, piece_of, pieces, fixed_bytes, ok_is, Entries, entry_of, item_at, IsStuck, Four, Cut}
 use Rattle.dw_section.specs.declared.entry.Entry.{Entry}
 use Rattle.dw_num.specs.declared.target.Order.TheVariants.{Little, Big}
-use Rattle.dw_section.proofs.Cfa.{err_one}
-use Rattle.dw_section.proofs.Stages.{all_push}
+use Rattle.dw_section.proofs.{Cfa.err_one, Stages.all_push}
 
 pub gap_bytes : (order : Order) → length_bytes order Dwarf32 0 ≡ 0 ∷ 0 ∷ 0 ∷ 0 ∷ []
 gap_bytes Little = refl

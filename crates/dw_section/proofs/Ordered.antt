@@ -3,9 +3,8 @@ use Rattle.dw_section.proofs.Words.{◌≡◌, ℕ, zero, suc, ◌+◌, ◌<◌,
 use Rattle.dw_section.proofs.Words.{IsDistinct, IsPermutation, IsNonDecreasingBy, IsSortedByKey, IsStableByKey, cases_lt, ne_eqb, drop_more, map-append, take-append-drop, All-permutation, IsPermutation-map, IsPermutation-sym}
 use Rattle.dw_section.proofs.Words.{ties_still_rise, All-from_recursion, recursion_from_All, Overlap, Ranged, PlacesRise, EndsAt, range_in, Range, Precedes, Ascends, AreApart, FirstOverlap, end_of, IsAmong, SameMembers, nat_tests}
 use Rattle.std.specs.Cmp.{nat_cmp_is}
-use Rattle.dw_section.proofs.Lent.Index.{all_from}
-use Rattle.dw_section.proofs.Stages.{all_push, among_here, all_weaker}
 use Rattle.std.proofs.lemmas.Map.Keys.{IsDistinct-from_apart, apart_from_distinct, IsDistinct-IsPermutation}
+use Rattle.dw_section.proofs.{Lent.Index.all_from, Stages.{all_push, among_here, all_weaker}}
 
 -- ---- overlaps
 

@@ -1,20 +1,12 @@
 -- A section has entries and headers, or a first fault in their way.
 use Rattle.dw_section.proofs.Words.{◌≡◌, ℕ, zero, suc, ◌<◌, ◌≤◌, ◌==◌, ◌&&◌, ◌⊎◌, true, List, [], ◌∷◌, ◌++◌, length, map, take, refl, sym, ap, subst, ◌∙◌, arith, inl, inr, Ok, Err, AllByRecursion, append-nil, length-append}
-use Rattle.dw_section.proofs.Words.{take-append-drop, length-take-le, cases_Bool, cases_lt, eqb_tells, lt-ltb, le-ltb, ok_is, done, cons_option, taken_bytes, unit_length_at, Read, ◌>>=◌, AreBytes, Input, Takes, behind, Order, Dwarf32, Dwarf64, Form, Target, Refusal}
-use Rattle.dw_section.proofs.Words.{FirstStuck, Then, IsAmong, Item, gap, entry, IsItem, item_bytes, item_at, body_at, is_32, id_width, length_bytes, all_bytes, piece_of, Piece, Pieces, CutFault, Entries, entry_of, cie_places, Kind, CieFields, FdeFields}
-use Rattle.dw_section.proofs.Words.{CieHolds, CieStuck, FdeHolds, FdeStuck, CieFieldsFault, CiesHold, HeadersFault, Head, Headers, cie_fields, fde_fields, contents_of, program_of}
-use Rattle.dw_section.specs.declared.entry.Kind.TheVariants as kind
+use Rattle.dw_section.proofs.Words.{take-append-drop, length-take-le, cases_Bool, cases_lt, eqb_tells, lt-ltb, le-ltb, ok_is, done, cons_option, taken_bytes, unit_length_at, Read, ◌>>=◌, AreBytes, Input, Takes, behind, Order, Dwarf32}
+use Rattle.dw_section.proofs.Words.{Dwarf64, Form, Target, Refusal, FirstStuck, Then, IsAmong, Item, gap, entry, IsItem, item_bytes, item_at, body_at, is_32, id_width, length_bytes, all_bytes, piece_of, Piece, Pieces, CutFault, Entries}
+use Rattle.dw_section.proofs.Words.{entry_of, cie_places, Kind, CieFields, FdeFields, CieHolds, CieStuck, FdeHolds, FdeStuck, CieFieldsFault, CiesHold, HeadersFault, Head, Headers, cie_fields, fde_fields, contents_of, program_of}
+use Rattle.dw_section.proofs.Words.{SectionTooLarge, UnitLength, LengthFits, unit_length_found, Takes-then}
 use Rattle.dw_section.specs.declared.entry.Entry.{Entry}
-use Rattle.dw_num.specs.declared.refusal.Code.TheVariants.{SectionTooLarge}
-use Rattle.dw_num.specs.declared.target.UnitLength.{UnitLength}
-use Rattle.dw_num.specs.Fixed.{LengthFits}
-use Rattle.dw_num.proofs.Lent.FixedLaws.{unit_length_found}
-use Rattle.dw_num.proofs.Lent.Steps.{Takes-then}
-use Rattle.dw_section.proofs.FieldLaws.{fields_at, fault_is}
-use Rattle.dw_section.proofs.Items.{IsWalked, gap_bytes, item_some, walked_more}
-use Rattle.dw_section.proofs.Lent.HeaderLaws.{cie_reads, fde_reads, heads_of}
-use Rattle.dw_section.proofs.Lent.Heads.{pieces_bytes}
-use Rattle.dw_section.proofs.Lent.Index.{all_in}
+use Rattle.dw_section.proofs.{FieldLaws.{fields_at, fault_is}, Items.{IsWalked, gap_bytes, item_some, walked_more}, Lent.HeaderLaws.{cie_reads, fde_reads, heads_of}, Lent.Heads.pieces_bytes, Lent.Index.all_in}
+use Rattle.dw_section.specs.declared.entry.Kind.TheVariants as kind
 
 -- ---- a stage
 

@@ -1,20 +1,10 @@
 -- A section is accepted, or has a first fault.
-use Rattle.dw_section.proofs.Words.{◌≡◌, ℕ, zero, suc, ◌+◌, ◌<◌, ◌≤◌, ◌⊎◌, true, List, [], ◌∷◌, ◌++◌, refl, sym, ap, subst, ◌∙◌, append_assoc, append-nil, arith, inl, inr, Option, Some, None, Result, Ok, Err, AllByRecursion, cases_lt, eqb_tells}
-use Rattle.dw_section.proofs.Words.{AreBytes, Target, Refusal, NoCfaRule, Overlap, input_of, Factors, Instr, CfaRule, Unset, ProgramSpells, Rules, Outcome, cfa_after, initial_cfa, counts_exists, one_count, address_limit, IsAmong, is_among}
-use Rattle.dw_section.proofs.Words.{Head, cie, fde, CieHead, FdeHead, Headers, HasBytes, cie_ats, HeadsRise, factors_of, CieRuns, CieBroken, FdeRuns, FdeBroken, HasRules, LacksRule, HasCfa, InitialInstrs}
-use Rattle.dw_section.proofs.Words.{HeadersFault, CieProgramsFault, FdeProgramsFault, RulesFault, CheckFault, CiesRun, FdesRun, RulesHold, Indexed, Accepted, Range, nonempty, Precedes, Ascends, IsIndex, AreApart, FirstOverlap, end_of, PlacesRise}
-use Rattle.dw_num.specs.Input.{Input}
-use Rattle.dw_cfa.specs.Behind.{LeavesTo, RunsBehind}
-use Rattle.dw_cfa.specs.Kept.{CieKept}
-use Rattle.dw_section.proofs.Words.{behind_where_fault, one_behind, one_initial}
-use Rattle.dw_section.specs.Programs.{LacksCfa}
-use Rattle.dw_section.proofs.Cfa.{row_of}
-use Rattle.dw_section.proofs.Ordered.{apart_more}
-use Rattle.dw_section.proofs.Settled.{Settled, answered, heads_settled, next_settled}
-use Rattle.dw_section.proofs.Stages.{all_weaker}
-use Rattle.dw_section.proofs.Tables.{nonempty_rise}
-use Rattle.dw_section.proofs.Lent.CheckFirst.{Known, known}
-use Rattle.dw_section.proofs.Lent.Heads.{heads_rise}
+use Rattle.dw_section.proofs.Words.{◌≡◌, ℕ, zero, suc, ◌+◌, ◌<◌, ◌≤◌, ◌⊎◌, true, List, [], ◌∷◌, ◌++◌, refl, sym, ap, subst, ◌∙◌, append_assoc, append-nil, arith, inl, inr, Option, Some, None, Result, Ok, Err, AllByRecursion, cases_lt}
+use Rattle.dw_section.proofs.Words.{eqb_tells, AreBytes, Target, Refusal, NoCfaRule, Overlap, input_of, Factors, Instr, CfaRule, Unset, ProgramSpells, Rules, Outcome, cfa_after, initial_cfa, counts_exists, one_count, address_limit, IsAmong}
+use Rattle.dw_section.proofs.Words.{is_among, Head, cie, fde, CieHead, FdeHead, Headers, HasBytes, cie_ats, HeadsRise, factors_of, CieRuns, CieBroken, FdeRuns, FdeBroken, HasRules, LacksRule, HasCfa, InitialInstrs, HeadersFault}
+use Rattle.dw_section.proofs.Words.{CieProgramsFault, FdeProgramsFault, RulesFault, CheckFault, CiesRun, FdesRun, RulesHold, Indexed, Accepted, Range, nonempty, Precedes, Ascends, IsIndex, AreApart, FirstOverlap, end_of, PlacesRise, Input}
+use Rattle.dw_section.proofs.Words.{LeavesTo, RunsBehind, CieKept, behind_where_fault, one_behind, one_initial, LacksCfa}
+use Rattle.dw_section.proofs.{Cfa.row_of, Ordered.apart_more, Settled.{Settled, answered, heads_settled, next_settled}, Stages.all_weaker, Tables.nonempty_rise, Lent.CheckFirst.{Known, known}, Lent.Heads.heads_rise}
 use Rattle.dw_section.proofs.Lent.Index.{all_from, all_in}
 
 -- ---- programs of CIEs

@@ -1,14 +1,10 @@
 -- Entries that stand at their places in bytes.
-use Rattle.dw_section.proofs.Words.{◌≡◌, ℕ, ◌+◌, ◌-◌, ◌≤◌, true, List, [], ◌∷◌, ◌++◌, length, take, drop, Some, Err, refl, sym, ap, subst, ◌∙◌, append_assoc, arith, inl, inr, AllByRecursion, Form, Order, Target, Refusal, Input}
-use Rattle.dw_section.proofs.Words.{Takes, Span, length_bytes, Kind, Item, gap, entry, IsItem, Piece, item_bytes, piece_of, pieces, is_cie, all_bytes, CieFields, FdeFields, FoundFde, item_at, address_limit, is_among, CieHead, FdeHead, Head}
-use Rattle.dw_section.proofs.Words.{Has, Headers, IsCie, IsFde, cie, fde, cie_head, cie_at, fde_at, IsFound, found_cie, found_head, Returns, Range, cie_places, IsAmong, StandsIn, AreJoined, FoundStands, StandsAt, Pieces, eq-eqb, eqb_tells}
+use Rattle.dw_section.proofs.Words.{◌≡◌, ℕ, ◌+◌, ◌-◌, ◌≤◌, true, List, [], ◌∷◌, ◌++◌, length, take, drop, Some, Err, refl, sym, ap, subst, ◌∙◌, append_assoc, arith, inl, inr, AllByRecursion, Form, Order, Target, Refusal, Input, Takes, Span}
+use Rattle.dw_section.proofs.Words.{length_bytes, Kind, Item, gap, entry, IsItem, Piece, item_bytes, piece_of, pieces, is_cie, all_bytes, CieFields, FdeFields, FoundFde, item_at, address_limit, is_among, CieHead, FdeHead, Head, Has}
+use Rattle.dw_section.proofs.Words.{Headers, IsCie, IsFde, cie, fde, cie_head, cie_at, fde_at, IsFound, found_cie, found_head, Returns, Range, cie_places, IsAmong, StandsIn, AreJoined, FoundStands, StandsAt, Pieces, eq-eqb, eqb_tells}
 use Rattle.dw_section.proofs.Words.{length-append, drop_at, length-drop, length-take-le, take-append-drop, take_all, FdeEntry, FdeStands, Initial, entry_in, initial_in, some_is}
+use Rattle.dw_section.proofs.{Lent.FieldTable.fde_said, Lent.HeaderLaws.{has_one, cie_at_again, fde_at_again}, Lent.Heads.{cie_or, fde_or, has_at}, Items.{front_item, item_again}, Lent.Index.zip_right}
 use Rattle.dw_section.specs.declared.entry.Kind.TheVariants as kind
-use Rattle.dw_section.proofs.Lent.FieldTable.{fde_said}
-use Rattle.dw_section.proofs.Lent.HeaderLaws.{has_one, cie_at_again, fde_at_again}
-use Rattle.dw_section.proofs.Lent.Heads.{cie_or, fde_or, has_at}
-use Rattle.dw_section.proofs.Items.{front_item, item_again}
-use Rattle.dw_section.proofs.Lent.Index.{zip_right}
 
 -- ---- the entries of a section stand at their places
 

@@ -1,8 +1,8 @@
 -- What stands in bytes lies in them, and so does what is wrong there.
 use Rattle.dw_section.proofs.Words.{◌≡◌, ℕ, ◌≤◌, List, length, drop, Some, Result, Err, subst, arith, IfErr, length-drop, Target, Refusal, ReadError, Read, Input, AreBytes, Refuses, span_of, input_of, address_limit, FoundFde, Item, Piece}
-use Rattle.dw_section.proofs.Words.{IsWithin, item_at, cie_fields, fde_fields, StandsIn, Outcome, RunsSo, cie_at, fde_at, Refused, run_within, refused_where_fault, one_run, LiesInPrograms, Stays}
-use Rattle.dw_section.proofs.FaultPlaces.{stuck_within, item_stays}
-use Rattle.dw_section.proofs.Lent.HeaderLaws.{cie_faulty, fde_faulty}
+use Rattle.dw_section.proofs.Words.{IsWithin, item_at, cie_fields, fde_fields, StandsIn, Outcome, RunsSo, cie_at, fde_at, Refused, run_within, refused_where_fault, one_run, LiesInPrograms}
+use Rattle.dw_num.proofs.Lent.Stays.{Stays}
+use Rattle.dw_section.proofs.{FaultPlaces.{stuck_within, item_stays}, Lent.HeaderLaws.{cie_faulty, fde_faulty}}
 
 -- what keeps an item from standing at a place
 pub item_within : (target : Target) (s : List ℕ) (at : ℕ) (i : Input) (r : Refusal) → i ≡ record { at = at; bytes = drop at s; target = target } → at ≤ length s → item_at i ≡ Err r → IsWithin s r

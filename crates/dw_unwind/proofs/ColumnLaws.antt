@@ -1,17 +1,8 @@
 -- What the values of columns are over a memory.
-use Rattle.std.proofs.Common.{◌≡◌, ◌⊎◌, ℕ, ◌<◌, ◌≤◌, List, Result, Ok, Err, refl, subst, arith, inl, inr}
-use Rattle.std.proofs.lemmas.Bool.{cases_lt}
-use Rattle.dw_op.specs.Expression.{Expression}
-use Rattle.dw_eval.specs.declared.error.EvalError.{EvalError}
+use Rattle.dw_unwind.proofs.Words.{◌≡◌, ◌⊎◌, ℕ, ◌<◌, ◌≤◌, List, Result, Ok, Err, refl, subst, arith, inl, inr, cases_lt, Expression, EvalError, Context, Evaluates, MayFailAt, Column, UnwindError, Eval, Device, OutOfMemory, in_column}
+use Rattle.dw_unwind.proofs.Words.{ValueIs, ValueFails, Over}
 use Rattle.dw_eval.specs.declared.error.EvalError.TheVariants as eval
 use Rattle.dw_eval.specs.declared.error.Kind.TheVariants as kinds
-use Rattle.dw_eval.specs.Context.{Context}
-use Rattle.dw_eval.specs.Evaluation.{Evaluates, MayFailAt}
-use Rattle.dw_unwind.specs.declared.frame.Column.{Column}
-use Rattle.dw_unwind.specs.declared.frame.UnwindError.{UnwindError}
-use Rattle.dw_unwind.specs.declared.frame.UnwindError.TheVariants.{Eval, Device, OutOfMemory}
-use Rattle.dw_unwind.specs.Columns.{in_column, ValueIs, ValueFails}
-use Rattle.dw_unwind.specs.Inner.Recovery.{Over}
 
 -- what is known of an evaluation over a memory
 pub record Tells (c : Context) (limit : ℕ) (e : Expression) (first : List ℕ) (before after : ℕ) (r : Result ℕ EvalError) : Type 0 where

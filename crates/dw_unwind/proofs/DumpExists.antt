@@ -1,23 +1,10 @@
 -- The lines of a dump have a reading or a first fault.
-use Rattle.std.proofs.Common.{◌≡◌, ◌≢◌, ◌⊎◌, ℕ, zero, suc, ◌+◌, ◌-◌, ◌<◌, ◌≤◌, false, List, [], ◌∷◌, ◌++◌, length, take, drop, Option, Some, None, Ok, Err, refl, sym, ap, ap₂, subst, ◌∙◌, arith, inl, inr, ⊎_elim, true≢false, append_assoc}
-use Rattle.std.specs.Prelude.{codes, is_some, slice_index, Result}
-use Rattle.std.proofs.lemmas.Bool.{cases_lt, cases_eq}
-use Rattle.std.proofs.lemmas.Bool.Decides.{eqb_tells, leb_tells}
-use Rattle.std.proofs.lemmas.List.{append-nil, append_cancel_left}
-use Rattle.std.proofs.lemmas.Option.{slice_get_past}
-use Rattle.hex.specs.Hex.{decode_of}
+use Rattle.dw_unwind.proofs.Words.{◌≡◌, ◌≢◌, ◌⊎◌, ℕ, zero, suc, ◌+◌, ◌-◌, ◌<◌, ◌≤◌, false, List, [], ◌∷◌, ◌++◌, length, take, drop, Option, Some, None, Ok, Err, refl, sym, ap, ap₂, subst, ◌∙◌, arith, inl, inr, ⊎_elim, true≢false}
+use Rattle.dw_unwind.proofs.Words.{append_assoc, codes, is_some, slice_index, Result, cases_lt, cases_eq, eqb_tells, leb_tells, append-nil, append_cancel_left, slice_get_past, decode_of, DumpCode, BadLine, ValueTooLarge, Repeated}
+use Rattle.dw_unwind.proofs.Words.{DumpFault, SaysWithin, Say, FirstFault, IsFaulty, number_behind, Hexadecimal, RegisterName, HexPairs, CounterLine, RegisterLine, MemoryLine, SkippedLine, LineSays, Statement, DumpItem, Fits, nothing}
+use Rattle.dw_unwind.proofs.Words.{counter_is, register_is, memory_is, counter, register, byte, told, times, Lacks, len_until}
 use Rattle.hex.specs.declared.error.FromHexError.{FromHexError}
-use Rattle.dw_unwind.specs.declared.fault.DumpCode.{DumpCode}
-use Rattle.dw_unwind.specs.declared.fault.DumpCode.TheVariants.{BadLine, ValueTooLarge, Repeated}
-use Rattle.dw_unwind.specs.declared.fault.DumpFault.{DumpFault}
-use Rattle.dw_unwind.specs.Dump.{SaysWithin, Say, FirstFault, IsFaulty}
-use Rattle.dw_num.specs.Digits.{number_behind}
-use Rattle.dw_unwind.specs.Spelling.{Hexadecimal, RegisterName, HexPairs, CounterLine, RegisterLine, MemoryLine, SkippedLine, LineSays}
-use Rattle.dw_unwind.specs.Statement.{Statement, DumpItem, Fits, nothing, counter_is, register_is, memory_is, counter, register, byte, told, times}
-use Rattle.dw_unwind.specs.Inner.Spelling.{Lacks, len_until}
-use Rattle.dw_unwind.proofs.Words.{lacks_front, until_parts, word_within, digits_lack_space, register_parts, memory_parts, none_said}
-use Rattle.dw_unwind.proofs.KeepLaws.{once_push}
-use Rattle.dw_unwind.proofs.Elements.{zip_push}
+use Rattle.dw_unwind.proofs.{LineParts.{lacks_front, until_parts, word_within, digits_lack_space, register_parts, memory_parts, none_said}, KeepLaws.once_push, Elements.zip_push}
 
 -- ---- what holds or not, and what is found or not
 

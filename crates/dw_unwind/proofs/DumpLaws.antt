@@ -1,24 +1,9 @@
 -- What was gathered is what the lines say, or their first fault.
-use Rattle.std.proofs.Common.{◌≡◌, ℕ, zero, suc, ◌+◌, ◌-◌, ◌^◌, ◌<◌, ◌≤◌, Bool, true, false, cond, List, [], ◌∷◌, ◌++◌, length, take, get_or, Option, Some, None, refl, sym, ap, subst, ◌∙◌, arith, add-one, inl, inr, append_assoc, length-append}
-use Rattle.std.specs.Prelude.{is_some, slice_get}
-use Rattle.std.specs.List.{AllByRecursion, AllZip}
-use Rattle.std.proofs.lemmas.Bool.Decides.{leb_tells}
-use Rattle.std.proofs.lemmas.List.Sums.{sum_by-cons, sum_by-append}
-use Rattle.std.proofs.lemmas.List.{append-nil}
-use Rattle.std.proofs.lemmas.Slice.Zip.{AllZip-long}
-use Rattle.std.proofs.lemmas.Option.{slice_get_past, slice_get-get_or}
-use Rattle.dw_unwind.specs.declared.fault.DumpCode.TheVariants.{Repeated}
-use Rattle.dw_unwind.specs.declared.fault.DumpFault.{DumpFault}
-use Rattle.dw_unwind.specs.declared.partial_dump.Gathered.{Gathered}
-use Rattle.dw_unwind.specs.declared.ranges.Range.{Range}
-use Rattle.dw_unwind.specs.Dump.{SaysWithin, Say, FirstFault}
-use Rattle.dw_unwind.specs.Inner.Gathered.{Gathers, Keeps, IsWhole, ranges_of, bytes_of}
-use Rattle.dw_unwind.specs.Ranges.{covers, byte_among}
-use Rattle.dw_unwind.specs.Inner.Ranges.{cover_count, AreApart, Meet, IsSoundRange}
-use Rattle.std.specs.Option.{option_or}
-use Rattle.dw_unwind.specs.Statement.{Statement, DumpItem, nothing, counter_is, register_is, memory_is, counter, register, byte, told, given, times}
-use Rattle.dw_unwind.proofs.KeepLaws.{times_cons}
-use Rattle.dw_unwind.proofs.RangeLaws.{covers_tells}
+use Rattle.dw_unwind.proofs.Words.{◌≡◌, ℕ, zero, suc, ◌+◌, ◌-◌, ◌^◌, ◌<◌, ◌≤◌, Bool, true, false, cond, List, [], ◌∷◌, ◌++◌, length, take, get_or, Option, Some, None, refl, sym, ap, subst, ◌∙◌, arith, add-one, inl, inr, append_assoc}
+use Rattle.dw_unwind.proofs.Words.{length-append, is_some, slice_get, AllByRecursion, AllZip, leb_tells, sum_by-cons, sum_by-append, append-nil, AllZip-long, slice_get_past, slice_get-get_or, Repeated, DumpFault, Gathered, Range}
+use Rattle.dw_unwind.proofs.Words.{SaysWithin, Say, FirstFault, Gathers, Keeps, IsWhole, ranges_of, bytes_of, covers, byte_among, cover_count, AreApart, Meet, IsSoundRange, option_or, Statement, DumpItem, nothing, counter_is, register_is}
+use Rattle.dw_unwind.proofs.Words.{memory_is, counter, register, byte, told, given, times}
+use Rattle.dw_unwind.proofs.{KeepLaws.times_cons, RangeLaws.covers_tells}
 
 pub ranges_within : (limit line place room : ℕ) (ss : List Statement) → limit ≤ 2 ^ 64 → AllByRecursion (IsWhole limit) ss → place + length (bytes_of ss) ≤ room → AllByRecursion (IsSoundRange (2 ^ 64) room) (ranges_of line place ss)
 ranges_within limit line place room [] le whole fits = tt

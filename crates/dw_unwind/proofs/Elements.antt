@@ -1,7 +1,5 @@
 -- What holds of each element of a list.
-use Rattle.std.proofs.Common.{List, [], ◌∷◌, ◌++◌, sym, subst, inl, inr}
-use Rattle.std.specs.List.{AllByRecursion, AllZip}
-use Rattle.dw_section.specs.Among.{IsAmong}
+use Rattle.dw_unwind.proofs.Words.{List, [], ◌∷◌, ◌++◌, sym, subst, inl, inr, AllByRecursion, AllZip, IsAmong}
 
 pub all_push : {X : Type 0} (P : X → Type 0) (xs : List X) (x : X) → AllByRecursion P xs → P x → AllByRecursion P (xs ++ x ∷ [])
 all_push P [] x h p = (p, tt)

@@ -1,26 +1,10 @@
 -- A fault of an unwinding names a column of the frame.
-use Rattle.std.proofs.Common.{◌≡◌, ℕ, List, Option, Some, None, Result, Ok, Err, refl, sym, ◌∙◌, ap, subst, inl, inr}
-use Rattle.std.specs.Option.{ok_or}
-use Rattle.std.specs.Prelude.{option_map}
-use Rattle.dw_num.specs.Target.{byte_count}
-use Rattle.dw_op.specs.Expression.{Expression}
-use Rattle.dw_cfa.specs.declared.rule.CfaRule.{CfaRule}
+use Rattle.dw_unwind.proofs.Words.{◌≡◌, ℕ, List, Option, Some, None, Result, Ok, Err, refl, sym, ◌∙◌, ap, subst, inl, inr, ok_or, option_map, byte_count, Expression, CfaRule, RegRule, Rules, rule, EvalError, Context, read_at, Column, Cfa}
+use Rattle.dw_unwind.proofs.Words.{Register, Frame, Policy, UnwindError, Unreadable, Device, NoRegister, in_column, recovered, on_value, saved_at, value_in, plus, ValueIs, SavedBy, CfaIs, RegisterIs, ValueFails, SavedByFails, CfaFails}
+use Rattle.dw_unwind.proofs.Words.{RegisterFails, column_of, IsInFrame, FaultsInFrame, FrameIs, FrameFails}
 use Rattle.dw_cfa.specs.declared.rule.CfaRule.TheVariants as cfa
-use Rattle.dw_cfa.specs.declared.rule.RegRule.{RegRule}
 use Rattle.dw_cfa.specs.declared.rule.RegRule.TheVariants as rules
-use Rattle.dw_cfa.specs.Rows.{Rules, rule}
-use Rattle.dw_eval.specs.declared.error.EvalError.{EvalError}
 use Rattle.dw_eval.specs.declared.error.EvalError.TheVariants as eval
-use Rattle.dw_eval.specs.Context.{Context, read_at}
-use Rattle.dw_unwind.specs.declared.frame.Column.{Column}
-use Rattle.dw_unwind.specs.declared.frame.Column.TheVariants.{Cfa, Register}
-use Rattle.dw_unwind.specs.declared.frame.Frame.{Frame}
-use Rattle.dw_eval.specs.declared.policy.Policy.{Policy}
-use Rattle.dw_unwind.specs.declared.frame.UnwindError.{UnwindError}
-use Rattle.dw_unwind.specs.declared.frame.UnwindError.TheVariants.{Unreadable, Device, NoRegister}
-use Rattle.dw_unwind.specs.Columns.{in_column, recovered, on_value, saved_at, value_in, plus, ValueIs, SavedBy, CfaIs, RegisterIs, ValueFails, SavedByFails, CfaFails, RegisterFails}
-use Rattle.dw_unwind.specs.Laws.{column_of, IsInFrame, FaultsInFrame}
-use Rattle.dw_unwind.specs.Unwound.{FrameIs, FrameFails}
 
 -- an answer is no fault with another column than this
 abbrev Names : {X : Type 0} → Column → Result X UnwindError → Type 0

@@ -1,17 +1,7 @@
 -- The registers of a frame, one after another.
-use Rattle.std.proofs.Common.{◌≡◌, ℕ, zero, suc, ◌<◌, ◌≤◌, true, false, List, [], ◌∷◌, ◌++◌, length, get_or, Option, Ok, refl, sym, subst, ◌∙◌, arith, inl, inr}
-use Rattle.std.specs.List.{AllByRecursion, AllPairs}
-use Rattle.std.specs.Prelude.{◌||◌, Bool, IsTrue, is_some}
-use Rattle.std.proofs.lemmas.Bool.{cases_lt, eq-eqb, ne_eqb}
-use Rattle.dw_cfa.specs.declared.rule.RegRule.{RegRule}
+use Rattle.dw_unwind.proofs.Words.{◌≡◌, ℕ, zero, suc, ◌<◌, ◌≤◌, true, false, List, [], ◌∷◌, ◌++◌, length, get_or, Option, Ok, refl, sym, subst, ◌∙◌, arith, inl, inr, AllByRecursion, AllPairs, ◌||◌, Bool, IsTrue, is_some, cases_lt, eq-eqb}
+use Rattle.dw_unwind.proofs.Words.{ne_eqb, RegRule, Rules, AreSpecified, is_specified, rule, rule_in, Context, Fde, IsAmong, Policy, is_listed, IsListed, Recovers, AreRegisters, Reached, Rise, SoFar, IsLeft}
 use Rattle.dw_cfa.specs.declared.rule.RegRule.TheVariants.{Unspecified}
-use Rattle.dw_cfa.specs.Rows.{Rules, AreSpecified, is_specified, rule, rule_in}
-use Rattle.dw_eval.specs.Context.{Context}
-use Rattle.dw_section.specs.declared.lookup.Fde.{Fde}
-use Rattle.dw_section.specs.Among.{IsAmong}
-use Rattle.dw_eval.specs.declared.policy.Policy.{Policy}
-use Rattle.dw_unwind.specs.Unwound.{is_listed, IsListed, Recovers, AreRegisters, Reached}
-use Rattle.dw_unwind.specs.Inner.Recovery.{Rise, SoFar, IsLeft}
 use Rattle.dw_unwind.proofs.Elements.{all_push, all_more, all_among}
 
 or-true : (b : Bool) → (b || true) ≡ true

@@ -1,17 +1,7 @@
 -- Statements one after the other: what they give, and how often.
-use Rattle.std.proofs.Common.{◌≡◌, ◌⊎◌, ℕ, suc, ◌+◌, ◌<◌, ◌≤◌, true, false, cond, List, [], ◌∷◌, ◌++◌, length, Option, Some, None, refl, sym, ap, subst, ◌∙◌, arith, add-zero, inl, inr, append_assoc, length-append}
-use Rattle.std.specs.Prelude.{is_some, ◌==◌}
-use Rattle.std.proofs.lemmas.Bool.{cases_Bool}
-use Rattle.std.proofs.lemmas.Bool.Decides.{eqb_tells}
-use Rattle.std.proofs.lemmas.List.{append-nil}
-use Rattle.std.proofs.lemmas.List.Sums.{sum_by-cons, sum_by_push}
-use Rattle.dw_eval.specs.Registers.{held}
-use Rattle.dw_unwind.specs.declared.partial_dump.Gathered.{Gathered}
-use Rattle.dw_unwind.specs.declared.ranges.Range.{Range}
-use Rattle.dw_unwind.specs.Spelling.{LineSays}
-use Rattle.dw_unwind.specs.Inner.Gathered.{Keeps, IsWhole, HasBytes, ranges_of, bytes_by, bytes_of}
-use Rattle.std.specs.Option.{option_or}
-use Rattle.dw_unwind.specs.Statement.{Statement, DumpItem, nothing, counter_is, register_is, memory_is, counter, register, told, given, times}
+use Rattle.dw_unwind.proofs.Words.{◌≡◌, ◌⊎◌, ℕ, suc, ◌+◌, ◌<◌, ◌≤◌, true, false, cond, List, [], ◌∷◌, ◌++◌, length, Option, Some, None, refl, sym, ap, subst, ◌∙◌, arith, add-zero, inl, inr, append_assoc, length-append, is_some, ◌==◌}
+use Rattle.dw_unwind.proofs.Words.{cases_Bool, eqb_tells, append-nil, sum_by-cons, sum_by_push, held, Gathered, Range, LineSays, Keeps, IsWhole, HasBytes, ranges_of, bytes_by, bytes_of, option_or, Statement, DumpItem, nothing, counter_is}
+use Rattle.dw_unwind.proofs.Words.{register_is, memory_is, counter, register, told, given, times}
 use Rattle.dw_unwind.proofs.Elements.{all_push}
 
 or_else_none : (x : Option ℕ) → option_or x None ≡ x

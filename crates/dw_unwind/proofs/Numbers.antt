@@ -1,7 +1,6 @@
 -- Numbers by their digits.
-use Rattle.std.proofs.Common.{◌≡◌, ℕ, suc, ◌+◌, ◌*◌, ◌^◌, ◌<◌, ◌≤◌, arith, add-one}
-use Rattle.std.proofs.Math.Nat.{mul-le-mul, pow-suc, pow-le-pow_right}
-use Rattle.dw_num.specs.Digits.{digit}
+use Rattle.dw_unwind.proofs.Words.{◌≡◌, ℕ, suc, ◌+◌, ◌*◌, ◌^◌, ◌<◌, ◌≤◌, arith, add-one, mul-le-mul, pow-suc, digit}
+use Rattle.std.proofs.Math.Nat.{pow-le-pow_right}
 
 pub record Grows (number base d i : ℕ) : Type 0 where
   pub below : number * base + d < 16 ^ (i + 1)

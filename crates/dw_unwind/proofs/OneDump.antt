@@ -1,25 +1,9 @@
 -- A line says one thing, so lines that say something have no fault.
-use Rattle.std.proofs.Common.{◌≡◌, ℕ, suc, ◌+◌, ◌<◌, ◌≤◌, cond, List, [], ◌∷◌, ◌++◌, length, length-append, Some, Ok, Err, refl, sym, ap, subst, ◌∙◌, arith, inl, inr, append_assoc}
-use Rattle.std.specs.Prelude.{codes, is_some, Result, IfOk, IfErr, MatchResult}
-use Rattle.std.specs.List.{AllZip}
-use Rattle.std.proofs.lemmas.Bool.{cases_lt}
-use Rattle.std.proofs.lemmas.List.{append_cancel_left}
-use Rattle.std.proofs.lemmas.List.Sums.{sum_by-append}
-use Rattle.hex.specs.Hex.{decode_of}
-use Rattle.dw_unwind.specs.declared.fault.DumpCode.{DumpCode}
-use Rattle.dw_unwind.specs.declared.fault.DumpCode.TheVariants.{BadLine, ValueTooLarge, Repeated}
-use Rattle.dw_unwind.specs.declared.dump.Dump.{Dump}
-use Rattle.dw_unwind.specs.declared.fault.DumpError.{DumpError}
-use Rattle.dw_unwind.specs.declared.fault.DumpError.TheVariants.{Fault, OutOfMemory}
-use Rattle.dw_unwind.specs.Describes.{Describes, RefusesDump}
-use Rattle.dw_unwind.specs.declared.fault.DumpFault.{DumpFault}
-use Rattle.dw_unwind.specs.Dump.{SaysWithin, Say, FirstFault, IsFaulty}
-use Rattle.dw_unwind.specs.Laws.{OneDump, NamesLine}
-use Rattle.dw_num.specs.Digits.{number_behind}
-use Rattle.dw_unwind.specs.Spelling.{LineSays, SkippedLine, Hexadecimal, RegisterName, HexPairs}
-use Rattle.dw_unwind.specs.Statement.{Statement, DumpItem, Fits, nothing, counter_is, register_is, memory_is, told, times}
-use Rattle.dw_unwind.proofs.Words.{digits_lack_space, register_parts, memory_parts}
-use Rattle.dw_unwind.proofs.DumpExists.{dump_exists}
+use Rattle.dw_unwind.proofs.Words.{◌≡◌, ℕ, suc, ◌+◌, ◌<◌, ◌≤◌, cond, List, [], ◌∷◌, ◌++◌, length, length-append, Some, Ok, Err, refl, sym, ap, subst, ◌∙◌, arith, inl, inr, append_assoc, codes, is_some, Result, IfOk, IfErr, MatchResult}
+use Rattle.dw_unwind.proofs.Words.{AllZip, cases_lt, append_cancel_left, sum_by-append, decode_of, DumpCode, BadLine, ValueTooLarge, Repeated, DumpFault, SaysWithin, Say, FirstFault, IsFaulty, OneDump, NamesLine, number_behind, LineSays}
+use Rattle.dw_unwind.proofs.Words.{SkippedLine, Hexadecimal, RegisterName, HexPairs, Statement, DumpItem, Fits, nothing, counter_is, register_is, memory_is, told, times}
+use Rattle.dw_unwind.specs.{declared.dump.Dump.Dump, declared.fault.DumpError.DumpError, declared.fault.DumpError.TheVariants.{Fault, OutOfMemory}, Describes.{Describes, RefusesDump}}
+use Rattle.dw_unwind.proofs.{LineParts.{digits_lack_space, register_parts, memory_parts}, DumpExists.dump_exists}
 
 one_number : (v w : ℕ) (a b : List ℕ) → Hexadecimal v a → Hexadecimal w b → a ≡ b → v ≡ w
 one_number v w a b h k same = let both : Some v ≡ Some w = sym h.number ∙ subst (λ (t : List ℕ). number_behind 16 0 t ≡ Some w) (sym same) k.number in cc

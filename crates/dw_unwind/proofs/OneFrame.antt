@@ -1,32 +1,12 @@
 -- A frame, or the first fault in its way, is one.
-use Rattle.std.proofs.Common.{◌≡◌, ℕ, suc, ◌≤◌, List, [], ◌∷◌, Option, Result, Ok, Err, refl, sym, ap, subst, ◌∙◌, arith, inl, inr}
-use Rattle.std.specs.List.{AllByRecursion, AllZip}
-use Rattle.std.proofs.lemmas.Bool.{cases_lt}
-use Rattle.dw_num.specs.declared.target.Target.{Target}
-use Rattle.dw_op.specs.Expression.{Expression}
-use Rattle.dw_cfa.specs.declared.rule.CfaRule.{CfaRule}
-use Rattle.dw_cfa.specs.declared.rule.CfaRule.TheVariants as cfa
-use Rattle.dw_cfa.specs.declared.rule.RegRule.{RegRule}
-use Rattle.dw_cfa.specs.declared.rule.RegRule.TheVariants as rules
-use Rattle.dw_cfa.specs.Rows.{Rules, rule}
-use Rattle.dw_eval.specs.Context.{Context}
+use Rattle.dw_unwind.proofs.Words.{◌≡◌, ℕ, suc, ◌≤◌, List, [], ◌∷◌, Option, Result, Ok, Err, refl, sym, ap, subst, ◌∙◌, arith, inl, inr, AllByRecursion, AllZip, cases_lt, Target, Expression, CfaRule, RegRule, Rules, rule, Context, Fde}
+use Rattle.dw_unwind.proofs.Words.{OneFdes, OneHeaders, OneRules, IsAmong, Lists, Covers, NoneCovers, Column, Frame, Policy, UnwindError, in_column, recovered, on_value, saved_at, on_cfa, ValueIs, SavedBy, CfaIs, RegisterIs, IsCovered}
+use Rattle.dw_unwind.proofs.Words.{IsUncovered, IsListed, Recovers, AreRegisters, RegistersAre, FrameIs, OneFrame, Rise}
 use Rattle.dw_eval.proofs.Lent.Results.{same_value}
-use Rattle.dw_section.specs.declared.lookup.Fde.{Fde}
-use Rattle.dw_section.specs.Accepted.{Accepted}
-use Rattle.dw_section.specs.Headers.{Head}
-use Rattle.dw_section.specs.Laws.{OneFdes, OneHeaders, OneRules}
-use Rattle.dw_section.specs.Among.{IsAmong}
-use Rattle.dw_section.specs.Meaning.{Lists, Covers, NoneCovers}
-use Rattle.dw_section.specs.Overlap.{Range, AreApart, IsIndex, end_of}
-use Rattle.dw_unwind.specs.declared.frame.Column.{Column}
-use Rattle.dw_unwind.specs.declared.frame.Frame.{Frame}
-use Rattle.dw_eval.specs.declared.policy.Policy.{Policy}
-use Rattle.dw_unwind.specs.declared.frame.UnwindError.{UnwindError}
-use Rattle.dw_unwind.specs.Columns.{in_column, recovered, on_value, saved_at, on_cfa, ValueIs, SavedBy, CfaIs, RegisterIs}
-use Rattle.dw_unwind.proofs.Elements.{all_among}
-use Rattle.dw_unwind.proofs.FrameLaws.{pairs_rise}
-use Rattle.dw_unwind.specs.Unwound.{IsCovered, IsUncovered, IsListed, Recovers, AreRegisters, RegistersAre, FrameIs, OneFrame}
-use Rattle.dw_unwind.specs.Inner.Recovery.{Rise}
+use Rattle.dw_section.specs.{Accepted.Accepted, Headers.Head, Overlap.{Range, AreApart, IsIndex, end_of}}
+use Rattle.dw_unwind.proofs.{Elements.all_among, FrameLaws.pairs_rise}
+use Rattle.dw_cfa.specs.declared.rule.CfaRule.TheVariants as cfa
+use Rattle.dw_cfa.specs.declared.rule.RegRule.TheVariants as rules
 
 -- ---- columns
 

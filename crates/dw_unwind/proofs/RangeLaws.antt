@@ -1,19 +1,10 @@
 -- Ranges that rise, that are apart, and that meet.
-use Rattle.std.proofs.Common.{◌≡◌, ◌⊎◌, ℕ, zero, suc, ◌+◌, ◌-◌, ◌<◌, ◌≤◌, Bool, true, false, cond, List, [], ◌∷◌, length, get_or, Option, Some, None, refl, sym, ap, ◌∙◌, arith, add-one, inl, inr}
-use Rattle.std.specs.List.{AllByRecursion, sum_by}
-use Rattle.std.specs.List.Sorted.{IsPermutation, IsNonDecreasingBy}
-use Rattle.std.proofs.lemmas.Bool.{cases_lt}
-use Rattle.std.proofs.lemmas.Bool.Decides.{leb_tells}
-use Rattle.std.proofs.lemmas.List.Sorted.{sum_by-IsPermutation, IsPermutation-sym, All-permutation}
-use Rattle.std.proofs.lemmas.List.{get_or_default}
+use Rattle.dw_unwind.proofs.Words.{◌≡◌, ◌⊎◌, ℕ, zero, suc, ◌+◌, ◌-◌, ◌<◌, ◌≤◌, Bool, true, false, cond, List, [], ◌∷◌, length, get_or, Option, Some, None, refl, sym, ap, ◌∙◌, arith, add-one, inl, inr, AllByRecursion, sum_by, IsPermutation}
+use Rattle.dw_unwind.proofs.Words.{IsNonDecreasingBy, cases_lt, leb_tells, sum_by-IsPermutation, IsPermutation-sym, All-permutation, get_or_default, MatchBool, sum_by-cons, slice_get-get_or, Range, end_of, covers, byte_of, byte_among}
+use Rattle.dw_unwind.proofs.Words.{cover_count, AreApart, Meet, IsSoundRange}
 use Rattle.std.proofs.lemmas.List.Elements.{recursion_from_All, All-from_recursion}
-use Rattle.std.specs.Bool.{MatchBool}
-use Rattle.std.proofs.lemmas.List.Sums.{sum_by-cons}
-use Rattle.std.proofs.lemmas.Option.{slice_get-get_or}
-use Rattle.dw_unwind.specs.declared.ranges.Range.{Range}
-use Rattle.dw_unwind.specs.Ranges.{end_of, covers, byte_of, byte_among}
+use Rattle.dw_unwind.specs.Inner.Ranges.{Rise}
 use Rattle.dw_unwind.proofs.Elements.{all_more}
-use Rattle.dw_unwind.specs.Inner.Ranges.{cover_count, AreApart, Meet, Rise, IsSoundRange}
 
 -- ---- whether a range covers an address
 

@@ -1,9 +1,5 @@
 -- The registers of a frame in their room.
-use Rattle.std.proofs.Common.{◌≡◌, ℕ, List, [], ◌∷◌, ◌++◌, length, Option, true, false, refl, sym, ap, ◌∙◌, arith}
-use Rattle.std.specs.Prelude.{◌==◌}
-use Rattle.std.proofs.lemmas.Bool.{eq-eqb, eqb-true}
-use Rattle.std.proofs.lemmas.List.{take_all}
-use Rattle.dw_unwind.specs.Inner.Room.{registers_in}
+use Rattle.dw_unwind.proofs.Words.{◌≡◌, ℕ, List, [], ◌∷◌, ◌++◌, length, Option, true, false, refl, sym, ap, ◌∙◌, arith, ◌==◌, eq-eqb, eqb-true, take_all, registers_in}
 
 module _ (near : List (ℕ × Option ℕ)) where
   pub in_near : (more : List (ℕ × Option ℕ)) → length near ≡ 64 → true ≡ (length more == 0) → more ++ near ≡ registers_in near 64 more

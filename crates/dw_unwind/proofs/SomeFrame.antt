@@ -1,37 +1,12 @@
 -- A section gives each machine that stopped a frame or a fault. What holds below is taken by the public laws.
-use Rattle.std.proofs.Common.{◌≡◌, ◌⊎◌, ℕ, zero, suc, ◌+◌, ◌<◌, ◌≤◌, true, false, List, [], ◌∷◌, ◌++◌, length, Option, Some, None, Result, Ok, Err, refl, ap, arith, inl, inr}
-use Rattle.std.specs.Option.{ok_or}
-use Rattle.std.specs.Prelude.{option_map, option_and_then}
-use Rattle.std.specs.List.{AllByRecursion}
-use Rattle.std.proofs.lemmas.Bool.{cases_Bool, cases_lt, ne_eqb}
-use Rattle.std.proofs.lemmas.Option.{slice_get_past}
-use Rattle.dw_num.specs.declared.target.Target.{Target}
-use Rattle.dw_op.specs.Expression.{Expression}
+use Rattle.dw_unwind.proofs.Words.{◌≡◌, ◌⊎◌, ℕ, zero, suc, ◌+◌, ◌<◌, ◌≤◌, true, false, List, [], ◌∷◌, ◌++◌, length, Option, Some, None, Result, Ok, Err, refl, ap, arith, inl, inr, ok_or, option_map, option_and_then, AllByRecursion}
+use Rattle.dw_unwind.proofs.Words.{cases_Bool, cases_lt, ne_eqb, slice_get_past, Target, Expression, CfaRule, RegRule, Rules, rule, rule_in, Context, OneResult, held, Policy, Fde, IsAmong, CfaFits, HasBlock, RowFits, RuleFits, CfaIsSet}
+use Rattle.dw_unwind.proofs.Words.{FdesExist, RulesExist, RulesFit, Covers, NoneCovers, rule_fits, Column, Cfa, Register, Frame, UnwindError, NoFde, NoRegister, in_column, recovered, on_value, saved_at, on_cfa, plus, defaulted, value_in}
+use Rattle.dw_unwind.proofs.Words.{ValueIs, SavedBy, CfaIs, RegisterIs, is_listed, Recovers, RegistersAre, FrameIs, Unwound, OneFrame, SomeFrame, stopped, SoFar}
 use Rattle.dw_op.specs.Laws.{BlockInRange}
-use Rattle.dw_cfa.specs.declared.rule.CfaRule.{CfaRule}
-use Rattle.dw_cfa.specs.declared.rule.CfaRule.TheVariants as cfa
-use Rattle.dw_cfa.specs.declared.rule.RegRule.{RegRule}
-use Rattle.dw_cfa.specs.declared.rule.RegRule.TheVariants as rules
-use Rattle.dw_cfa.specs.Rows.{Rules, rule, rule_in}
-use Rattle.dw_eval.specs.Context.{Context}
-use Rattle.dw_eval.specs.Laws.{OneResult}
-use Rattle.dw_eval.specs.Registers.{held}
-use Rattle.dw_eval.specs.declared.policy.Policy.{Policy}
-use Rattle.dw_section.specs.declared.lookup.Fde.{Fde}
-use Rattle.dw_section.specs.Among.{IsAmong}
-use Rattle.dw_section.specs.Fits.{CfaFits, HasBlock, RowFits, RuleFits}
-use Rattle.dw_section.specs.Laws.{CfaIsSet, FdesExist, RulesExist, RulesFit}
-use Rattle.dw_section.specs.Meaning.{Covers, NoneCovers}
-use Rattle.dw_section.proofs.Lent.RowFits.{rule_fits}
-use Rattle.dw_unwind.specs.declared.frame.Column.{Column}
-use Rattle.dw_unwind.specs.declared.frame.Column.TheVariants.{Cfa, Register}
-use Rattle.dw_unwind.specs.declared.frame.Frame.{Frame}
-use Rattle.dw_unwind.specs.declared.frame.UnwindError.{UnwindError}
-use Rattle.dw_unwind.specs.declared.frame.UnwindError.TheVariants.{NoFde, NoRegister}
-use Rattle.dw_unwind.specs.Columns.{in_column, recovered, on_value, saved_at, on_cfa, plus, defaulted, value_in, ValueIs, SavedBy, CfaIs, RegisterIs}
-use Rattle.dw_unwind.specs.Unwound.{is_listed, Recovers, RegistersAre, FrameIs, Unwound, OneFrame, SomeFrame, stopped}
-use Rattle.dw_unwind.specs.Inner.Recovery.{SoFar}
 use Rattle.dw_unwind.proofs.FrameLaws.{so_added, so_all, so_passed, so_reached}
+use Rattle.dw_cfa.specs.declared.rule.CfaRule.TheVariants as cfa
+use Rattle.dw_cfa.specs.declared.rule.RegRule.TheVariants as rules
 
 -- ---- columns
 

@@ -1,33 +1,12 @@
 -- What a fault of an unwinding asks for is missing.
-use Rattle.std.proofs.Common.{◌≡◌, ℕ, List, [], Option, Some, None, Result, Ok, Err, refl, sym, subst, inl, inr}
-use Rattle.std.specs.Option.{ok_or}
-use Rattle.std.specs.Prelude.{option_map}
-use Rattle.dw_num.specs.Target.{byte_count}
-use Rattle.dw_num.specs.declared.target.Target.{Target}
-use Rattle.dw_op.specs.Expression.{Expression}
-use Rattle.dw_cfa.specs.declared.rule.CfaRule.{CfaRule}
-use Rattle.dw_cfa.specs.declared.rule.CfaRule.TheVariants as cfa
-use Rattle.dw_cfa.specs.declared.rule.RegRule.{RegRule}
-use Rattle.dw_cfa.specs.declared.rule.RegRule.TheVariants as rules
-use Rattle.dw_cfa.specs.Rows.{Rules, rule}
-use Rattle.dw_eval.specs.declared.error.EvalError.{EvalError}
-use Rattle.dw_eval.specs.declared.error.EvalError.TheVariants as eval
-use Rattle.dw_eval.specs.Context.{Context, read_at}
-use Rattle.dw_eval.specs.Evaluation.{Evaluates}
-use Rattle.dw_eval.specs.Laws.{WantedByValue}
-use Rattle.dw_eval.specs.declared.policy.Policy.{Policy}
+use Rattle.dw_unwind.proofs.Words.{◌≡◌, ℕ, List, [], Option, Some, None, Result, Ok, Err, refl, sym, subst, inl, inr, ok_or, option_map, byte_count, Target, Expression, CfaRule, RegRule, Rules, rule, EvalError, Context, read_at, Evaluates}
+use Rattle.dw_unwind.proofs.Words.{WantedByValue, Policy, UnwindAtError, Column, Cfa, Register, Frame, UnwindError, NoFde, OutOfMemory, Unreadable, NoRegister, in_column, recovered, on_value, on_cfa, saved_at, value_in, plus, ValueIs}
+use Rattle.dw_unwind.proofs.Words.{SavedBy, CfaIs, RegisterIs, FaultMisses, WantedIsMissing, FrameIs, LacksRow, by_index}
 use Rattle.dw_section.specs.declared.fde_range.Ranged.{Ranged}
-use Rattle.dw_unwind.specs.declared.by_index.UnwindAtError.{UnwindAtError}
 use Rattle.dw_unwind.specs.declared.by_index.UnwindAtError.TheVariants.{Unwind}
-use Rattle.dw_unwind.specs.declared.frame.Column.{Column}
-use Rattle.dw_unwind.specs.declared.frame.Column.TheVariants.{Cfa, Register}
-use Rattle.dw_unwind.specs.declared.frame.Frame.{Frame}
-use Rattle.dw_unwind.specs.declared.frame.UnwindError.{UnwindError}
-use Rattle.dw_unwind.specs.declared.frame.UnwindError.TheVariants.{NoFde, OutOfMemory, Unreadable, NoRegister}
-use Rattle.dw_unwind.specs.Columns.{in_column, recovered, on_value, on_cfa, saved_at, value_in, plus, ValueIs, SavedBy, CfaIs, RegisterIs}
-use Rattle.dw_unwind.specs.Laws.{FaultMisses, WantedIsMissing}
-use Rattle.dw_unwind.specs.Unwound.{FrameIs}
-use Rattle.dw_unwind.specs.UnwoundAt.{LacksRow, by_index}
+use Rattle.dw_cfa.specs.declared.rule.CfaRule.TheVariants as cfa
+use Rattle.dw_cfa.specs.declared.rule.RegRule.TheVariants as rules
+use Rattle.dw_eval.specs.declared.error.EvalError.TheVariants as eval
 
 unmapped : (f : ℕ → ℕ) (o : Option ℕ) → option_map f o ≡ None → o ≡ None
 unmapped f None e = refl

@@ -1,8 +1,5 @@
 -- Texts that are read one by one.
-use Rattle.std.proofs.Common.{◌≡◌, ℕ, zero, suc, ◌+◌, ◌<◌, List, [], ◌∷◌, ◌++◌, length, map, take, get_or, Option, Some, None, option_map, refl, arith}
-use Rattle.std.specs.Prelude.{option_and_then}
-use Rattle.clap.specs.Words.{Text}
-use Rattle.dw_words.specs.Values.{all_read}
+use Rattle.dw_words.proofs.Words.{◌≡◌, ℕ, zero, suc, ◌+◌, ◌<◌, List, [], ◌∷◌, ◌++◌, length, map, take, get_or, Option, Some, None, option_map, refl, arith, option_and_then, Text, all_read}
 
 module _ {X V : Type 0} (read : Text → Option V) (text : X → Text) where
   -- one more

@@ -1,19 +1,10 @@
 -- Words that begin with a subcommand's name are read alike by the command with that subcommand alone.
-use Rattle.std.proofs.Common.{◌≡◌, ◌∙◌, true, false, List, [], ◌∷◌, Option, Some, None, is_some, option_map, refl, ap, ap₂, sym, find, fold}
-use Rattle.std.specs.Option.{option_map_or}
+use Rattle.dw_words.proofs.Words.{◌≡◌, ◌∙◌, true, false, List, [], ◌∷◌, Option, Some, None, is_some, option_map, refl, ap, ap₂, sym, find, fold, option_map_or, clap_on_literals, both, walk_stopped, built_fault, check_fault, defaults_fault}
+use Rattle.dw_words.proofs.Words.{entered_fault, fault_of, is_simple_and_free, level_fault, settle_fault, turn_fault, walk_fault, Kinds, or_else, App, Shape, built, entered, is_simple, label_of, names_of, rows_at, subcommand_of, Text, Walk}
+use Rattle.dw_words.proofs.Words.{answers_to, finished, nothing_held, settled, walk, walk_from, walked, dwframe, asked, asked_by, name_of, text_of, Name}
 use Rattle.clap.proofs.FaultLemmas.{stopped_fault}
-use Rattle.clap.proofs.OnLiterals.{clap_on_literals}
-use Rattle.clap.proofs.WalkLemmas.{both, walk_stopped}
-use Rattle.clap.specs.Faults.{built_fault, check_fault, defaults_fault, entered_fault, fault_of, is_simple_and_free, level_fault, settle_fault, turn_fault, walk_fault}
-use Rattle.clap.specs.Kinds.{Kinds, or_else}
-use Rattle.clap.specs.Simple.{App, Shape, built, entered, is_simple, label_of, names_of, rows_at, subcommand_of}
-use Rattle.clap.specs.Walk.{Text, Walk, answers_to, finished, nothing_held, settled, walk, walk_from, walked}
-use Rattle.dw_words.specs.CommandLine.{dwframe}
-use Rattle.dw_words.specs.Inner.CommandLine.{asked}
-use Rattle.dw_words.specs.Inner.Plan.{asked_by, name_of, text_of}
-use Rattle.dw_words.specs.declared.request.Name.{Name}
-use Rattle.dw_words.specs.declared.request.Name.TheVariants as names
 use Rattle.dw_words.proofs.Jobs.{named}
+use Rattle.dw_words.specs.declared.request.Name.TheVariants as names
 
 -- ---- where the first word names a subcommand
 

@@ -1,11 +1,6 @@
 -- Commands that are put together.
-use Rattle.std.proofs.Common.{◌≡◌, ◌∙◌, ◌||◌, Bool, Result, Ok, Err, ap₂}
-use Rattle.std.specs.Prelude.{IfOk}
-use Rattle.clap.specs.declared.builder.arg.Arg.{Arg}
-use Rattle.clap.specs.declared.builder.command.Command.{Command}
-use Rattle.clap.specs.declared.builder.command.Command.TheViews.{out-Command}
-use Rattle.clap.specs.Words.{AddsArg, AddsSubcommand, App, Rule, app_of, with_rule, with_subcommand}
-use Rattle.dw_words.specs.Inner.CommandLine.{IsArg, IsCommand}
+use Rattle.dw_words.proofs.Words.{◌≡◌, ◌∙◌, ◌||◌, Bool, Result, Ok, Err, ap₂, IfOk, out-Command, AddsArg, AddsSubcommand, App, Rule, app_of, with_rule, with_subcommand, IsArg, IsCommand}
+use Rattle.clap.specs.declared.builder.{arg.Arg.Arg, command.Command.Command}
 
 -- a command with one more argument
 pub added : (a : App) (r : Rule) (old new : Command) (x : Arg) → IsCommand a old → IsArg r x → AddsArg old x new → IsCommand (with_rule a r) new

@@ -1,28 +1,16 @@
 -- The run of a subcommand with its values, as a function and as a relation.
-use Rattle.std.proofs.Common.{◌≡◌, ◌∙◌, ℕ, List, Bool, true, false, Option, Some, None, option_map, refl, ap, ap₂, subst, sym, codes}
-use Rattle.std.specs.Prelude.{option_and_then, if◌then◌else◌}
-use Rattle.std.specs.Option.{option_map_or}
-use Rattle.std.specs.Str.{bytes_eq}
-use Rattle.std.specs.Bool.{Decides}
+use Rattle.dw_words.proofs.Words.{◌≡◌, ◌∙◌, ℕ, List, Bool, true, false, Option, Some, None, option_map, refl, ap, ap₂, subst, sym, codes, option_and_then, if◌then◌else◌, option_map_or, bytes_eq, Decides, bytes_eq-Decides, Row, Text}
+use Rattle.dw_words.proofs.Words.{first_of, subcommand_of, dwframe, order_of, size_of, Name, PlanError, AskFor, IsJob, IsTask, Says, Fails, Given, GivenAt, IsSupplied, Run, Task, addresses_in, block_in, cap_in, check, cost, default_in}
+use Rattle.dw_words.proofs.Words.{dump_in, entries, file_in, name_of, own, profile_in, rows, run_held, run_in, start_in, steps_in, target_in, task_held, task_in, text_of}
 use Rattle.std.proofs.lemmas.Option.{none-some}
-use Rattle.std.proofs.lemmas.Slice.Eq.{bytes_eq-Decides}
-use Rattle.clap.specs.Words.{Row, Text, first_of, subcommand_of}
-use Rattle.dw_num.specs.declared.target.Order.{Order}
-use Rattle.dw_num.specs.declared.target.Size.{Size}
-use Rattle.dw_num.specs.declared.target.Target.{Target}
+use Rattle.dw_num.specs.declared.target.{Order.Order, Size.Size, Target.Target}
 use Rattle.dw_op.specs.declared.profile.Profile.{Profile}
 use Rattle.dw_eval.specs.declared.policy.Policy.{Policy}
-use Rattle.dw_words.specs.CommandLine.{dwframe}
-use Rattle.dw_words.specs.Values.{order_of, size_of}
-use Rattle.dw_words.specs.declared.request.Job.{Job}
-use Rattle.dw_words.specs.declared.request.Name.{Name}
+use Rattle.dw_words.specs.{declared.request.Job.Job, Inner.Plan.{at, eval, expr, normal, same, unwind}}
 use Rattle.dw_words.specs.declared.request.Name.TheVariants as names
-use Rattle.dw_words.specs.declared.request.PlanError.{PlanError}
 use Rattle.dw_words.specs.declared.request.PlanError.TheVariants as errors
 use Rattle.dw_words.specs.declared.request.Task as declared
 use Rattle.dw_words.specs.declared.request.Task.TheVariants as tasks
-use Rattle.dw_words.specs.Plan.{AskFor, IsJob, IsTask, Says}
-use Rattle.dw_words.specs.Inner.Plan.{Fails, Given, GivenAt, IsSupplied, Run, Task, addresses_in, at, block_in, cap_in, check, cost, default_in, dump_in, entries, eval, expr, file_in, name_of, normal, own, profile_in, rows, run_held, run_in, same, start_in, steps_in, target_in, task_held, task_in, text_of, unwind}
 
 -- ---- options
 

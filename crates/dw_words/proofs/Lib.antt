@@ -1,3 +1,4 @@
+mod Words
 mod Digits
 mod Commands
 mod AllRead

@@ -1,27 +1,16 @@
 -- Where clap finds no fault in the words of a subcommand, each option and operand that it has to have is there, with a text.
-use Rattle.std.proofs.Common.{◌≡◌, ◌∙◌, ◌==◌, ◌&&◌, ◌||◌, ℕ, Bool, true, false, not, zero, suc, cond, nat_lt, List, [], ◌∷◌, ◌++◌, length, drop, Option, Some, None, is_some, codes, refl, sym, ap, arith, true≢false, ◌⊎◌, inl, inr}
-use Rattle.std.specs.Prelude.{slice_get, find, fold, option_and_then, encode_utf8}
-use Rattle.std.specs.List.{list_all, list_any}
-use Rattle.std.specs.Option.{option_map_or}
-use Rattle.std.specs.Str.{bytes_eq, chars}
-use Rattle.std.proofs.lemmas.Bool.{ne_eqb}
-use Rattle.std.proofs.lemmas.Slice.Eq.{bytes_eq-Decides}
-use Rattle.clap.proofs.WalkLemmas.{both}
-use Rattle.clap.specs.Lexer.{long_of, short_of}
-use Rattle.clap.specs.Facts.{explicit_source, unwrap_or_range}
-use Rattle.clap.specs.Takes.{is_given}
-use Rattle.clap.specs.Kinds.{Kinds, check_kinds, or_else, range_kinds}
-use Rattle.clap.specs.Walk.{Held, Names, Outcome, Row, Rule, Step, Text, Waiting, Walk, action_of, after_flag, after_step, arg_by_id, arg_by_index, arg_by_long, arg_by_short, at_row, attached_value, bundle, bundle_met, bundle_step, default_rows, done, finished, flag_met, has_row, is_pending, long_met, long_or_other, more_values, most_values, nothing_held, option_met, option_word, plain_word, positional_held, reacted, reading_by, rows_after, settled, settled_rows, short_met, short_or_plain, subcommand_met, subcommand_or_other, takes_several, takes_values, to_positional, trailing, used, used_as, used_by_id, value, values_or_missing, walk, walk_from, walked, walked_from, with_default, with_values, without, word_met}
+use Rattle.dw_words.proofs.Words.{◌≡◌, ◌∙◌, ◌==◌, ◌&&◌, ◌||◌, ℕ, Bool, true, false, not, zero, suc, cond, nat_lt, List, [], ◌∷◌, ◌++◌, length, drop, Option, Some, None, is_some, codes, refl, sym, ap, arith, true≢false, ◌⊎◌, inl, inr}
+use Rattle.dw_words.proofs.Words.{slice_get, find, fold, option_and_then, encode_utf8, list_all, list_any, option_map_or, bytes_eq, chars, ne_eqb, bytes_eq-Decides, both, long_of, short_of, Kinds, check_kinds, or_else, range_kinds, Held}
+use Rattle.dw_words.proofs.Words.{Names, Outcome, Row, Rule, Step, Text, Waiting, Walk, action_of, after_flag, after_step, arg_by_id, arg_by_index, arg_by_long, arg_by_short, at_row, attached_value, bundle, bundle_met, bundle_step}
+use Rattle.dw_words.proofs.Words.{default_rows, done, finished, flag_met, has_row, is_pending, long_met, long_or_other, more_values, most_values, nothing_held, option_met, option_word, plain_word, positional_held, reacted, reading_by}
+use Rattle.dw_words.proofs.Words.{rows_after, settled, settled_rows, short_met, short_or_plain, subcommand_met, subcommand_or_other, takes_several, takes_values, to_positional, trailing, used, used_as, used_by_id, value, values_or_missing}
+use Rattle.dw_words.proofs.Words.{walk, walk_from, walked, walked_from, with_default, with_values, without, word_met, Shape, defaults_fault, bundle_fault, bundle_step_fault, flag_word_fault, flags_fault, level_fault, long_fault}
+use Rattle.dw_words.proofs.Words.{option_fault, other_fault, positional_fault, stray_fault, react_fault, settle_fault, short_fault, step_fault, turn_fault, use_fault, walk_fault, word_fault, Given, HasText, fits}
+use Rattle.clap.specs.{Facts.{explicit_source, unwrap_or_range}, Takes.is_given, declared.builder.action.ArgAction.ArgAction, declared.builder.value_parser.Reading.Reading, declared.parser.matches.ValueSource.ValueSource}
 use Rattle.clap.specs.Walk as steps
-use Rattle.clap.specs.Simple.{Shape}
-use Rattle.clap.specs.Faults.{defaults_fault, bundle_fault, bundle_step_fault, flag_word_fault, flags_fault, level_fault, long_fault, option_fault, other_fault, positional_fault, stray_fault, react_fault, settle_fault, short_fault, step_fault, turn_fault, use_fault, walk_fault, word_fault}
-use Rattle.clap.specs.declared.builder.action.ArgAction.{ArgAction}
 use Rattle.clap.specs.declared.builder.action.ArgAction.TheVariants as action
 use Rattle.clap.specs.declared.error.kind.ErrorKind.TheVariants as kinds
-use Rattle.clap.specs.declared.builder.value_parser.Reading.{Reading}
-use Rattle.clap.specs.declared.parser.matches.ValueSource.{ValueSource}
 use Rattle.clap.specs.declared.parser.matches.ValueSource.TheVariants as sources
-use Rattle.dw_words.specs.Inner.Plan.{Given, HasText, fits}
 
 -- ---- rows: each has a first text, and that of a flag is one of clap's
 

@@ -1,23 +1,12 @@
 -- The subcommand that clap reads where it finds no fault in words: one of the code's, with what it has to have.
-use Rattle.std.proofs.Common.{◌≡◌, ◌∙◌, ◌&&◌, ◌||◌, ℕ, Bool, true, false, not, cond, List, [], ◌∷◌, Option, Some, None, is_some, codes, refl, sym, ap, true≢false, inl, inr}
-use Rattle.std.specs.Prelude.{slice_get, find, fold, option_map}
-use Rattle.std.specs.List.{list_all, list_any}
-use Rattle.std.specs.Option.{option_map_or}
-use Rattle.std.specs.Str.{bytes_eq}
-use Rattle.std.proofs.lemmas.Slice.Eq.{bytes_eq-Decides}
-use Rattle.clap.proofs.WalkLemmas.{both}
-use Rattle.clap.specs.Lexer.{long_of, short_of}
-use Rattle.clap.specs.Kinds.{Kinds, or_else}
-use Rattle.clap.specs.Walk.{Held, Names, Outcome, Row, Rule, Step, Text, Waiting, Walk, after_flag, after_step, answers_to, arg_by_index, arg_by_long, bundle, long_met, long_or_other, nothing_held, plain_word, rows_after, short_or_plain, subcommand_met, subcommand_or_other, to_positional, trailing, walk, walk_from, walked, walked_from, word_met}
-use Rattle.clap.specs.Walk as steps
-use Rattle.clap.specs.Faults.{entered_fault, fault_of, level_fault, other_fault, step_fault, turn_fault, walk_fault, word_fault}
-use Rattle.clap.specs.declared.error.kind.ErrorKind.TheVariants as kinds
-use Rattle.clap.proofs.OnLiterals.{clap_on_literals}
-use Rattle.clap.specs.Simple.{App, Shape, argument_words, built, entered, label_of, names_of, rows_at, subcommand_of}
-use Rattle.dw_words.specs.CommandLine.{dwframe}
-use Rattle.dw_words.specs.declared.request.Name.{Name}
-use Rattle.dw_words.specs.Inner.Plan.{IsSupplied, name_of, options, own}
+use Rattle.dw_words.proofs.Words.{◌≡◌, ◌∙◌, ◌&&◌, ◌||◌, ℕ, Bool, true, false, not, cond, List, [], ◌∷◌, Option, Some, None, is_some, codes, refl, sym, ap, true≢false, inl, inr, slice_get, find, fold, option_map, list_all, list_any}
+use Rattle.dw_words.proofs.Words.{option_map_or, bytes_eq, bytes_eq-Decides, both, long_of, short_of, Kinds, or_else, Held, Names, Outcome, Row, Rule, Step, Text, Waiting, Walk, after_flag, after_step, answers_to, arg_by_index, arg_by_long}
+use Rattle.dw_words.proofs.Words.{bundle, long_met, long_or_other, nothing_held, plain_word, rows_after, short_or_plain, subcommand_met, subcommand_or_other, to_positional, trailing, walk, walk_from, walked, walked_from, word_met}
+use Rattle.dw_words.proofs.Words.{entered_fault, fault_of, level_fault, other_fault, step_fault, turn_fault, walk_fault, word_fault, clap_on_literals, App, Shape, argument_words, built, entered, label_of, names_of, rows_at, subcommand_of}
+use Rattle.dw_words.proofs.Words.{dwframe, Name, IsSupplied, name_of, options, own}
 use Rattle.dw_words.proofs.Rows.{all_find, all_given, either, first_none, good, supplies, then_none}
+use Rattle.clap.specs.Walk as steps
+use Rattle.clap.specs.declared.error.kind.ErrorKind.TheVariants as kinds
 
 -- ---- where the walk stops
 

@@ -3,21 +3,11 @@ use Rattle.dw_canon.proofs.Words.{◌≡◌, ℕ, ◌+◌, ◌*◌, ◌<◌, ◌
 use Rattle.dw_canon.proofs.Words.{length-fixed, Accepted, group_of, groups_of, part_of, parts_of, canon, cie_instrs, initial_of, return_registers, MemberStands, group, cie_of, Member, IsMember, AreMembers, fde_of, changes_of, program_bytes}
 use Rattle.dw_canon.proofs.Words.{cie_id, cie_spelling, entry_bytes, section_bytes, cie_field_bytes}
 use Rattle.dw_canon.specs.Bound.{share, Shares, WithinShares}
+use Rattle.dw_canon.proofs.{Lent.Differences.In, Lent.Extra.{section_append, up, entry_up, fde_length}, Lent.Forms.whole_is, Lent.Layout.laid_is, Prices.{IsPriced, is_priced, fde_len, cie_len}}
+use Rattle.dw_canon.proofs.{Lent.Rendered.{fits, stand, nonempty, low_registers}, AscendingRegisters.{Rise, with_all_rise}, Lent.Shared.MemberFits, Squares.changes_most, Lent.MemberPlaces.all_some, Sums.{sum_of, if_own, once_own, sum_once}}
+use Rattle.dw_canon.proofs.{Weights.register_len, Within.all_len}
 use Rattle.dw_canon.specs.Inner.Laid as layout
-use Rattle.dw_canon.proofs.Lent.Differences.{In}
-use Rattle.dw_canon.proofs.Lent.Extra.{section_append, up, entry_up, fde_length}
-use Rattle.dw_canon.proofs.Lent.Forms.{whole_is}
-use Rattle.dw_canon.proofs.Lent.Layout.{laid_is}
 use Rattle.dw_canon.proofs.Lent.InstrFits as fitting
-use Rattle.dw_canon.proofs.Prices.{IsPriced, is_priced, fde_len, cie_len}
-use Rattle.dw_canon.proofs.Lent.Rendered.{fits, stand, nonempty, low_registers}
-use Rattle.dw_canon.proofs.AscendingRegisters.{Rise, with_all_rise}
-use Rattle.dw_canon.proofs.Lent.Shared.{MemberFits}
-use Rattle.dw_canon.proofs.Squares.{changes_most}
-use Rattle.dw_canon.proofs.Lent.MemberPlaces.{all_some}
-use Rattle.dw_canon.proofs.Sums.{sum_of, if_own, once_own, sum_once}
-use Rattle.dw_canon.proofs.Weights.{register_len}
-use Rattle.dw_canon.proofs.Within.{all_len}
 
 -- ---- entries
 

@@ -1,29 +1,14 @@
 -- The laws of normal forms.
 use Rattle.dw_canon.proofs.Words.{◌≡◌, ℕ, ◌<◌, ◌≤◌, List, [], ◌∷◌, ◌++◌, map, length, refl, sym, ap, ◌∙◌, subst, inl, inr, ◌↔◌, AllByRecursion, AreBytes, Target, Rules, row_starts, Fde, Accepted, AreChanges, AreFdes, ChangesOf, RowStarts}
 use Rattle.dw_canon.proofs.Words.{total, one_fdes, IsAmong, ReadsBack, fdes_exist, listed_programs, one_change_list, Group, Part, cie_of, laid, Written, section_bytes, least_starts, part_of, groups_of, parts_of, canon, initial_of}
-use Rattle.dw_canon.proofs.Words.{MemberStands, Member, fde_of, changes_of, IsMember, AreMembers, IsNormalForm}
+use Rattle.dw_canon.proofs.Words.{MemberStands, Member, fde_of, changes_of, IsMember, AreMembers, IsNormalForm, Agree, HoldsAt, agree_row, changes_agree, one_rules, programs_rules, row_exists, arith}
 use Rattle.dw_section.specs.Meanings.{SameMeaning}
 use Rattle.dw_section.proofs.Lent.Exists.{listed_change, meaning_changes}
-use Rattle.dw_canon.specs.Inner.Laid as layout
-use Rattle.dw_canon.proofs.Lent.Extra.{starts_of, written_starts}
-use Rattle.dw_canon.proofs.Lays.{laid_section}
-use Rattle.dw_canon.proofs.Lent.Readback.{rendered_laid}
 use Rattle.dw_canon.specs.Laws.{NormalFormExists, NormalFormIsOne, MeaningIsKept, NormalAgain, SameNormalForm, FewestRows, ExactRows, NormalRows, NoneFewer}
-use Rattle.dw_section.specs.Inner.Agree.{Agree}
-use Rattle.dw_section.specs.Changes.{HoldsAt}
-use Rattle.dw_section.proofs.Lent.Rowed.{agree_row}
-use Rattle.dw_section.proofs.Lent.Agrees.{changes_agree}
-use Rattle.dw_section.proofs.Lent.Sections.{one_rules, programs_rules, row_exists}
-use Rattle.std.proofs.Common.{arith}
-use Rattle.dw_canon.proofs.ExactRows.{all_exact, laid_exact}
-use Rattle.dw_canon.proofs.Kept.{reads_back}
-use Rattle.dw_canon.proofs.Lent.Forms.{is_normal, whole_is}
-use Rattle.dw_canon.proofs.Lent.Layout.{laid_is}
-use Rattle.dw_canon.proofs.ProgramLaws.{member_program}
+use Rattle.dw_canon.proofs.{Lent.Extra.{starts_of, written_starts}, Lays.laid_section, Lent.Readback.rendered_laid, ExactRows.{all_exact, laid_exact}, Kept.reads_back, Lent.Forms.{is_normal, whole_is}, Lent.Layout.laid_is}
+use Rattle.dw_canon.proofs.{ProgramLaws.member_program, Lent.Rendered.{renders, fits, stand}, Lent.Shared.MemberFits, Lent.MemberPlaces.group_fits}
+use Rattle.dw_canon.specs.Inner.Laid as layout
 use Rattle.dw_canon.proofs.Lent.Rendered as rendered
-use Rattle.dw_canon.proofs.Lent.Rendered.{renders, fits, stand}
-use Rattle.dw_canon.proofs.Lent.Shared.{MemberFits}
-use Rattle.dw_canon.proofs.Lent.MemberPlaces.{group_fits}
 
 -- ---- members exist
 

@@ -4,15 +4,9 @@ use Rattle.dw_canon.proofs.Words.{◌≡◌, ℕ, ◌+◌, ◌-◌, Bool, List, 
 use Rattle.dw_canon.proofs.Words.{CfaRule, RegRule, same_cfa, same_rule, cfa_tells, rule_tells, Rules, Accepted, return_registers, group, IsShared, initial_of, cie_instrs, fde_instrs, cie_bytes, cie_at, fde_bytes, canon, InstrFits}
 use Rattle.dw_canon.proofs.Words.{MemberStands, Member, AreMembers, IsNormalForm, written, cie_field_bytes, fde_field_bytes}
 use Rattle.dw_op.proofs.Lent.LeastOne.{least_block_only}
-use Rattle.dw_canon.specs.Canon.{canon as canon_with}
+use Rattle.dw_canon.specs.{Canon.{canon as canon_with}, Spelling.program_bytes}
+use Rattle.dw_canon.proofs.Lent.{Shared.{MemberFits, shared_is}, Blocks.same_program, InstrFits.{cie_fits, member_fits, with_all}, MemberPlaces.{all_initial, all_some, all_to, group_fits}, Rendered.{fits, stand}, Tests.{same_cie, same_fde}}
 use Rattle.dw_canon.specs.Canon as form
-use Rattle.dw_canon.specs.Spelling.{program_bytes}
-use Rattle.dw_canon.proofs.Lent.Shared.{MemberFits, shared_is}
-use Rattle.dw_canon.proofs.Lent.Blocks.{same_program}
-use Rattle.dw_canon.proofs.Lent.InstrFits.{cie_fits, member_fits, with_all}
-use Rattle.dw_canon.proofs.Lent.MemberPlaces.{all_initial, all_some, all_to, group_fits}
-use Rattle.dw_canon.proofs.Lent.Rendered.{fits, stand}
-use Rattle.dw_canon.proofs.Lent.Tests.{same_cie, same_fde}
 
 -- the tests, the blocks and the initial rows are given
 module _ (t : Target) (ms : List Member) (all : AllByRecursion (MemberFits t) ms)

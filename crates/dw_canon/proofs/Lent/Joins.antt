@@ -2,10 +2,10 @@
 -- what it does.
 use Rattle.dw_canon.proofs.Words.{◌≡◌, ◌⊎◌, ℕ, Bool, true, false, List, [], ◌∷◌, refl, sym, ap, ◌∙◌, inl, inr, IsTrue, if◌then◌else◌, AllByRecursion, Target, CfaRule, agreed, same_cfa, Rules, is_specified, rule, same_rows, RowFits, kept_by}
 use Rattle.dw_canon.proofs.Words.{Member, cfa_tells}
-use Rattle.dw_cfa.specs.declared.rule.CfaRule.TheVariants as cfa
-use Rattle.dw_cfa.specs.declared.rule.RegRule.TheVariants as rules
 use Rattle.dw_section.proofs.Lent.OpeningLaws.{Specifies}
 use Rattle.dw_canon.proofs.Lent.Shared.{MemberFits, agreed_below, agreed_fits, agreed_stays, kept_by_below, kept_by_cfa, kept_by_fits, kept_by_or, kept_by_stays, next_cfa, next_fits, next_or, same_self, specified_or}
+use Rattle.dw_cfa.specs.declared.rule.CfaRule.TheVariants as cfa
+use Rattle.dw_cfa.specs.declared.rule.RegRule.TheVariants as rules
 
 -- a row has no rules but some of another row's
 pub record PartOf (t : Target) (s row : Rules) : Type 0 where

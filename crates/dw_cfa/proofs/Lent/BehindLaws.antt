@@ -1,12 +1,8 @@
 -- The rows of an FDE's program behind an initial row.
 use Rattle.dw_cfa.proofs.Words.{◌≡◌, ℕ, ◌+◌, ◌≤◌, Bool, true, false, cond, List, [], ◌∷◌, length, Option, Some, None, refl, sym, ap, ◌∙◌, subst, arith, count_by, sum_by-cons, AreBytes, Factors, Input, Instr, LocatedRow, Outcome, Placed}
-use Rattle.dw_cfa.proofs.Words.{Refusal, Rules, State, address_limit, FdeKept, HoldsBehind, ProgramSpells, RulesBehind, BehindGives, GivesRows, moves_location, Counts, AreSpecified, last_at, CountsFrom, begun, after, fde_fault, placed, row_if}
-use Rattle.dw_cfa.proofs.Words.{fde_rows, rows_behind}
-use Rattle.dw_cfa.proofs.Lent.FaultLaws.{fde_judges}
-use Rattle.dw_cfa.proofs.Lent.Forward.{begun_follows}
-use Rattle.dw_cfa.proofs.Lent.RowsAt.{instrs_of, none_refused, run_refusal, rows_at, never_falls}
-use Rattle.dw_cfa.proofs.Lent.RunLaws.{placed_program, program_placed}
-use Rattle.dw_cfa.proofs.Stops.{AllRun, refusal_end}
+use Rattle.dw_cfa.proofs.Words.{Refusal, Rules, State, address_limit, FdeKept, HoldsBehind, ProgramSpells, RulesBehind, BehindGives, GivesRows, moves_location, Counts, AreSpecified, last_at, CountsFrom, begun, after, fde_fault, placed}
+use Rattle.dw_cfa.proofs.Words.{row_if, fde_rows, rows_behind}
+use Rattle.dw_cfa.proofs.{Lent.FaultLaws.fde_judges, Lent.Forward.begun_follows, Lent.RowsAt.{instrs_of, none_refused, run_refusal, rows_at, never_falls}, Lent.RunLaws.{placed_program, program_placed}, Stops.{AllRun, refusal_end}}
 
 -- a row for each instruction that moves the location, and the last one
 starts_more : (moves : Bool) (s : State) (next : Outcome) (n : ℕ) → length next.rows ≡ n → length (row_if moves s next).rows ≡ cond moves 1 0 + n

@@ -3,12 +3,8 @@ use Rattle.dw_cfa.proofs.Words.{◌≡◌, ℕ, suc, ◌+◌, ◌<◌, ◌≤◌
 use Rattle.dw_cfa.proofs.Words.{Refusal, Target, done, taken_bytes, Stays, ProgramSpells, instr_at, Listing, complete, faulty, ProgramFault, Placing, placed, ended}
 use Rattle.dw_cfa.specs.Inner.Listing.{listing, left_of, plain_of}
 use Rattle.dw_op.specs.Inner.Walks.{put}
-use Rattle.dw_cfa.proofs.Divided.{input, placing, behind_all, left_behind, joined_at}
-use Rattle.dw_cfa.proofs.Lent.RowsAt.{instrs_of}
-use Rattle.dw_cfa.proofs.InstrPlaces.{instr_stays}
-use Rattle.dw_cfa.proofs.Placings.{reads, placed_end, placed_step, placed_stuck}
+use Rattle.dw_cfa.proofs.{Divided.{input, placing, behind_all, left_behind, joined_at}, Lent.RowsAt.instrs_of, InstrPlaces.instr_stays, Placings.{reads, placed_end, placed_step, placed_stuck}, Stuck.{stuck_fault, fault_stuck}}
 pub use Rattle.dw_cfa.proofs.Placings.{some_spelled}
-use Rattle.dw_cfa.proofs.Stuck.{stuck_fault, fault_stuck}
 
 -- ---- what is placed is spelled, and what is spelled is placed
 

@@ -1,24 +1,10 @@
 -- Numbers of a fixed width, and lengths, read as they are spelled.
-use Rattle.std.proofs.Common.{◌≡◌, ℕ, ◌+◌, ◌^◌, ◌<◌, ◌≤◌, List, [], ◌∷◌, ◌++◌, length, take, drop, Ok, refl, sym, ap, subst, ◌∙◌, append_assoc, arith, inl, inr, get_or}
-use Rattle.std.proofs.lemmas.Bool.{cases_lt, lt-ltb, le-ltb}
+use Rattle.dw_num.proofs.Words.{◌≡◌, ℕ, ◌+◌, ◌^◌, ◌<◌, ◌≤◌, List, [], ◌∷◌, ◌++◌, length, take, drop, Ok, refl, sym, ap, subst, ◌∙◌, append_assoc, arith, inl, inr, get_or, cases_lt, lt-ltb, le-ltb, take-add, drop_at, take-append-drop}
+use Rattle.dw_num.proofs.Words.{length-take, length-drop, length-append, get_or-take, get_or-drop, get_or_past, get_or-append-add, le_bytes_2, be_bytes_2, le_bytes_4, be_bytes_4, le_bytes_8, be_bytes_8, big_number-reads_back}
+use Rattle.dw_num.proofs.Words.{little_number-reads_back, length-bytes_high_first, length-bytes_low_first, big_from-lt, little_from-lt, Target, Order, Little, Big, byte_count, Truncated, ReservedLength, Input, AreBytes, Takes, behind}
+use Rattle.dw_num.proofs.Words.{Address, Fixed, IsWidth, fixed_bytes, fixed_number, length_bytes, LengthFits, SpellsLength, fault, fixed_at, address_at, length_of, long_length_at, unit_length_at}
 use Rattle.std.proofs.lemmas.Bool.Decides.{eqb_tells}
-use Rattle.std.proofs.Math.Seq.{take-add}
-use Rattle.std.proofs.lemmas.List.{drop_at, take-append-drop, length-take, length-drop, length-append, get_or-take, get_or-drop, get_or_past, get_or-append-add}
-use Rattle.std.proofs.lemmas.Nat.{le_bytes_2, be_bytes_2, le_bytes_4, be_bytes_4, le_bytes_8, be_bytes_8}
-use Rattle.byteorder.specs.Numbers.{big_number-reads_back, little_number-reads_back, length-bytes_high_first, length-bytes_low_first, big_from-lt, little_from-lt}
-use Rattle.dw_num.specs.declared.target.Target.{Target}
-use Rattle.dw_num.specs.declared.target.UnitLength.{UnitLength}
-use Rattle.dw_num.specs.declared.target.Order.{Order}
-use Rattle.dw_num.specs.declared.target.Order.TheVariants.{Little, Big}
-use Rattle.dw_num.specs.declared.target.Size.{Size}
-use Rattle.dw_num.specs.declared.target.Size.TheVariants.{Four, Eight}
-use Rattle.dw_num.specs.declared.target.Form.{Form}
-use Rattle.dw_num.specs.Target.{byte_count}
-use Rattle.dw_num.specs.declared.target.Form.TheVariants.{Dwarf32, Dwarf64}
-use Rattle.dw_num.specs.declared.refusal.Code.TheVariants.{Truncated, ReservedLength}
-use Rattle.dw_num.specs.Input.{Input, AreBytes, Takes, behind}
-use Rattle.dw_num.specs.Fixed.{Address, Fixed, IsWidth, fixed_bytes, fixed_number, length_bytes, LengthFits, SpellsLength}
-use Rattle.dw_num.specs.Front.{fault, fixed_at, address_at, length_of, long_length_at, unit_length_at}
+use Rattle.dw_num.specs.declared.target.{UnitLength.UnitLength, Size.Size, Size.TheVariants.{Four, Eight}, Form.Form, Form.TheVariants.{Dwarf32, Dwarf64}}
 use Rattle.dw_num.proofs.Lent.LebLaws.{done, ok_is}
 
 take-bytes : (n : ℕ) (bytes : List ℕ) → AreBytes bytes → AreBytes (take n bytes)

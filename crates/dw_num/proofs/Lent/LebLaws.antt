@@ -1,15 +1,8 @@
 -- Reading a LEB from the front of a list, and the spellings of a number.
-use Rattle.std.proofs.Common.{◌≡◌, ℕ, suc, ◌+◌, ◌^◌, ◌<◌, ◌≤◌, List, [], ◌∷◌, ◌++◌, length, take, Option, Some, None, Result, Ok, Err, refl, sym, ap, subst, ◌∙◌, arith, inl, inr}
-use Rattle.std.specs.Prelude.{IfOk}
-use Rattle.std.proofs.lemmas.Bool.{cases_lt, lt-ltb, le-ltb}
-use Rattle.std.proofs.lemmas.List.{take_at, drop_at, take-append-drop, length-take}
-use Rattle.dw_num.specs.declared.target.Target.{Target}
-use Rattle.dw_num.specs.declared.refusal.Refusal.{Refusal}
-use Rattle.dw_num.specs.Input.{Input, AreBytes, Takes, behind}
-use Rattle.dw_num.specs.Leb.{IsLeb, groups, Register, Uleb}
-use Rattle.dw_num.specs.Front.{leb_len, uleb_of, uleb_at, register_of, register_at, fault, Read, Reads, ◌>>=◌}
-use Rattle.dw_num.specs.Inner.Scan.{further}
-use Rattle.dw_num.specs.declared.refusal.Code.TheVariants.{NumberTooLarge, RegisterTooLarge}
+use Rattle.dw_num.proofs.Words.{◌≡◌, ℕ, suc, ◌+◌, ◌^◌, ◌<◌, ◌≤◌, List, [], ◌∷◌, ◌++◌, length, take, Option, Some, None, Result, Ok, Err, refl, sym, ap, subst, ◌∙◌, arith, inl, inr, IfOk, cases_lt, lt-ltb, le-ltb, drop_at, take-append-drop}
+use Rattle.dw_num.proofs.Words.{length-take, Target, Refusal, Input, AreBytes, Takes, behind, IsLeb, groups, Register, Uleb, leb_len, uleb_of, uleb_at, register_of, register_at, fault, Read, Reads, ◌>>=◌, further, NumberTooLarge}
+use Rattle.dw_num.proofs.Words.{RegisterTooLarge}
+use Rattle.std.proofs.lemmas.List.{take_at}
 
 IsLeb-cons : (x : ℕ) (bs : List ℕ) → 128 ≤ x → x < 256 → IsLeb bs → IsLeb (x ∷ bs)
 IsLeb-cons x [] big byte h = absurd h

@@ -1,19 +1,8 @@
 -- Numbers at the front of what is left: what a front spells is read, and LEB128 numbers of one byte and two.
-use Rattle.std.proofs.Common.{◌≡◌, ℕ, ◌+◌, ◌-◌, ◌*◌, ◌%◌, ◌<◌, ◌≤◌, List, [], ◌∷◌, ◌++◌, length, Ok, refl, ap, ◌∙◌, arith, ℤ, pos, ◌-ℤ◌}
-use Rattle.std.proofs.lemmas.Bool.{le-ltb, le-leb, lt-leb}
-use Rattle.std.proofs.lemmas.Int.{ints}
-use Rattle.std.proofs.lemmas.List.{drop_at, length-append}
+use Rattle.dw_num.proofs.Words.{◌≡◌, ℕ, ◌+◌, ◌-◌, ◌*◌, ◌%◌, ◌<◌, ◌≤◌, List, [], ◌∷◌, ◌++◌, length, Ok, refl, ap, ◌∙◌, arith, ℤ, pos, ◌-ℤ◌, le-ltb, le-leb, lt-leb, ints, drop_at, length-append, big_from-append, little_from-append, Order}
+use Rattle.dw_num.proofs.Words.{Little, Big, Input, Takes, fixed_number, Uleb, Sleb, groups, fixed_at, uleb_at, sleb_at}
 use Rattle.byteorder.specs.Endian.{big_number, little_number}
-use Rattle.byteorder.specs.Numbers.{big_from-append, little_from-append}
-use Rattle.dw_num.specs.declared.target.Order.{Order}
-use Rattle.dw_num.specs.declared.target.Order.TheVariants.{Little, Big}
-use Rattle.dw_num.specs.Input.{Input, Takes}
-use Rattle.dw_num.specs.Fixed.{fixed_number}
-use Rattle.dw_num.specs.Leb.{Uleb, Sleb, groups}
-use Rattle.dw_num.specs.Front.{fixed_at, uleb_at, sleb_at}
-use Rattle.dw_num.proofs.Lent.LebLaws.{uleb_only}
-use Rattle.dw_num.proofs.Lent.SlebLaws.{sleb_only}
-use Rattle.dw_num.proofs.Lent.Steps.{Takes-then}
+use Rattle.dw_num.proofs.Lent.{LebLaws.uleb_only, SlebLaws.sleb_only, Steps.Takes-then}
 
 -- what is left behind a front
 pub taken_is : (i new : Input) (front : List ℕ) → Takes i front new → record { at = i.at + length front; bytes = new.bytes; target = i.target } ≡ new

@@ -1,14 +1,7 @@
 -- The shortest LEB128 spelling of a number, and that no other is as short.
-use Rattle.std.proofs.Common.{◌≡◌, ℕ, zero, suc, ◌+◌, ◌*◌, ◌/◌, ◌%◌, ◌^◌, ◌<◌, ◌≤◌, Bool, true, false, leb, List, [], ◌∷◌, ◌++◌, length, refl, sym, ap, ◌∙◌, inl, inr, lit<, arith, ℤ, pos, negsuc}
-use Rattle.std.specs.Prelude.{FitsSigned}
-use Rattle.std.specs.Int.{w64}
-use Rattle.std.proofs.Math.Nat.{pow-succ', pow-le-pow_right}
-use Rattle.std.proofs.lemmas.Int.{ints}
-use Rattle.std.proofs.lemmas.Bool.{cases_lt, lt-ltb, le-ltb, leb-true, leb-false, le-leb, lt-leb}
-use Rattle.dw_num.specs.Leb.{IsLeb, groups_from, groups, is_negative, Uleb, Sleb}
-use Rattle.dw_num.specs.Shortest.{leb_of, turned_leb, shortest_uleb, shortest_sleb, turned}
-use Rattle.dw_num.specs.ShortestLeb.{PutsUleb, PutsSleb}
-use Rattle.dw_num.specs.Inner.Scan.{turned_from, as_signed}
+use Rattle.dw_num.proofs.Words.{◌≡◌, ℕ, zero, suc, ◌+◌, ◌*◌, ◌/◌, ◌%◌, ◌^◌, ◌<◌, ◌≤◌, Bool, true, false, leb, List, [], ◌∷◌, ◌++◌, length, refl, sym, ap, ◌∙◌, inl, inr, lit<, arith, ℤ, pos, negsuc, FitsSigned, w64, pow-succ'}
+use Rattle.dw_num.proofs.Words.{pow-le-pow_right, ints, cases_lt, lt-ltb, le-ltb, leb-true, leb-false, le-leb, lt-leb, IsLeb, groups_from, groups, is_negative, Uleb, Sleb, leb_of, turned_leb, shortest_uleb, shortest_sleb, turned, PutsUleb}
+use Rattle.dw_num.proofs.Words.{PutsSleb, turned_from, as_signed}
 use Rattle.dw_num.proofs.Lent.Turned.{signed_groups-turned}
 
 -- ---- sums from the first byte on

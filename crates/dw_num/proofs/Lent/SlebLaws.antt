@@ -1,14 +1,7 @@
 -- A signed LEB is read as it is spelled.
-use Rattle.std.proofs.Common.{◌≡◌, ℕ, ◌+◌, ◌^◌, List, ◌++◌, length, take, true, false, ℤ, pos, negsuc, Option, Some, None, Ok, refl, sym, ap, subst, arith, inl, inr, ◌⊎◌}
-use Rattle.std.specs.Prelude.{FitsSigned}
-use Rattle.std.specs.Int.{w64}
-use Rattle.std.proofs.lemmas.Bool.{cases_lt, lt-ltb, le-ltb}
-use Rattle.std.proofs.lemmas.List.{take_at, drop_at, take-append-drop, length-take}
-use Rattle.dw_num.specs.declared.target.Target.{Target}
-use Rattle.dw_num.specs.declared.refusal.Code.TheVariants.{NumberTooLarge}
-use Rattle.dw_num.specs.Input.{Input, AreBytes, Takes, behind}
-use Rattle.dw_num.specs.Leb.{signed_groups, Sleb}
-use Rattle.dw_num.specs.Front.{leb_len, sleb_of, sleb_at, fits_signed, fault}
+use Rattle.dw_num.proofs.Words.{◌≡◌, ℕ, ◌+◌, ◌^◌, List, ◌++◌, length, take, true, false, ℤ, pos, negsuc, Option, Some, None, Ok, refl, sym, ap, subst, arith, inl, inr, ◌⊎◌, FitsSigned, w64, cases_lt, lt-ltb, le-ltb, drop_at}
+use Rattle.dw_num.proofs.Words.{take-append-drop, length-take, Target, NumberTooLarge, Input, AreBytes, Takes, behind, signed_groups, Sleb, leb_len, sleb_of, sleb_at, fits_signed, fault}
+use Rattle.std.proofs.lemmas.List.{take_at}
 use Rattle.dw_num.proofs.Lent.LebLaws.{leb_len-front, leb_len-spelled, done, ok_is}
 
 fits_signed-true : (v : ℤ) → FitsSigned w64 v → fits_signed v ≡ true

@@ -1,14 +1,8 @@
 -- What is read ends where the input ends, and a fault has a place in the input or at its end.
-use Rattle.std.proofs.Common.{◌≡◌, ℕ, suc, ◌+◌, ◌≤◌, Bool, true, false, List, [], ◌∷◌, length, take, Option, Some, None, Ok, Err, refl, ◌∙◌, arith, inl, inr}
-use Rattle.std.specs.Prelude.{cond, nat_lt, ◌^◌, ◌==◌}
-use Rattle.std.proofs.lemmas.Bool.{cases_lt, cases_Bool, lt-ltb, le-ltb}
-use Rattle.std.proofs.lemmas.List.{length-drop}
-use Rattle.dw_num.specs.Input.{Input, behind}
-use Rattle.dw_num.specs.Fixed.{fixed_number}
-use Rattle.dw_num.specs.Leb.{groups, signed_groups}
-use Rattle.dw_num.specs.Target.{byte_count}
-use Rattle.dw_num.specs.Front.{Read, fixed_at, take_at, leb_len, uleb_of, uleb_at, sleb_of, sleb_at, address_at, long_length_at, length_of, unit_length_at, fits_signed, register_of, register_at, ◌>>=◌}
-use Rattle.dw_num.specs.Inner.Scan.{further}
+use Rattle.dw_num.proofs.Words.{◌≡◌, ℕ, suc, ◌+◌, ◌≤◌, Bool, true, false, List, [], ◌∷◌, length, take, Option, Some, None, Ok, Err, refl, ◌∙◌, arith, inl, inr, cond, nat_lt, ◌^◌, ◌==◌, cases_lt, cases_Bool, lt-ltb, le-ltb, length-drop}
+use Rattle.dw_num.proofs.Words.{Input, behind, fixed_number, groups, signed_groups, byte_count, Read, fixed_at, leb_len, uleb_of, uleb_at, sleb_of, sleb_at, address_at, long_length_at, length_of, unit_length_at, fits_signed, register_of}
+use Rattle.dw_num.proofs.Words.{register_at, ◌>>=◌, further}
+use Rattle.dw_num.specs.Front.{take_at}
 use Rattle.dw_num.proofs.Lent.LebLaws.{done}
 
 -- j begins in i or at its end, and both end at one place

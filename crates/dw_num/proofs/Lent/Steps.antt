@@ -1,17 +1,9 @@
 -- One read after another: what is read is spelled, and what is spelled is read.
-use Rattle.std.proofs.Common.{◌≡◌, ℕ, ◌+◌, Bool, true, false, List, [], ◌∷◌, ◌++◌, length, take, Result, Ok, Err, refl, sym, ap, subst, ◌∙◌, append_assoc, arith, inl, inr}
-use Rattle.std.specs.Prelude.{cond}
-use Rattle.std.proofs.lemmas.Bool.{cases_lt, le-ltb, lt-ltb}
-use Rattle.std.proofs.lemmas.List.{length-append, length-take, take_at as taken_at, drop_at}
-use Rattle.dw_num.specs.declared.target.Target.{Target}
-use Rattle.dw_num.specs.declared.refusal.Refusal.{Refusal}
-use Rattle.dw_num.specs.Input.{Input, Takes, behind}
-use Rattle.dw_num.specs.Front.{Read, fault, address_at, fixed_at, take_at, ◌>>=◌}
-use Rattle.dw_num.specs.Target.{byte_count}
-use Rattle.dw_num.specs.Fixed.{Address}
-use Rattle.dw_num.specs.declared.refusal.Code.TheVariants.{Truncated}
-use Rattle.dw_num.proofs.Lent.LebLaws.{done, ok_is}
-use Rattle.dw_num.proofs.Lent.FixedLaws.{byte_at_again, fixed_at_again, took}
+use Rattle.dw_num.proofs.Words.{◌≡◌, ℕ, ◌+◌, Bool, true, false, List, [], ◌∷◌, ◌++◌, length, take, Result, Ok, Err, refl, sym, ap, subst, ◌∙◌, append_assoc, arith, inl, inr, cond, cases_lt, le-ltb, lt-ltb, length-append, length-take}
+use Rattle.dw_num.proofs.Words.{drop_at, Target, Refusal, Input, Takes, behind, Read, fault, address_at, fixed_at, ◌>>=◌, byte_count, Address, Truncated}
+use Rattle.std.proofs.lemmas.List.{take_at as taken_at}
+use Rattle.dw_num.specs.Front.{take_at}
+use Rattle.dw_num.proofs.Lent.{LebLaws.{done, ok_is}, FixedLaws.{byte_at_again, fixed_at_again, took}}
 
 -- two takes, one after the other, are one
 pub Takes-then : (i j k : Input) (x y : List ℕ) → Takes i x j → Takes j y k → Takes i (x ++ y) k

@@ -1,14 +1,6 @@
 -- Sums of value bits that are turned over, and signed numbers.
-use Rattle.std.proofs.Common.{◌≡◌, ℕ, suc, ◌+◌, ◌-◌, ◌*◌, ◌%◌, ◌^◌, ◌<◌, ◌≤◌, Bool, true, false, List, [], ◌∷◌, ◌++◌, length, get_or, take, refl, sym, ap, ◌∙◌, add-zero, zero-add, arith, pos, negsuc, ◌-ℤ◌}
-use Rattle.std.specs.Prelude.{FitsSigned}
-use Rattle.std.specs.Int.{w64}
-use Rattle.std.proofs.Math.Nat.{pow-suc}
-use Rattle.std.proofs.lemmas.Int.{ints}
-use mir.Val.{to_z, of_z}
-use Rattle.std.proofs.lemmas.List.{take_more, length-take}
-use Rattle.dw_num.specs.Leb.{groups_from, groups, last_byte, is_negative, signed_groups}
-use Rattle.dw_num.specs.Shortest.{turned}
-use Rattle.dw_num.specs.Inner.Scan.{turned_from, as_signed}
+use Rattle.dw_num.proofs.Words.{◌≡◌, ℕ, suc, ◌+◌, ◌-◌, ◌*◌, ◌%◌, ◌^◌, ◌<◌, ◌≤◌, Bool, true, false, List, [], ◌∷◌, ◌++◌, length, get_or, take, refl, sym, ap, ◌∙◌, add-zero, zero-add, arith, pos, negsuc, ◌-ℤ◌, FitsSigned, w64, pow-suc, ints}
+use Rattle.dw_num.proofs.Words.{to_z, of_z, take_more, length-take, groups_from, groups, last_byte, is_negative, signed_groups, turned, turned_from, as_signed}
 use Rattle.dw_num.proofs.LebLemmas.{pow128}
 
 pub turned_from-append : (t : Bool) (k : ℕ) (xs ys : List ℕ) → turned_from t k (xs ++ ys) ≡ turned_from t k xs + turned_from t (k + length xs) ys

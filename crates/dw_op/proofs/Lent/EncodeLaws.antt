@@ -1,11 +1,10 @@
 -- Where least spellings begin, and how the encoder goes over them.
-use Rattle.dw_op.proofs.Words.{◌≡◌, ℕ, zero, suc, ◌+◌, ◌<◌, ◌≤◌, List, [], ◌∷◌, ◌++◌, length, map, take, drop, get_or, Option, Some, None, refl, sym, ap, subst, ◌∙◌, inl, inr, append_assoc, arith, slice_get, Result, Ok, Err, OnOk}
-use Rattle.dw_op.proofs.Words.{cases_lt, length-map, length_push, append-nil, get_or_append_left, get_or_push, length-take, take-append-le, slice_get-map, slice_get-get_or, get_or-map, drop-cons, Target, Op, bare, start, branch_target}
-use Rattle.dw_op.proofs.Words.{joined, Block, least_bytes, InRange, AllInRange, IsFar, IsEncodeError, TooFar, blank_parts, bits_of, least_from, least_block, BranchFits, EachFits, AreStarts}
-use Rattle.dw_op.specs.declared.least_block.EncodeError.{EncodeError}
-use Rattle.dw_op.specs.declared.least_block.EncodeError.TheVariants.{BranchTooFar, OutOfMemory}
-use Rattle.dw_op.proofs.Lent.Ranges.{listed_at}
-use Rattle.dw_op.proofs.Lent.LeastBlocks.{each_blank, each_fits, block_parts, joined-cons}
+use Rattle.dw_op.proofs.Words.{◌≡◌, ℕ, zero, suc, ◌+◌, ◌<◌, ◌≤◌, List, [], ◌∷◌, ◌++◌, length, map, take, drop, get_or, Option, Some, None, refl, sym, ap, subst, ◌∙◌, inl, inr, append_assoc, arith, slice_get, Result, Ok, Err, OnOk, cases_lt}
+use Rattle.dw_op.proofs.Words.{length-map, length_push, append-nil, get_or_append_left, get_or_push, length-take, take-append-le, slice_get-map, slice_get-get_or, drop-cons, Target, Op, bare, start, branch_target, joined, Block}
+use Rattle.dw_op.proofs.Words.{least_bytes, InRange, AllInRange, IsFar, IsEncodeError, TooFar, blank_parts, bits_of, least_from, least_block, BranchFits, EachFits, AreStarts}
+use Rattle.std.proofs.Math.ListN.{get_or-map}
+use Rattle.dw_op.specs.declared.least_block.{EncodeError.EncodeError, EncodeError.TheVariants.{BranchTooFar, OutOfMemory}}
+use Rattle.dw_op.proofs.Lent.{Ranges.listed_at, LeastBlocks.{each_blank, each_fits, block_parts, joined-cons}}
 
 -- ---- starts
 

@@ -2,10 +2,8 @@
 use Rattle.dw_op.proofs.Words.{ℕ, zero, suc, ◌≤◌, List, [], ◌∷◌, length, Option, Some, None, Ok, Err, sym, ap, subst, arith, inl, inr, nat_le, ◌&&◌, length-append, Refusal, Target, Input, byte_count, Read, fixed_at, take_at, uleb_at}
 use Rattle.dw_op.proofs.Words.{address_at, ◌>>=◌, Profile, Step, Opcode, start, joined, BlockFault, Field, OpForm, opcode_of, allows, width_of, with_op, with_jump, operands_at, judged, after_code, step_at}
 use Rattle.dw_num.proofs.Lent.Stays.{Inside, Stays, inside_all, stays_in, stays-then, either_stays, fixed_stays, take_stays, uleb_stays, sleb_stays, register_stays}
+use Rattle.dw_op.proofs.{Signed.count_in, Lent.ReadingLaws.{branch_in, form_for, signed_in, sized_in, counted_in, value_at, then_value, step_of, operands_are}, OperandLaws.fault_stuck}
 use Rattle.dw_op.specs.Operands as fields
-use Rattle.dw_op.proofs.Signed.{count_in}
-use Rattle.dw_op.proofs.Lent.ReadingLaws.{branch_in, form_for, signed_in, sized_in, counted_in, value_at, then_value, step_of, operands_are}
-use Rattle.dw_op.proofs.OperandLaws.{fault_stuck}
 
 next_stays : {X Y : Type 0} (i : Input) (read : Read X) (next : X × Input → Read Y) → Stays i read → ((x : X × Input) → Stays x.1 (next x)) → Stays i (read >>= next)
 next_stays i read next h more = stays-then i read next h (λ x e k. stays_in i x.1 (next x) k (more x))

@@ -2,8 +2,7 @@
 use Rattle.dw_op.proofs.Words.{◌≡◌, ℕ, suc, ◌+◌, ◌≤◌, List, [], ◌∷◌, ◌++◌, length, Option, Some, None, refl, ◌∙◌, arith, AllByRecursion, length-append, Target, fixed_bytes, Op, Bra, Skip, OpSpells, EachPart, Stands, Displaced, start}
 use Rattle.dw_op.proofs.Words.{displacement, branch_target, joined, Block, AtMost, Least, LeastBlock, least_bytes, least_spelling, InRange, AllInRange, TargetWithin, blank_parts, bits_of, least_from, least_block, BranchFits, EachFits}
 use Rattle.std.proofs.lemmas.List.Concat.{flat_map-cons}
-use Rattle.dw_op.proofs.LeastOf.{least, length_bits}
-use Rattle.dw_op.proofs.Shorter.{EachShorter, as_many, start_le, displacement_fits}
+use Rattle.dw_op.proofs.{LeastOf.{least, length_bits}, Shorter.{EachShorter, as_many, start_le, displacement_fits}}
 
 pub length_of : (a b : List ℕ) → AtMost a b → length a ≤ length b
 length_of a b most = omega arith

@@ -1,8 +1,7 @@
 -- Operations have one least block, and its length is a sum.
 use Rattle.dw_op.proofs.Words.{◌≡◌, ℕ, suc, ◌≤◌, List, [], ◌∷◌, length, Option, Some, None, refl, sym, ap, ◌∙◌, arith, w16, cast_unsigned, length-append, Target, Op, EachPart, Stands, branch_target, joined, Block, Least, LeastBlock}
 use Rattle.dw_op.proofs.Words.{least_bytes, blank_parts, bits_of, least_from, least_block, least_len}
-use Rattle.dw_op.proofs.LeastOf.{length_bits, only}
-use Rattle.dw_op.proofs.Lent.LeastBlocks.{EachInRange, each_blank, each_parts, SameLengths, same_displacement, joined-cons, in_range_of_block, block_of_least, least_block_is, block_fits, least_no_longer}
+use Rattle.dw_op.proofs.{LeastOf.{length_bits, only}, Lent.LeastBlocks.{EachInRange, each_blank, each_parts, SameLengths, same_displacement, joined-cons, in_range_of_block, block_of_least, least_block_is, block_fits, least_no_longer}}
 
 same_lengths : (t : Target) (len : ℕ) (ops : List Op) (parts : List (List ℕ)) → EachInRange t len ops → EachPart (λ j. Least t) 0 ops parts → SameLengths parts (blank_parts t ops)
 same_lengths t len ops parts r l =

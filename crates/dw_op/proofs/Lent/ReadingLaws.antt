@@ -3,15 +3,14 @@ use Rattle.dw_op.proofs.Words.{◌≡◌, ℕ, zero, suc, ◌-◌, ◌%◌, ◌<
 use Rattle.dw_op.proofs.Words.{Width, w8, w16, w32, w64, nat_tests, cases_Bool, eqb-true, le-leb, lt-ltb, le-ltb, bind_ok, cond_ok, Takes-then, take_found, BadDerefSize, NotInFrame, Refusal, Target, Size, byte_count, address_limit, Input}
 use Rattle.dw_op.proofs.Words.{AreBytes, Takes, IsWidth, Fixed, FixedSigned, fixed_number, Uleb, Read, fault, fixed_at, take_at, uleb_at, sleb_at, address_at, ◌>>=◌, register_at, done, ok_is, uleb_found, register_found, sleb_found}
 use Rattle.dw_op.proofs.Words.{taken_bytes, fixed_found, address_found, byte_found, is_fixed, Op, Addr, Const, Pick, PlusUconst, Reg, Breg, Fbreg, Piece, DerefSize, BitPiece, Profile, Frame, Location, Branch, Step, Plain, Jump, One, Two}
-use Rattle.dw_op.proofs.Words.{Opcode, bare, branch_target, in_frame, FieldSpells, OpFormSpells, StepSpells, branch_code, step_in_frame, step_allowed, Field, FieldValue, OpForm, op_form_table, form_of, natural, constant, look_up, in_range, implicit}
-use Rattle.dw_op.proofs.Words.{plain_table, plain_op, operand_table, alone, or_else, opcode_of, code_in_frame, allows, with_op, width_of, signed_of, with_jump, size_in, operands_at, judged, after_code, step_at}
+use Rattle.dw_op.proofs.Words.{Opcode, bare, branch_target, in_frame, FieldSpells, OpFormSpells, StepSpells, branch_code, step_in_frame, step_allowed, Field, FieldValue, OpForm, op_form_table, form_of, natural, constant, look_up, in_range}
+use Rattle.dw_op.proofs.Words.{implicit, plain_table, plain_op, operand_table, alone, or_else, opcode_of, code_in_frame, allows, with_op, width_of, signed_of, with_jump, size_in, operands_at, judged, after_code, step_at}
+use Rattle.dw_op.specs.declared.operation.{Branch.TheVariants.{Bra, Skip}, ByteCount.TheVariants.{Four, Eight}}
+use Rattle.dw_op.proofs.Signed.{int_width, count_in, count_found, signed_spelled}
 use Rattle.dw_num.specs.declared.target.Size.TheVariants as sizes
 use Rattle.dw_op.specs.declared.op.Op.TheVariants as ops
-use Rattle.dw_op.specs.declared.operation.Branch.TheVariants.{Bra, Skip}
-use Rattle.dw_op.specs.declared.operation.ByteCount.TheVariants.{Four, Eight}
 use Rattle.dw_op.specs.declared.operation.Opcode.TheVariants as opcodes
 use Rattle.dw_op.specs.Operands as fields
-use Rattle.dw_op.proofs.Signed.{int_width, count_in, count_found, signed_spelled}
 
 -- ---- tables
 

@@ -1,8 +1,7 @@
 -- What changes among the rows of an FDE are the changes of the FDE.
 use Rattle.dw_section.proofs.Words.{◌≡◌, ℕ, suc, ◌-◌, ◌<◌, ◌≤◌, List, [], ◌∷◌, Option, Some, None, refl, sym, ap, subst, ◌∙◌, arith, inl, inr, cases_lt, le-leb, lt-leb, Instr, CfaRule, RegRule, RulesBehind, cfa_after, rule_after}
 use Rattle.dw_section.proofs.Words.{LocatedRow, Counts, HoldsAfter, Rules, last_at, NeverFalls, StayFrom, HoldsAt, ChangesBehind, AreChanges, Before, Among, Target, input_of, CieHead, FdeHead, factors_of, or_here, one_count, counts_exists}
-use Rattle.dw_section.proofs.Words.{same_rows, Passed, Gives}
-use Rattle.dw_cfa.specs.Behind.{Leaves}
+use Rattle.dw_section.proofs.Words.{same_rows, Passed, Gives, Leaves}
 
 -- ---- the last row at an address
 

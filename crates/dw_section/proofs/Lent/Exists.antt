@@ -1,11 +1,8 @@
 -- Each FDE of an accepted section has changes.
 use Rattle.dw_section.proofs.Words.{ℕ, ◌<◌, List, None, sym, subst, arith, ◌≤◌, [], ◌∷◌, length, Option, Some, inl, inr, Target, AreBytes, Instr, LocatedRow, Rules, Accepted, HoldsAt, AreChanges, changes_among, Among, FdeSays, AreFdes}
 use Rattle.dw_section.proofs.Words.{ChangesOf, SameMeaning, IsAmong, row_starts, Fde}
+use Rattle.dw_section.proofs.Lent.{ChangeLaws.changes_found, Rowed.agree_row, Sames.{AllAgree, changes_there}, Sections.{here, row_exists, one_rules, programs_rules, listed_programs, given_by}}
 pub use Rattle.dw_section.proofs.ChangesAmong.{are_among}
-use Rattle.dw_section.proofs.Lent.ChangeLaws.{changes_found}
-use Rattle.dw_section.proofs.Lent.Rowed.{agree_row}
-use Rattle.dw_section.proofs.Lent.Sames.{AllAgree, changes_there}
-use Rattle.dw_section.proofs.Lent.Sections.{here, row_exists, one_rules, programs_rules, listed_programs, given_by}
 
 among_few : (end : ℕ) (shown : Option Rules) (rows : List LocatedRow) (changes : List (ℕ × Rules)) → Among end shown rows changes → length changes ≤ length rows
 among_few end shown [] changes h = rw h (omega arith)

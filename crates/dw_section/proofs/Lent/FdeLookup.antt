@@ -1,11 +1,7 @@
 -- What a table lists, and where an address is found in it.
 use Rattle.dw_section.proofs.Words.{◌≡◌, ℕ, zero, suc, ◌+◌, ◌<◌, ◌≤◌, List, [], ◌∷◌, map, length, get_or, refl, sym, ap, subst, ◌∙◌, arith, inl, inr, AllByRecursion, AllZip, Target, Ranged, Head, CieHead, FdeHead, Headers, HeadsRise}
 use Rattle.dw_section.proofs.Words.{IsRanged, range_in, fde_in, IsTable, Returns, Lists, AreFdes, Covers, NoneCovers, IsAmong, Range, Precedes, Ascends, AreApart, IsIndex, Fde, IsNonDecreasingBy, length-map, get_or-map}
-use Rattle.dw_section.proofs.Lent.Judged.{all_get, all_get_map}
-use Rattle.dw_section.proofs.Lent.HeaderLaws.{one_headers}
-use Rattle.dw_section.proofs.Lent.Heads.{heads_rise, one_among, cie_or, fde_or}
-use Rattle.dw_section.proofs.Lent.Index.{all_from, one_index}
-use Rattle.dw_section.proofs.Stages.{one_zip}
+use Rattle.dw_section.proofs.{Lent.Judged.{all_get, all_get_map}, Lent.HeaderLaws.one_headers, Lent.Heads.{heads_rise, one_among, cie_or, fde_or}, Lent.Index.{all_from, one_index}, Stages.one_zip}
 
 -- ---- the list
 

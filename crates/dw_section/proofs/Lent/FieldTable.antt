@@ -2,8 +2,8 @@
 use Rattle.dw_section.proofs.Words.{◌≡◌, ℕ, ◌+◌, ◌<◌, ◌≤◌, ◌==◌, ◌^◌, Bool, true, false, List, None, Ok, Err, refl, sym, ap, subst, arith, inl, inr, Result, IsErrAnd, w64, ℤ, FitsSigned, nat_le, cond, nat_lt, leb-true, ltb-true, cond_both}
 use Rattle.dw_section.proofs.Words.{Code, NoSuchCie, Form, Dwarf32, Dwarf64, Size, Target, IsWidth, Read, address_limit, byte_count, CieFields, FdeFields, id_width, Fields, end, field, cie_fields, is_among, fde_fields, FieldsSpell, fixed}
 use Rattle.dw_section.proofs.Words.{unsigned, Refusal, AddressSize, SegmentSelector, RangeTooLarge, RegisterTooLarge, any, unless, factors, Passes}
-use Rattle.dw_section.proofs.FieldLaws.{AreNumbers}
 use Rattle.dw_num.specs.declared.target.Size.TheVariants.{Four as Short, Eight as Long}
+use Rattle.dw_section.proofs.FieldLaws.{AreNumbers}
 
 -- ---- a part of the table, and the rest
 

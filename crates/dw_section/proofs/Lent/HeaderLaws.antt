@@ -1,14 +1,10 @@
 -- Headers are read as they are spelled, and a section has at most one list of them.
-use Rattle.dw_section.proofs.Words.{◌≡◌, ℕ, ◌+◌, List, [], ◌∷◌, length, Result, Ok, Err, inl, inr, refl, sym, ap, subst, ◌∙◌, arith, IfErr, length-append, AllByRecursion, AllZip, Target, Refusal, Input, AreBytes, Span}
-use Rattle.dw_section.proofs.Words.{CieFields, FdeFields, Kind, Piece, Pieces, cie_places, Rises, Fields, cie_fields, fde_fields, FieldsFault, program_of, contents_of, Head, cie_head, IsCie, IsFde, Has, Headers, CieHolds, CieStuck, FdeHolds}
-use Rattle.dw_section.proofs.Words.{FdeStuck, Read, ◌>>=◌, done, ok_is, cie_of_piece, cie_at, fde_of_piece, fde_at, fde_head, HasFields}
-use Rattle.dw_section.specs.declared.entry.Kind.TheVariants as kind
+use Rattle.dw_section.proofs.Words.{◌≡◌, ℕ, ◌+◌, List, [], ◌∷◌, length, Result, Ok, Err, inl, inr, refl, sym, ap, subst, ◌∙◌, arith, IfErr, length-append, AllByRecursion, AllZip, Target, Refusal, Input, AreBytes, Span, CieFields, FdeFields}
+use Rattle.dw_section.proofs.Words.{Kind, Piece, Pieces, cie_places, Rises, Fields, cie_fields, fde_fields, FieldsFault, program_of, contents_of, Head, cie_head, IsCie, IsFde, Has, Headers, CieHolds, CieStuck, FdeHolds, FdeStuck, Read}
+use Rattle.dw_section.proofs.Words.{◌>>=◌, done, ok_is, cie_of_piece, cie_at, fde_of_piece, fde_at, fde_head, HasFields}
 use Rattle.dw_section.specs.Inner.Stage.{Answers}
-use Rattle.dw_section.proofs.FieldLaws.{AreNumbers, fields_at, fault_is, fields_found, fields_again}
-use Rattle.dw_section.proofs.Lent.FieldTable.{cie_numbers, fde_numbers}
-use Rattle.dw_section.proofs.Items.{one_pieces}
-use Rattle.dw_section.proofs.Places.{places_rise}
-use Rattle.dw_section.proofs.Stages.{all_from_zip, one_zip}
+use Rattle.dw_section.proofs.{FieldLaws.{AreNumbers, fields_at, fault_is, fields_found, fields_again}, Lent.FieldTable.{cie_numbers, fde_numbers}, Items.one_pieces, Places.places_rise, Stages.{all_from_zip, one_zip}}
+use Rattle.dw_section.specs.declared.entry.Kind.TheVariants as kind
 
 -- ---- what is read has that header
 

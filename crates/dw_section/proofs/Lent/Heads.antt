@@ -1,15 +1,10 @@
 -- What holds of a section's headers.
-pub use Rattle.dw_section.proofs.Lent.Index.{all_in}
 use Rattle.dw_section.proofs.Words.{◌≡◌, ℕ, suc, ◌+◌, ◌<◌, ◌≤◌, ◌^◌, List, [], ◌∷◌, ◌++◌, length, refl, sym, ap, subst, ◌∙◌, arith, inl, inr, get_or-append-add, AllByRecursion, AllZip, cons_option, Order, Target, Size, AreBytes}
-use Rattle.dw_section.proofs.Words.{length_bytes, address_limit, byte_count, Instr, ProgramSpells, Item, gap, entry, Piece, Pieces, pieces, item_bytes, all_bytes, place_if, cie_places, Rises, Head, cie, fde, Has, Headers, CieHead, FdeHead, head_at}
-use Rattle.dw_section.proofs.Words.{cie_at_of, cie_ats, HeadsRise, FdeFits, HasBytes, InitialInstrs, factors_of, IsAmong, Four, Eight, RiseBy}
+use Rattle.dw_section.proofs.Words.{length_bytes, address_limit, byte_count, Instr, ProgramSpells, Item, gap, entry, Piece, Pieces, pieces, item_bytes, all_bytes, place_if, cie_places, Rises, Head, cie, fde, Has, Headers, CieHead, FdeHead}
+use Rattle.dw_section.proofs.Words.{head_at, cie_at_of, cie_ats, HeadsRise, FdeFits, HasBytes, InitialInstrs, factors_of, IsAmong, Four, Eight, RiseBy}
 use Rattle.dw_cfa.proofs.Lent.InstrLaws.{front_bytes}
-use Rattle.dw_section.proofs.Items.{item_some}
-use Rattle.dw_section.proofs.Lent.HeaderLaws.{pieces_rise as places_of_pieces}
-use Rattle.dw_section.proofs.Cfa.{one_program}
-use Rattle.dw_section.proofs.Lent.FieldTable.{fde_said}
-use Rattle.dw_section.proofs.Lent.Index.{all_in}
-use Rattle.dw_section.proofs.Stages.{all_of_zip}
+use Rattle.dw_section.proofs.{Items.item_some, Lent.HeaderLaws.{pieces_rise as places_of_pieces}, Cfa.one_program, Lent.FieldTable.fde_said, Lent.Index.all_in, Stages.all_of_zip}
+pub use Rattle.dw_section.proofs.Lent.Index.{all_in}
 
 -- ---- places rise
 

@@ -1,10 +1,9 @@
 -- Nops behind a program change no rule, no location and no row's start.
-use Rattle.dw_section.proofs.Words.{◌≡◌, ℕ, zero, suc, ◌+◌, ◌≤◌, Bool, false, cond, List, [], ◌∷◌, ◌++◌, length, take, Some, refl, sym, ap, subst, ◌∙◌, append_assoc, arith, inl, inr, mul-zero, IsTrue, count_by, slice_get}
-use Rattle.dw_section.proofs.Words.{replicate, AllByRecursion, Target, Factors, Instr, CfaRule, RegRule, ProgramSpells, look_back, cfa_change, rule_change, cfa_after, rule_after, CieKept, FdeKept, initial_cfa, initial_rule, onto, back_from}
-use Rattle.dw_section.proofs.Words.{Counts, moves_location, row_starts, one_count, cases_lt, length-append, take_all, sum_by-cons, sum_by-append, sum_by-take-le, Nop, in_cie, is_remember, is_restore, keeps_half, KeepsHalves, location_back}
-use Rattle.dw_section.proofs.Words.{location, in_table, sum_by-replicate}
+use Rattle.dw_section.proofs.Words.{◌≡◌, ℕ, zero, suc, ◌+◌, ◌≤◌, Bool, false, cond, List, [], ◌∷◌, ◌++◌, length, take, Some, refl, sym, ap, subst, ◌∙◌, append_assoc, arith, inl, inr, mul-zero, IsTrue, count_by, slice_get, replicate}
+use Rattle.dw_section.proofs.Words.{AllByRecursion, Target, Factors, Instr, CfaRule, RegRule, ProgramSpells, look_back, cfa_change, rule_change, cfa_after, rule_after, CieKept, FdeKept, initial_cfa, initial_rule, onto, back_from, Counts}
+use Rattle.dw_section.proofs.Words.{moves_location, row_starts, one_count, cases_lt, length-append, take_all, sum_by-cons, sum_by-append, sum_by-take-le, Nop, in_cie, is_remember, is_restore, keeps_half, KeepsHalves, location_back}
+use Rattle.dw_section.proofs.Words.{location, in_table, sum_by-replicate, Unspecified}
 use Rattle.dw_cfa.specs.declared.rule.CfaRule.TheVariants as cfa
-use Rattle.dw_cfa.specs.declared.rule.RegRule.TheVariants.{Unspecified}
 
 abbrev pub nops : ℕ → List Instr
 nops n = replicate n Nop

@@ -1,8 +1,6 @@
 -- The lengths of an FDE's programs are those of the programs that its instructions are read from.
 use Rattle.dw_section.proofs.Words.{◌≡◌, ℕ, ◌<◌, List, length, sym, ap, subst, ◌∙◌, arith, Target, AreBytes, Instr, Accepted, CieHead, FdeHead, cie, FdeSays, HasLengths, IsAmong, Fde}
-use Rattle.dw_section.proofs.Lent.HeaderLaws.{one_headers}
-use Rattle.dw_section.proofs.Lent.Heads.{heads_rise, one_among, cie_or}
-use Rattle.dw_section.proofs.Lent.Sections.{hs, headers_of, here, one_head}
+use Rattle.dw_section.proofs.Lent.{HeaderLaws.one_headers, Heads.{heads_rise, one_among, cie_or}, Sections.{hs, headers_of, here, one_head}}
 
 pub one_lengths : (target : Target) (s : List ℕ) (b : AreBytes s) (ok : Accepted target s) (f : Fde) (i j : List Instr) (own initial : ℕ) → f.begin < f.end → (h : FdeSays target s f.begin f.end i j) → HasLengths target s f own initial
     → (own ≡ length (here target s b ok f.begin f.end i j h).head.program.bytes) × (initial ≡ length (here target s b ok f.begin f.end i j h).spelled.head.program.bytes)

@@ -1,15 +1,9 @@
 -- FDEs that begin with one row of a CIE begin with the same row, and each later row specifies what that does.
 use Rattle.dw_section.proofs.Words.{◌≡◌, ℕ, ◌<◌, ◌≤◌, List, ◌∷◌, Option, sym, ◌∙◌, subst, arith, IsTrue, ℤ, AllByRecursion, Target, AreBytes, Instr, RegRule, cfa_with, initial_cfa, initial_rule, first_row, row_with, Rules, AreSpecified}
-use Rattle.dw_section.proofs.Words.{is_specified, rule, counts_exists, same_rows, Fde, Accepted, AreChanges, HoldsAt, Head, ChangesOf, CieRow, OpensBehind, InitialInstrs, factors_of}
-use Rattle.dw_section.proofs.Words.{ap, Ok, CieHead, HasBytes, IsAmong, cie, input_of, leaves_one}
-use Rattle.dw_cfa.specs.Behind.{LeavesTo}
-use Rattle.dw_section.specs.Laws.{OneCieRow}
+use Rattle.dw_section.proofs.Words.{is_specified, rule, counts_exists, same_rows, Fde, Accepted, AreChanges, HoldsAt, Head, ChangesOf, CieRow, OpensBehind, InitialInstrs, factors_of, ap, Ok, CieHead, HasBytes, IsAmong, cie, input_of}
+use Rattle.dw_section.proofs.Words.{leaves_one, LeavesTo, OneCieRow}
 use Rattle.dw_cfa.proofs.Lent.Openings.{AllSet, all_set, first_cfa, first_rule, stays_specified}
-use Rattle.dw_section.proofs.Lent.Heads.{all_in, cie_or, heads_bytes, heads_rise, one_among, one_begin}
-use Rattle.dw_section.proofs.Lent.HeaderLaws.{one_headers}
-use Rattle.dw_section.proofs.Lent.Sections.{one_programs}
-use Rattle.dw_section.proofs.Lent.Sounds.{Held, held_behind}
-use Rattle.dw_section.proofs.Stages.{all_weaker}
+use Rattle.dw_section.proofs.{Lent.Heads.{all_in, cie_or, heads_bytes, heads_rise, one_among, one_begin}, Lent.HeaderLaws.one_headers, Lent.Sections.one_programs, Lent.Sounds.{Held, held_behind}, Stages.all_weaker}
 
 -- the row that these instructions of a CIE leave, with this offset of the CFA where there is one
 pub record IsLeft (initial : List Instr) (offset : Option ℤ) (row : Rules) : Type 0 where

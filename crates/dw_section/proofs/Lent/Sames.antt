@@ -1,9 +1,6 @@
 -- Two accepted sections with the same FDEs, whose programs agree, say the same.
 use Rattle.dw_section.proofs.Words.{◌≡◌, ℕ, ◌<◌, List, subst, arith, Target, AreBytes, Instr, Rules, Accepted, FdeSays, AreFdes, RulesAt, ChangesOf, Agree, SameMeaning, IsAmong, Fde}
-use Rattle.dw_section.proofs.Lent.FdeLookup.{one_fdes}
-use Rattle.dw_section.proofs.Lent.Agrees.{agree_sym, holds_agree, changes_agree}
-use Rattle.dw_section.proofs.Lent.Rowed.{one_changes}
-use Rattle.dw_section.proofs.Lent.Sections.{one_programs, programs_rules, listed_programs, rules_covered, row_exists, one_rules}
+use Rattle.dw_section.proofs.Lent.{FdeLookup.one_fdes, Agrees.{agree_sym, holds_agree, changes_agree}, Rowed.one_changes, Sections.{one_programs, programs_rules, listed_programs, rules_covered, row_exists, one_rules}}
 
 -- the changes of an FDE that is not empty are one
 pub one_change_list : (target : Target) (s : List ℕ) (b : AreBytes s) (ok : Accepted target s) (f : Fde) (xs ys : List (ℕ × Rules)) → f.begin < f.end → ChangesOf target s f xs → ChangesOf target s f ys → xs ≡ ys

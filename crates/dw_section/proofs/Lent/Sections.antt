@@ -1,15 +1,9 @@
 -- Laws of a section that is accepted: what it says of an FDE is one thing, and each address has rules.
 use Rattle.dw_section.proofs.Words.{◌≡◌, ℕ, ◌+◌, ◌<◌, ◌≤◌, List, [], ◌∷◌, refl, sym, ap, subst, ◌∙◌, arith, inl, inr, AllByRecursion, AllZip, Target, AreBytes, address_limit, Instr, HoldsAfter, Rules, Accepted, HoldsAt, AreChanges, Head}
-use Rattle.dw_section.proofs.Words.{Headers, FdeHead, cie, fde, HeadsRise, HasBytes, FdeFits, cie_ats, FdeSays, Lists, AreFdes, RulesAt, ChangesOf, Covers, Range, nonempty, AreApart, end_of, range_of, FdeRuns, HasRules, Instrs}
-use Rattle.dw_section.proofs.Words.{HasCfa, IsAmong, Fde, counts_exists, one_count}
-use Rattle.dw_section.proofs.Lent.CheckFirst.{one_instrs}
-use Rattle.dw_section.proofs.Lent.HeaderLaws.{one_headers}
-use Rattle.dw_section.proofs.Lent.Heads.{all_in, heads_rise, heads_bytes, heads_fit, one_among, fde_or}
-use Rattle.dw_section.proofs.Lent.Index.{all_from, with_range_so, zip_left, zip_right}
-use Rattle.dw_section.proofs.Lent.FdeLookup.{along}
-use Rattle.dw_section.proofs.Lent.Rowed.{one_row}
-use Rattle.dw_section.proofs.FdeRows.{given}
-use Rattle.dw_section.proofs.Lent.ChangeLaws.{Given, row_there, holds_at}
+use Rattle.dw_section.proofs.Words.{Headers, FdeHead, cie, fde, HeadsRise, HasBytes, FdeFits, cie_ats, FdeSays, Lists, AreFdes, RulesAt, ChangesOf, Covers, Range, nonempty, AreApart, end_of, range_of, FdeRuns, HasRules, Instrs, HasCfa}
+use Rattle.dw_section.proofs.Words.{IsAmong, Fde, counts_exists, one_count}
+use Rattle.dw_section.proofs.Lent.{CheckFirst.one_instrs, HeaderLaws.one_headers, Heads.{all_in, heads_rise, heads_bytes, heads_fit, one_among, fde_or}, Index.{all_from, with_range_so, zip_left, zip_right}, FdeLookup.along, Rowed.one_row}
+use Rattle.dw_section.proofs.{FdeRows.given, Lent.ChangeLaws.{Given, row_there, holds_at}}
 
 -- ---- ranges and headers
 

@@ -1,8 +1,5 @@
-use Rattle.std.proofs.lemmas.Bool.{ltb-false, ltb-true}
-use Rattle.dw_cfa.proofs.Words.{sym, ap, ◌∙◌, arith, Outcome}
-use Rattle.dw_cfa.proofs.RowsTo.{row_passed, stops_above, ends_above}
-use Rattle.dw_cfa.proofs.RunSteps.{rows_end}
-use Rattle.dw_cfa.proofs.StopsTo.{not_below, refused_here}
+use Rattle.dw_cfa.proofs.Words.{ltb-false, ltb-true, sym, ap, ◌∙◌, arith, Outcome}
+use Rattle.dw_cfa.proofs.{RowsTo.{row_passed, stops_above, ends_above}, RunSteps.rows_end, StopsTo.{not_below, refused_here}}
 use Rattle.dw_cfa.proofs.execution.run_to.Goals as goal
 
 pub instrs-preserved : goal.instrs-preserved

@@ -1,7 +1,5 @@
-use Rattle.dw_cfa.proofs.Words.{List, ◌++◌, sym, ap, ◌∙◌, nat_cmp, RegRule}
-use Rattle.std.specs.BTreeMap.{insert_entry}
-use Rattle.dw_cfa.proofs.Lent.RowLists.{Entry}
-use Rattle.dw_cfa.proofs.WideRows.{one_more}
+use Rattle.dw_cfa.proofs.Words.{List, ◌++◌, sym, ap, ◌∙◌, nat_cmp, RegRule, insert_entry}
+use Rattle.dw_cfa.proofs.{Lent.RowLists.Entry, WideRows.one_more}
 use Rattle.dw_cfa.proofs.tree.tree_of.Goals as goal
 
 pub rules-preserved : goal.rules-preserved

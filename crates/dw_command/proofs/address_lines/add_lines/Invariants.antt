@@ -1,5 +1,4 @@
-use Rattle.std.proofs.Common.{length}
-use Rattle.dw_command.specs.Inner.Lines.{ReadUpTo}
+use Rattle.dw_command.proofs.Words.{length, ReadUpTo}
 use Rattle.dw_command.proofs.address_lines.add_lines.Given as goal
 
 abbrev pub invariant-loop-rest : goal.invariant-loop-rest

@@ -1,5 +1,4 @@
-use Rattle.std.proofs.Common.{◌≡◌, ◌+◌, drop}
-use Rattle.dw_command.specs.Inner.Lines.{line_len}
+use Rattle.dw_command.proofs.Words.{◌≡◌, ◌+◌, drop, line_len}
 use Rattle.dw_command.proofs.address_lines.line_len.Given as goal
 
 abbrev pub invariant-loop-i : goal.invariant-loop-i

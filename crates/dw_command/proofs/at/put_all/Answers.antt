@@ -1,5 +1,4 @@
-use Rattle.std.proofs.Common.{◌∙◌, refl}
-use Rattle.std.proofs.KnownBytes.{Appends-kept}
+use Rattle.dw_command.proofs.Words.{◌∙◌, refl, Appends-kept}
 use Rattle.dw_command.proofs.at.put_all.Goals as goal
 
 pub returns : goal.returns

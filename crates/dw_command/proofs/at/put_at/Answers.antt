@@ -1,5 +1,4 @@
-use Rattle.std.proofs.Common.{◌∙◌, Some, None, ap, sym}
-use Rattle.dw_section.specs.declared.lookup.Fde.{Fde}
+use Rattle.dw_command.proofs.Words.{◌∙◌, Some, None, ap, sym, Fde}
 use Rattle.dw_command.proofs.LookedUp.{ends_low, has_fde, has_row, tells_none, tells_some}
 use Rattle.dw_command.proofs.at.put_at.Goals as goal
 

@@ -1,13 +1,4 @@
-use Rattle.std.proofs.Common.{◌∙◌, ℕ, List, [], ◌∷◌, ◌++◌, ap, arith, get_or, refl, subst, sym}
-use Rattle.std.proofs.KnownBytes.{Appends-nil, Appends-trans}
-use Rattle.dw_num.specs.Input.{AreBytes}
-use Rattle.dw_section.specs.Accepted.{Accepted}
-use Rattle.dw_section.specs.Lookups.{Finding}
-use Rattle.dw_section.specs.Meaning.{AreFdes}
-use Rattle.dw_section.specs.Table.{Section}
-use Rattle.dw_command.specs.Answers.{TellsOf}
-use Rattle.dw_command.specs.Inner.Output.{Adds}
-use Rattle.dw_command.specs.RowTexts.{at_text}
+use Rattle.dw_command.proofs.Words.{◌∙◌, ℕ, List, [], ◌∷◌, ◌++◌, ap, arith, get_or, refl, subst, sym, Appends-nil, Appends-trans, AreBytes, Accepted, Finding, AreFdes, Section, TellsOf, Adds, at_text}
 use Rattle.dw_command.proofs.TextLines.{lines_push, zip_all, zip_more}
 use Rattle.dw_command.proofs.at.put_each.Goals as goal
 

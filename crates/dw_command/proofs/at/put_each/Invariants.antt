@@ -1,11 +1,4 @@
-use Rattle.std.proofs.Common.{◌≡◌, List, take}
-use Rattle.std.specs.List.{AllZip}
-use Rattle.dw_section.specs.Meaning.{AreFdes}
-use Rattle.dw_section.specs.declared.lookup.Fde.{Fde}
-use Rattle.dw_command.specs.Answers.{TellsOf}
-use Rattle.dw_command.specs.Inner.Output.{Adds}
-use Rattle.dw_command.specs.RowTexts.{At, at_text}
-use Rattle.dw_command.specs.Texts.{lines}
+use Rattle.dw_command.proofs.Words.{◌≡◌, List, take, AllZip, AreFdes, Fde, TellsOf, Adds, At, at_text, lines}
 use Rattle.dw_command.proofs.at.put_each.Given as goal
 
 abbrev pub invariant-loop-address : goal.invariant-loop-address

@@ -1,4 +1,4 @@
-use Rattle.std.proofs.KnownBytes.{Appends-trans}
+use Rattle.dw_command.proofs.Words.{Appends-trans}
 use Rattle.dw_command.proofs.Puts.{on_ok}
 use Rattle.dw_command.proofs.at.put_found.Goals as goal
 

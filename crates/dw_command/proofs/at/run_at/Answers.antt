@@ -1,8 +1,4 @@
-use Rattle.std.proofs.Common.{Ok, Err, ◌∙◌, ap, inl, inr, refl}
-use Rattle.std.proofs.lemmas.Result.{err_from_is_err_and}
-use Rattle.std.proofs.KnownBytes.{Keeps-refl}
-use Rattle.dw_command.specs.Addresses.{lines_in}
-use Rattle.dw_command.specs.Inner.Output.{output_of}
+use Rattle.dw_command.proofs.Words.{Ok, Err, ◌∙◌, ap, inl, inr, refl, err_from_is_err_and, Keeps-refl, lines_in, output_of}
 use Rattle.dw_command.proofs.Endings.{behind_lines, tells_at, text_at}
 use Rattle.dw_command.proofs.at.run_at.Goals as goal
 

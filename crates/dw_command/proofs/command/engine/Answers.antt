@@ -1,4 +1,4 @@
-use Rattle.std.proofs.Common.{map, rules, string_bytes}
+use Rattle.dw_command.proofs.Words.{map, rules, string_bytes}
 use Rattle.dw_command.proofs.Loans.{ends, of_loan}
 use Rattle.dw_command.proofs.command.engine.Goals as goal
 

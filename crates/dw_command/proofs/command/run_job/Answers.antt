@@ -1,8 +1,4 @@
-use Rattle.std.proofs.Common.{length}
-use Rattle.dw_command.specs.Answers.{AtEnds, Costs, Cuts, EvalEnds, Normalises, OverFile, Prints, ListsFdes, Tallies, UnwindEnds, costs_text}
-use Rattle.dw_command.specs.Inner.Output.{output_of}
-use Rattle.dw_command.specs.RowTexts.{member_text}
-use Rattle.dw_command.specs.Texts.{counts_text, entry_text, lines}
+use Rattle.dw_command.proofs.Words.{length, AtEnds, Costs, Cuts, EvalEnds, Normalises, OverFile, Prints, ListsFdes, Tallies, UnwindEnds, costs_text, output_of, member_text, counts_text, entry_text, lines}
 use Rattle.dw_command.proofs.Endings.{done}
 use Rattle.dw_command.proofs.command.run_job.Goals as goal
 

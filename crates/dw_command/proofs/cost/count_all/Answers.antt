@@ -1,4 +1,4 @@
-use Rattle.std.proofs.Common.{arith}
+use Rattle.dw_command.proofs.Words.{arith}
 use Rattle.dw_command.proofs.Members.{all_counted}
 use Rattle.dw_command.proofs.cost.count_all.Goals as goal
 

@@ -1,4 +1,4 @@
-use Rattle.std.proofs.Common.{◌≡◌, ◌+◌, ◌-◌, ◌^◌, ◌≤◌, length, min}
+use Rattle.dw_command.proofs.Words.{◌≡◌, ◌+◌, ◌-◌, ◌^◌, ◌≤◌, length, min}
 use Rattle.dw_command.proofs.cost.count_changes.Given as goal
 
 abbrev pub decreases-changes : goal.decreases-changes

@@ -1,8 +1,5 @@
-use Rattle.std.proofs.Common.{◌∙◌, ℕ, ◌+◌, ◌<◌, map, length, subst, ap, get_or, take}
-use Rattle.dw_section.specs.Meaning.{total}
-use Rattle.dw_command.specs.Answers.{change_count}
-use Rattle.dw_command.proofs.Members.{as_many, come_all, counted_more, no_member}
-use Rattle.dw_command.proofs.TextLines.{total_more}
+use Rattle.dw_command.proofs.Words.{◌∙◌, ℕ, ◌+◌, ◌<◌, map, length, subst, ap, get_or, take, total, change_count}
+use Rattle.dw_command.proofs.{Members.{as_many, come_all, counted_more, no_member}, TextLines.total_more}
 use Rattle.dw_command.proofs.cost.count_each.Goals as goal
 
 pub loop-place-preserved : goal.loop-place-preserved

@@ -1,7 +1,4 @@
-use Rattle.std.proofs.Common.{◌≡◌, ◌-◌, ◌^◌, List, map, min, take}
-use Rattle.dw_section.specs.Meaning.{total}
-use Rattle.dw_canon.specs.Members.{AreMembers, Member}
-use Rattle.dw_command.specs.Answers.{change_count}
+use Rattle.dw_command.proofs.Words.{◌≡◌, ◌-◌, ◌^◌, List, map, min, take, total, AreMembers, Member, change_count}
 use Rattle.dw_command.proofs.cost.count_each.Given as goal
 
 abbrev pub invariant-loop-place : goal.invariant-loop-place

@@ -1,10 +1,6 @@
-use Rattle.std.proofs.Common.{Err, inl, inr, refl}
-use Rattle.std.proofs.lemmas.Result.{err_from_is_err_and}
-use Rattle.std.proofs.KnownBytes.{Keeps-refl}
-use Rattle.dw_command.specs.Inner.Output.{output_of}
-use Rattle.dw_command.proofs.Endings.{behind_length, lent, loaded, starts_at}
-use Rattle.dw_command.proofs.Members.{counts_at}
+use Rattle.dw_command.proofs.Words.{Err, inl, inr, refl, err_from_is_err_and, Keeps-refl, output_of}
 use Rattle.dw_num.specs.declared.error.ReadError.TheVariants.{OutOfMemory}
+use Rattle.dw_command.proofs.{Endings.{behind_length, lent, loaded, starts_at}, Members.counts_at}
 use Rattle.dw_command.proofs.cost.run_cost.Goals as goal
 
 pub returns-in_err-len : goal.returns-in_err-len

@@ -1,6 +1,4 @@
-use Rattle.std.proofs.Common.{◌≡◌, take}
-use Rattle.dw_command.specs.Inner.Output.{Adds}
-use Rattle.dw_command.specs.Texts.{entry_text, lines}
+use Rattle.dw_command.proofs.Words.{◌≡◌, take, Adds, entry_text, lines}
 use Rattle.dw_command.proofs.entries.put_entries.Given as goal
 
 abbrev pub invariant-loop-entry : goal.invariant-loop-entry

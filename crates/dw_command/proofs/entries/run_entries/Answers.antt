@@ -1,6 +1,4 @@
-use Rattle.std.proofs.Common.{inl, inr, refl}
-use Rattle.std.proofs.lemmas.Result.{err_from_is_err_and}
-use Rattle.std.proofs.KnownBytes.{Keeps-refl}
+use Rattle.dw_command.proofs.Words.{inl, inr, refl, err_from_is_err_and, Keeps-refl}
 use Rattle.dw_command.proofs.Endings.{lent, loaded}
 use Rattle.dw_command.proofs.entries.run_entries.Goals as goal
 

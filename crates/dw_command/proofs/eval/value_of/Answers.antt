@@ -1,5 +1,4 @@
-use Rattle.std.proofs.Common.{refl}
-use Rattle.std.proofs.lemmas.Result.{err_from_is_err_and}
+use Rattle.dw_command.proofs.Words.{refl, err_from_is_err_and}
 use Rattle.dw_command.proofs.Endings.{evaluated}
 use Rattle.dw_command.proofs.eval.value_of.Goals as goal
 

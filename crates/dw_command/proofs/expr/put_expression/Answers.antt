@@ -1,7 +1,4 @@
-use Rattle.std.proofs.Common.{◌≡◌, ◌∙◌, ◌++◌, ℕ, List, ap, refl, rules, subst, sym}
-use Rattle.std.proofs.KnownBytes.{Appends-kept, Appends-trans}
-use Rattle.dw_command.specs.Inner.Output.{Adds}
-use Rattle.dw_command.specs.Texts.{least_text, numbered}
+use Rattle.dw_command.proofs.Words.{◌≡◌, ◌∙◌, ◌++◌, ℕ, List, ap, refl, rules, subst, sym, Appends-kept, Appends-trans, Adds, least_text, numbered}
 use Rattle.dw_command.proofs.OpLines.{numbered_bare}
 use Rattle.dw_command.proofs.expr.put_expression.Goals as goal
 

@@ -1,8 +1,5 @@
-use Rattle.std.proofs.Common.{◌∙◌, ℕ, List, subst, sym}
-use Rattle.std.proofs.KnownBytes.{Appends-kept, Appends-trans}
-use Rattle.dw_command.specs.Inner.Output.{Adds}
-use Rattle.dw_command.proofs.HexLines.{least_some}
-use Rattle.dw_command.proofs.Puts.{behind_kept}
+use Rattle.dw_command.proofs.Words.{◌∙◌, ℕ, List, subst, sym, Appends-kept, Appends-trans, Adds}
+use Rattle.dw_command.proofs.{HexLines.least_some, Puts.behind_kept}
 use Rattle.dw_command.proofs.expr.put_least.Goals as goal
 
 pub returns-clause-put : goal.returns-clause-put

@@ -1,10 +1,4 @@
-use Rattle.std.proofs.Common.{◌≡◌, ◌∙◌, ℕ, suc, ◌+◌, List, ◌++◌, codes, decimal, drop, get_or, subst, arith}
-use Rattle.std.proofs.lemmas.List.{drop_more}
-use Rattle.dw_op.specs.declared.op.Op.{Op}
-use Rattle.dw_op.specs.declared.op.Op.TheVariants.{Addr}
-use Rattle.dw_command.specs.OpTexts.{op_text}
-use Rattle.dw_command.specs.Inner.Output.{put_so_far}
-use Rattle.dw_command.specs.Texts.{line_end, numbered}
+use Rattle.dw_command.proofs.Words.{◌≡◌, ◌∙◌, ℕ, suc, ◌+◌, List, ◌++◌, codes, decimal, drop, get_or, subst, arith, drop_more, Op, Addr, op_text, put_so_far, line_end, numbered}
 use Rattle.dw_command.proofs.TextLines.{Leads, leads_on}
 use Rattle.dw_command.proofs.expr.put_lines.Goals as goal
 

@@ -1,6 +1,4 @@
-use Rattle.std.proofs.Common.{◌≡◌, drop}
-use Rattle.dw_command.specs.Inner.Output.{put_so_far}
-use Rattle.dw_command.specs.Texts.{numbered}
+use Rattle.dw_command.proofs.Words.{◌≡◌, drop, put_so_far, numbered}
 use Rattle.dw_command.proofs.TextLines.{Leads}
 use Rattle.dw_command.proofs.expr.put_lines.Given as goal
 

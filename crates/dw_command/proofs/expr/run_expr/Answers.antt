@@ -1,5 +1,4 @@
-use Rattle.std.proofs.Common.{ℕ, List, inl, subst, sym}
-use Rattle.dw_num.specs.declared.target.Target.{Target}
+use Rattle.dw_command.proofs.Words.{ℕ, List, inl, subst, sym, Target}
 use Rattle.dw_op.specs.Least.{LeastBlock}
 use Rattle.dw_command.proofs.Blocks.{is_block, same_target, not_memory}
 use Rattle.dw_command.proofs.expr.run_expr.Goals as goal

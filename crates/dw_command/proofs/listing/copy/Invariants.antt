@@ -1,4 +1,4 @@
-use Rattle.std.proofs.Common.{◌≡◌, length, take}
+use Rattle.dw_command.proofs.Words.{◌≡◌, length, take}
 use Rattle.dw_command.proofs.listing.copy.Given as goal
 
 abbrev pub invariant-loop-i : goal.invariant-loop-i

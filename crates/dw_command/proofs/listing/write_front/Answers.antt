@@ -1,7 +1,4 @@
-use Rattle.std.proofs.Common.{◌-◌, List, ℕ, length, take, drop, ap, arith, subst}
-use Rattle.std.proofs.lemmas.List.{length-drop, take_rest}
-use Rattle.std.specs.Io.KnownBytes.{Appends}
-use Rattle.std.proofs.KnownBytes.{Appends-trans}
+use Rattle.dw_command.proofs.Words.{◌-◌, List, ℕ, length, take, drop, ap, arith, subst, length-drop, take_rest, Appends, Appends-trans}
 use Rattle.dw_command.proofs.Pieces.{piece_more}
 use Rattle.dw_command.proofs.listing.write_front.Goals as goal
 

@@ -1,5 +1,4 @@
-use Rattle.std.proofs.Common.{length, take, ◌-◌, ◌≤◌}
-use Rattle.std.specs.Io.KnownBytes.{Appends}
+use Rattle.dw_command.proofs.Words.{length, take, ◌-◌, ◌≤◌, Appends}
 use Rattle.dw_command.proofs.listing.write_front.Given as goal
 
 abbrev pub invariant-writes : goal.invariant-writes

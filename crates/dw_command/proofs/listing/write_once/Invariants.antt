@@ -1,4 +1,4 @@
-use Rattle.std.specs.Io.KnownBytes.{Keeps}
+use Rattle.dw_command.proofs.Words.{Keeps}
 use Rattle.dw_command.proofs.listing.write_once.Given as goal
 
 abbrev pub invariant-loop : goal.invariant-loop

@@ -1,6 +1,4 @@
-use Rattle.std.proofs.Common.{inl}
-use Rattle.std.proofs.lemmas.Result.{err_from_is_err_and}
-use Rattle.dw_command.specs.Inner.Output.{output_of}
+use Rattle.dw_command.proofs.Words.{inl, err_from_is_err_and, output_of}
 use Rattle.dw_command.proofs.Endings.{finished, lent, unwritten}
 use Rattle.dw_command.proofs.normal.run_normal.Goals as goal
 

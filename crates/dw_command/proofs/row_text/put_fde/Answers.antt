@@ -1,4 +1,4 @@
-use Rattle.std.proofs.KnownBytes.{Appends-trans}
+use Rattle.dw_command.proofs.Words.{Appends-trans}
 use Rattle.dw_command.proofs.Puts.{behind_kept}
 use Rattle.dw_command.proofs.row_text.put_fde.Goals as goal
 

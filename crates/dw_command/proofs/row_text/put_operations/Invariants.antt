@@ -1,8 +1,5 @@
-use Rattle.std.proofs.Common.{◌≡◌, ◌≤◌, length}
-use Rattle.dw_command.specs.Inner.Output.{put_so_far}
-use Rattle.dw_command.specs.RowTexts.{operations_text}
-use Rattle.dw_command.proofs.OpLines.{left_text}
-use Rattle.dw_command.proofs.TextLines.{Leads}
+use Rattle.dw_command.proofs.Words.{◌≡◌, ◌≤◌, length, put_so_far, operations_text}
+use Rattle.dw_command.proofs.{OpLines.left_text, TextLines.Leads}
 use Rattle.dw_command.proofs.row_text.put_operations.Given as goal
 
 abbrev pub invariant-loop-op : goal.invariant-loop-op

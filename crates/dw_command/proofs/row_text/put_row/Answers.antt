@@ -1,13 +1,6 @@
-use Rattle.std.proofs.Common.{◌++◌, ℕ, List, codes, append_assoc, false, subst, sym}
-use Rattle.std.specs.Fmt.{digits}
-use Rattle.std.proofs.KnownBytes.{Appends-kept, Appends-trans}
-use Rattle.dw_cfa.specs.declared.rule.CfaRule.{CfaRule}
-use Rattle.dw_cfa.specs.declared.rule.RegRule.{RegRule}
-use Rattle.dw_command.specs.Inner.Output.{Adds, put_so_far}
-use Rattle.dw_command.specs.RowTexts.{cfa_text, column_text}
-use Rattle.dw_command.specs.Texts.{lines}
-use Rattle.dw_command.proofs.Puts.{behind_kept}
-use Rattle.dw_command.proofs.TextLines.{Leads, leads_to}
+use Rattle.dw_command.proofs.Words.{◌++◌, ℕ, List, codes, append_assoc, false, subst, sym, digits, Appends-kept, Appends-trans, Adds, put_so_far, cfa_text, column_text, lines}
+use Rattle.dw_cfa.specs.declared.rule.{CfaRule.CfaRule, RegRule.RegRule}
+use Rattle.dw_command.proofs.{Puts.behind_kept, TextLines.{Leads, leads_to}}
 use Rattle.dw_command.proofs.row_text.put_row.Goals as goal
 
 pub returns-clause-put : goal.returns-clause-put

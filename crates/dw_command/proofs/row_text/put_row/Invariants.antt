@@ -1,7 +1,4 @@
-use Rattle.std.proofs.Common.{◌≡◌}
-use Rattle.dw_command.specs.Inner.Output.{put_so_far}
-use Rattle.dw_command.specs.RowTexts.{column_text}
-use Rattle.dw_command.specs.Texts.{lines}
+use Rattle.dw_command.proofs.Words.{◌≡◌, put_so_far, column_text, lines}
 use Rattle.dw_command.proofs.TextLines.{Leads}
 use Rattle.dw_command.proofs.row_text.put_row.Given as goal
 

@@ -1,10 +1,5 @@
-use Rattle.std.proofs.Common.{◌≡◌, length}
-use Rattle.std.specs.List.{AllByRecursion}
-use Rattle.dw_command.specs.Inner.Output.{put_so_far}
-use Rattle.dw_command.specs.RowTexts.{row_text}
-use Rattle.dw_command.specs.Texts.{lines}
-use Rattle.dw_command.proofs.Members.{IsLow}
-use Rattle.dw_command.proofs.TextLines.{Leads}
+use Rattle.dw_command.proofs.Words.{◌≡◌, length, AllByRecursion, put_so_far, row_text, lines}
+use Rattle.dw_command.proofs.{Members.IsLow, TextLines.Leads}
 use Rattle.dw_command.proofs.rows.put_changes.Given as goal
 
 abbrev pub decreases-changes : goal.decreases-changes

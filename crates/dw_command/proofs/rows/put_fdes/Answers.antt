@@ -1,14 +1,5 @@
-use Rattle.std.proofs.Common.{◌∙◌, ◌≤◌, ◌<◌, ◌^◌, ℕ, List, length, subst, sym}
-use Rattle.std.specs.List.{AllByRecursion}
-use Rattle.std.proofs.KnownBytes.{Appends-trans}
-use Rattle.dw_cfa.specs.Rows.{Rules}
-use Rattle.dw_section.specs.declared.lookup.Fde.{Fde}
-use Rattle.dw_canon.proofs.Lent.Canonical.{members_exist}
-use Rattle.dw_command.specs.Inner.Output.{Adds}
-use Rattle.dw_command.specs.RowTexts.{fde_text, member_text, row_text}
-use Rattle.dw_command.specs.Texts.{lines}
-use Rattle.dw_command.proofs.Members.{IsLow, as_many, changes_low, come_all, end_low, fde_is, no_member}
-use Rattle.dw_command.proofs.TextLines.{lines_more}
+use Rattle.dw_command.proofs.Words.{◌∙◌, ◌≤◌, ◌<◌, ◌^◌, ℕ, List, length, subst, sym, AllByRecursion, Appends-trans, Rules, Fde, members_exist, Adds, fde_text, member_text, row_text, lines}
+use Rattle.dw_command.proofs.{Members.{IsLow, as_many, changes_low, come_all, end_low, fde_is, no_member}, TextLines.lines_more}
 use Rattle.dw_command.proofs.rows.put_fdes.Goals as goal
 
 pub put_fde-requires-clause-in_space : goal.put_fde-requires-clause-in_space

@@ -1,8 +1,4 @@
-use Rattle.std.proofs.Common.{◌≡◌, List, take}
-use Rattle.dw_canon.specs.Members.{AreMembers, Member}
-use Rattle.dw_command.specs.Inner.Output.{Adds}
-use Rattle.dw_command.specs.RowTexts.{member_text}
-use Rattle.dw_command.specs.Texts.{lines}
+use Rattle.dw_command.proofs.Words.{◌≡◌, List, take, AreMembers, Member, Adds, member_text, lines}
 use Rattle.dw_command.proofs.rows.put_fdes.Given as goal
 
 abbrev pub invariant-loop-place : goal.invariant-loop-place

@@ -1,9 +1,5 @@
-use Rattle.std.proofs.Common.{◌≡◌, ◌∙◌, ◌∷◌, ◌++◌, [], ℕ, List, get_or, refl, subst, sym, ap, take}
-use Rattle.std.proofs.KnownBytes.{Appends-nil, Appends-trans}
-use Rattle.hex.specs.Hex.{encode_lower}
-use Rattle.dw_command.specs.Inner.Output.{Adds, put_so_far}
-use Rattle.dw_command.proofs.HexLines.{encode_more, encode_none, ok_so}
-use Rattle.dw_command.proofs.Puts.{behind_kept}
+use Rattle.dw_command.proofs.Words.{◌≡◌, ◌∙◌, ◌∷◌, ◌++◌, [], ℕ, List, get_or, refl, subst, sym, ap, take, Appends-nil, Appends-trans, encode_lower, Adds, put_so_far}
+use Rattle.dw_command.proofs.{HexLines.{encode_more, encode_none, ok_so}, Puts.behind_kept}
 use Rattle.dw_command.proofs.texts.put_hex.Goals as goal
 
 pub loop-byte-init : goal.loop-byte-init

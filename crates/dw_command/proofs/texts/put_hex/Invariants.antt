@@ -1,6 +1,4 @@
-use Rattle.std.proofs.Common.{◌≡◌, take}
-use Rattle.hex.specs.Hex.{encode_lower}
-use Rattle.dw_command.specs.Inner.Output.{Adds}
+use Rattle.dw_command.proofs.Words.{◌≡◌, take, encode_lower, Adds}
 use Rattle.dw_command.proofs.texts.put_hex.Given as goal
 
 abbrev pub invariant-loop-byte : goal.invariant-loop-byte

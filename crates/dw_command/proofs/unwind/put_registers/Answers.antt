@@ -1,7 +1,4 @@
-use Rattle.std.proofs.Common.{◌∙◌, List, ℕ, subst, sym}
-use Rattle.std.proofs.KnownBytes.{Appends-trans}
-use Rattle.dw_command.specs.Inner.Output.{Adds}
-use Rattle.dw_command.specs.Texts.{register_text}
+use Rattle.dw_command.proofs.Words.{◌∙◌, List, ℕ, subst, sym, Appends-trans, Adds, register_text}
 use Rattle.dw_command.proofs.TextLines.{lines_more}
 use Rattle.dw_command.proofs.unwind.put_registers.Goals as goal
 

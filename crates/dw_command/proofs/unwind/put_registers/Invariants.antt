@@ -1,6 +1,4 @@
-use Rattle.std.proofs.Common.{◌≡◌, take}
-use Rattle.dw_command.specs.Inner.Output.{Adds}
-use Rattle.dw_command.specs.Texts.{lines, register_text}
+use Rattle.dw_command.proofs.Words.{◌≡◌, take, Adds, lines, register_text}
 use Rattle.dw_command.proofs.unwind.put_registers.Given as goal
 
 abbrev pub invariant-loop-register : goal.invariant-loop-register

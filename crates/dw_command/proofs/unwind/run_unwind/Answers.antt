@@ -1,7 +1,4 @@
-use Rattle.std.proofs.Common.{Ok, Err, inl, inr, refl}
-use Rattle.std.proofs.lemmas.Result.{err_from_is_err_and}
-use Rattle.dw_command.specs.Inner.Output.{output_of}
-use Rattle.std.proofs.KnownBytes.{Keeps-refl}
+use Rattle.dw_command.proofs.Words.{Ok, Err, inl, inr, refl, err_from_is_err_and, output_of, Keeps-refl}
 use Rattle.dw_command.proofs.Endings.{behind_files, dump_before, frames_at}
 use Rattle.dw_command.proofs.unwind.run_unwind.Goals as goal
 

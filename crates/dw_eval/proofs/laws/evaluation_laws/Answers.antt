@@ -1,6 +1,4 @@
-use Rattle.dw_eval.proofs.Lent.Results.{one_result, one_location}
-use Rattle.dw_eval.proofs.Space.{values_in_space, locations_in_space}
-use Rattle.dw_eval.proofs.Wanted.{wanted_by_value, wanted_by_location}
+use Rattle.dw_eval.proofs.{Lent.Results.{one_result, one_location}, Space.{values_in_space, locations_in_space}, Wanted.{wanted_by_value, wanted_by_location}}
 use Rattle.dw_eval.proofs.laws.evaluation_laws.Goals as goal
 
 pub returns : goal.returns

@@ -1,6 +1,4 @@
-use Rattle.dw_eval.proofs.Words.{◌≡◌, ℕ, Some, subst, arith, if◌then◌else◌}
-use Rattle.std.specs.Prelude.{◌==◌}
-use Rattle.dw_eval.specs.Inner.Registers.{any_held}
+use Rattle.dw_eval.proofs.Words.{◌≡◌, ℕ, Some, subst, arith, if◌then◌else◌, ◌==◌, any_held}
 use Rattle.dw_eval.proofs.RegisterLaws.{far_put, near_put}
 use Rattle.dw_eval.proofs.registers.hold.Goals as goal
 

@@ -1,5 +1,4 @@
-use Rattle.dw_eval.proofs.Words.{◌≡◌, ◌∙◌, ℕ, sym, subst, arith}
-use Rattle.dw_eval.specs.Inner.Registers.{any_held}
+use Rattle.dw_eval.proofs.Words.{◌≡◌, ◌∙◌, ℕ, sym, subst, arith, any_held}
 use Rattle.dw_eval.proofs.RegisterLaws.{far_is, near_is}
 use Rattle.dw_eval.proofs.registers.value_of.Goals as goal
 

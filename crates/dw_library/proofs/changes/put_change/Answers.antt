@@ -1,5 +1,4 @@
-use Rattle.std.proofs.Common.{refl}
-use Rattle.dw_section.specs.Ranges.{fde_in}
+use Rattle.dw_library.proofs.Words.{refl, fde_in}
 use Rattle.dw_library.proofs.Changed.{written_more}
 use Rattle.dw_library.proofs.changes.put_change.Goals as goal
 

@@ -1,8 +1,4 @@
-use Rattle.std.proofs.Common.{ℕ, List, ◌∷◌, [], ◌++◌, ◌∙◌, ap, subst, sym}
-use Rattle.std.specs.List.{AllByRecursion}
-use Rattle.std.proofs.Math.Seq.{append_snoc}
-use Rattle.dw_cfa.specs.Rows.{Rules}
-use Rattle.dw_library.specs.Inner.Changes.{IsLow}
+use Rattle.dw_library.proofs.Words.{ℕ, List, ◌∷◌, [], ◌++◌, ◌∙◌, ap, subst, sym, AllByRecursion, append_snoc, Rules, IsLow}
 use Rattle.dw_library.proofs.Changed.{row_shown}
 use Rattle.dw_library.proofs.changes.put_changes.Goals as goal
 

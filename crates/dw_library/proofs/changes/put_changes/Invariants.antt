@@ -1,9 +1,4 @@
-use Rattle.std.proofs.Common.{◌≡◌, ℕ, List, ◌++◌, length}
-use Rattle.std.specs.List.{AllByRecursion}
-use Rattle.dw_cfa.specs.Rows.{Rules}
-use Rattle.dw_section.specs.Ranges.{fde_in}
-use Rattle.dw_library.specs.Changes.{AreWritten}
-use Rattle.dw_library.specs.Inner.Changes.{IsLow}
+use Rattle.dw_library.proofs.Words.{◌≡◌, ℕ, List, ◌++◌, length, AllByRecursion, Rules, fde_in, AreWritten, IsLow}
 use Rattle.dw_library.proofs.changes.put_changes.Given as goal
 
 abbrev pub decreases-told : goal.decreases-told

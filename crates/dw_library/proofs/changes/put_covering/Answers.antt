@@ -1,7 +1,4 @@
-use Rattle.std.proofs.Common.{inl, subst, sym}
-use Rattle.dw_section.specs.Among.{IsAmong}
-use Rattle.dw_section.specs.Meaning.{Covers}
-use Rattle.dw_section.specs.declared.lookup.Fde.{Fde}
+use Rattle.dw_library.proofs.Words.{inl, subst, sym, IsAmong, Covers, Fde}
 use Rattle.dw_library.proofs.Changed.{among_get, no_fde}
 use Rattle.dw_library.proofs.changes.put_covering.Goals as goal
 

@@ -1,12 +1,7 @@
-use Rattle.std.proofs.Common.{◌≡◌, ◌∙◌, ◌<◌, ℕ, List, length, arith, ap, subst, sym, get_or}
-use Rattle.dw_section.specs.Meaning.{ChangesOf}
-use Rattle.dw_section.specs.declared.lookup.Fde.{Fde}
-use Rattle.dw_library.specs.declared.changes.Change.{Change}
-use Rattle.dw_library.specs.declared.index.Rule.{Rule}
-use Rattle.dw_library.specs.Changes.{Fits}
+use Rattle.dw_library.proofs.Words.{◌≡◌, ◌∙◌, ◌<◌, ℕ, List, length, arith, ap, subst, sym, get_or, ChangesOf, Fde, Change, Rule, Fits}
 use Rattle.dw_library.proofs.Changed.{changes_low, entry_is, long, no_fde, place_low}
-use Rattle.dw_library.proofs.changes.put_fde.Goals.{After-index}
 use Rattle.dw_library.proofs.changes.put_fde.Goals as goal
+use Rattle.dw_library.proofs.changes.put_fde.Goals.{After-index}
 
 inside : (c : After-index) → c.args.fde.place < length c.index.result.now
 inside c =

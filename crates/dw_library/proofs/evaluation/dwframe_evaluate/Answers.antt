@@ -1,6 +1,4 @@
-use Rattle.std.proofs.Common.{◌≡◌, ◌∙◌, Some, Err, refl, sym}
-use Rattle.dw_library.specs.Answers.{target_of}
-use Rattle.dw_library.specs.CallerFrame.{held_in}
+use Rattle.dw_library.proofs.Words.{◌≡◌, ◌∙◌, Some, Err, refl, sym, target_of, held_in}
 use Rattle.dw_library.proofs.Evaluated.{fault_told}
 use Rattle.dw_library.proofs.evaluation.dwframe_evaluate.Goals as goal
 

@@ -1,4 +1,4 @@
-use Rattle.std.proofs.Common.{◌⊎◌, inl, inr}
+use Rattle.dw_library.proofs.Words.{◌⊎◌, inl, inr}
 use Rattle.dw_library.proofs.evaluation.value_of.Goals as goal
 
 carried : {A B C : Type 0} → (B → C) → A ⊎ B → A ⊎ C

@@ -1,7 +1,4 @@
-use Rattle.std.proofs.Common.{◌≡◌, ℕ, List, ◌∷◌, ◌++◌, length, subst}
-use Rattle.dw_cfa.specs.declared.rule.RegRule.{RegRule}
-use Rattle.dw_library.specs.declared.expressions.Block.{Block}
-use Rattle.dw_library.specs.Expressions.{AreBlocks, expressions_of, in_rule, in_rules}
+use Rattle.dw_library.proofs.Words.{◌≡◌, ℕ, List, ◌∷◌, ◌++◌, length, subst, RegRule, Block, AreBlocks, expressions_of, in_rule, in_rules}
 use Rattle.dw_library.proofs.JoinedBlocks.{grown, all_there}
 use Rattle.dw_library.proofs.expressions.gather.Goals as goal
 

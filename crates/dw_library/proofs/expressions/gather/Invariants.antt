@@ -1,6 +1,4 @@
-use Rattle.std.proofs.Common.{ℕ, List, ◌++◌, length}
-use Rattle.dw_library.specs.declared.expressions.Block.{Block}
-use Rattle.dw_library.specs.Expressions.{AreBlocks, expressions_of, in_rules}
+use Rattle.dw_library.proofs.Words.{ℕ, List, ◌++◌, length, Block, AreBlocks, expressions_of, in_rules}
 use Rattle.dw_library.proofs.expressions.gather.Given as goal
 
 abbrev pub invariant-loop-register : goal.invariant-loop-register

@@ -1,4 +1,4 @@
-use Rattle.std.proofs.Common.{refl, inr}
+use Rattle.dw_library.proofs.Words.{refl, inr}
 use Rattle.dw_library.proofs.expressions.put_expressions.Goals as goal
 
 pub returns-in_default-clause-any : goal.returns-in_default-clause-any

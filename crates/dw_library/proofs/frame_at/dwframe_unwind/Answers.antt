@@ -1,12 +1,5 @@
-use Rattle.std.proofs.Common.{◌≡◌, ◌∙◌, ℕ, List, Option, Some, None, true, is_some, inl, inr, refl, sym}
+use Rattle.dw_library.proofs.Words.{◌≡◌, ◌∙◌, ℕ, List, Option, Some, None, true, is_some, inl, inr, refl, sym, Target, Policy, CheckFault, Stop, Register, target_of, refused, told, IsUnwound, Machine, Told, held_in, no_frame, no_fault}
 use Rattle.dw_num.specs.declared.refusal.Refusal.{Refusal}
-use Rattle.dw_num.specs.declared.target.Target.{Target}
-use Rattle.dw_eval.specs.declared.policy.Policy.{Policy}
-use Rattle.dw_section.specs.Accepted.{CheckFault}
-use Rattle.dw_library.specs.declared.caller.Stop.{Stop}
-use Rattle.dw_library.specs.declared.registers.Register.{Register}
-use Rattle.dw_library.specs.Answers.{target_of, refused, told}
-use Rattle.dw_library.specs.CallerFrame.{IsUnwound, Machine, Told, held_in, no_frame, no_fault}
 use Rattle.dw_library.proofs.frame_at.dwframe_unwind.Goals as goal
 
 -- a section is refused, whatever an unset register is taken as

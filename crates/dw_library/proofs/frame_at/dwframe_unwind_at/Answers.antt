@@ -1,6 +1,4 @@
-use Rattle.std.proofs.Common.{◌≡◌, Some, refl, sym, ◌∙◌}
-use Rattle.dw_library.specs.Answers.{target_of}
-use Rattle.dw_library.specs.CallerFrame.{held_in, policy_of}
+use Rattle.dw_library.proofs.Words.{◌≡◌, Some, refl, sym, ◌∙◌, target_of, held_in, policy_of}
 use Rattle.dw_library.proofs.FramesAt.{own_fails}
 use Rattle.dw_library.proofs.frame_at.dwframe_unwind_at.Goals as goal
 

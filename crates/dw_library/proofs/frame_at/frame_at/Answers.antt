@@ -1,4 +1,4 @@
-use Rattle.dw_library.specs.CallerFrame.{held_in}
+use Rattle.dw_library.proofs.Words.{held_in}
 use Rattle.dw_library.proofs.FramesAt.{any_told, own_told}
 use Rattle.dw_library.proofs.frame_at.frame_at.Goals as goal
 

@@ -1,4 +1,4 @@
-use Rattle.std.proofs.Common.{refl}
+use Rattle.dw_library.proofs.Words.{refl}
 use Rattle.dw_library.proofs.frame_at.frame_in.Goals as goal
 
 pub returns-clause-any : goal.returns-clause-any

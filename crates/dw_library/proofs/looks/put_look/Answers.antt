@@ -1,11 +1,5 @@
-use Rattle.std.proofs.Common.{List, Bool, map, [], Some, refl, sym, ap, subst, ◌∙◌, inl, inr}
-use Rattle.std.proofs.lemmas.List.{length-map}
-use Rattle.std.proofs.lemmas.Option.{same_Some}
-use Rattle.dw_section.specs.Lookups.{FindsFde, LooksUp}
-use Rattle.dw_section.specs.Meaning.{AreFdes, RulesAt}
+use Rattle.dw_library.proofs.Words.{List, Bool, map, [], Some, refl, sym, ap, subst, ◌∙◌, inl, inr, length-map, same_Some, FindsFde, LooksUp, AreFdes, RulesAt, Fde, rule_of}
 use Rattle.dw_section.specs.Table.{Section}
-use Rattle.dw_section.specs.declared.lookup.Fde.{Fde}
-use Rattle.dw_library.specs.Index.{rule_of}
 use Rattle.dw_library.proofs.Written.{lent_listed}
 use Rattle.dw_library.proofs.looks.put_look.Goals as goal
 

@@ -1,4 +1,4 @@
-use Rattle.std.proofs.Common.{◌≡◌}
+use Rattle.dw_library.proofs.Words.{◌≡◌}
 use Rattle.dw_library.proofs.Written.{Wrote}
 use Rattle.dw_library.proofs.looks.put_looks.Given as goal
 

@@ -1,6 +1,4 @@
-use Rattle.std.proofs.Common.{◌≡◌, ◌≤◌, ℕ, drop, length}
-use Rattle.dw_eval.specs.Registers.{held}
-use Rattle.dw_library.specs.Registers.{given_in}
+use Rattle.dw_library.proofs.Words.{◌≡◌, ◌≤◌, ℕ, drop, length, held, given_in}
 use Rattle.dw_library.proofs.registers.give_all.Given as goal
 
 abbrev pub invariant-given : goal.invariant-given

@@ -1,8 +1,5 @@
-use Rattle.std.proofs.Common.{◌≡◌, ℕ, suc, ◌+◌, ◌<◌, List, [], ◌∷◌, ◌++◌, length, take, drop, map, get_or, slice_set, sym, ap, subst, ◌∙◌, arith, Option, None}
-use Rattle.std.proofs.Math.Seq.{append_snoc, drop-cons, set-append_seam, take-suc}
-use Rattle.std.proofs.lemmas.List.{length-map, length-take-le, map_push}
-use Rattle.dw_library.specs.declared.registers.Register.{Register}
-use Rattle.dw_library.specs.Registers.{told_register}
+use Rattle.dw_library.proofs.Words.{◌≡◌, ℕ, suc, ◌+◌, ◌<◌, List, [], ◌∷◌, ◌++◌, length, take, drop, map, get_or, slice_set, sym, ap, subst, ◌∙◌, arith, Option, None, append_snoc, drop-cons, set-append_seam, take-suc, length-map}
+use Rattle.dw_library.proofs.Words.{length-take-le, map_push, Register, told_register}
 use Rattle.dw_library.proofs.registers.put_registers.Goals as goal
 
 -- one more item behind those that were put in a buffer

@@ -1,5 +1,4 @@
-use Rattle.std.proofs.Common.{◌≡◌, ◌++◌, drop, map, take}
-use Rattle.dw_library.specs.Registers.{told_register}
+use Rattle.dw_library.proofs.Words.{◌≡◌, ◌++◌, drop, map, take, told_register}
 use Rattle.dw_library.proofs.registers.put_registers.Given as goal
 
 abbrev pub invariant-entries : goal.invariant-entries

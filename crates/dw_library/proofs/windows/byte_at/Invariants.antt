@@ -1,5 +1,4 @@
-use Rattle.std.proofs.Common.{◌≡◌, drop}
-use Rattle.dw_library.specs.Windows.{byte_among}
+use Rattle.dw_library.proofs.Words.{◌≡◌, drop, byte_among}
 use Rattle.dw_library.proofs.windows.byte_at.Given as goal
 
 abbrev pub invariant-windows : goal.invariant-windows

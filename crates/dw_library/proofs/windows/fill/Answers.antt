@@ -1,6 +1,4 @@
-use Rattle.std.proofs.Common.{length, arith, sym}
-use Rattle.dw_library.specs.Windows.{byte_among}
-use Rattle.dw_eval.proofs.Lent.MemoryBytes.{bytes_missing, bytes_all}
+use Rattle.dw_library.proofs.Words.{length, arith, sym, byte_among, bytes_missing, bytes_all}
 use Rattle.dw_library.proofs.windows.fill.Goals as goal
 
 pub returns-in_default : goal.returns-in_default

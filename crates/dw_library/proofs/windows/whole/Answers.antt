@@ -1,9 +1,6 @@
-use Rattle.std.proofs.Common.{◌≡◌, ℕ, suc, ◌+◌, ◌<◌, List, ◌∷◌, length, drop, get_or, Option, Some, None, IfSome, true, false, refl, sym, ap, subst, ◌∙◌, arith}
-use Rattle.std.proofs.Math.Seq.{drop-cons}
+use Rattle.dw_library.proofs.Words.{◌≡◌, ℕ, suc, ◌+◌, ◌<◌, List, ◌∷◌, length, drop, get_or, Option, Some, None, IfSome, true, false, refl, sym, ap, subst, ◌∙◌, arith, drop-cons, bytes_all, covers, byte_of, byte_among}
 use Rattle.dw_eval.specs.Bytes.{bytes_from}
-use Rattle.dw_eval.proofs.Lent.MemoryBytes.{bytes_all}
 use Rattle.dw_library.specs.declared.windows.Window.{Window}
-use Rattle.dw_library.specs.Windows.{covers, byte_of, byte_among}
 use Rattle.dw_library.proofs.windows.whole.Goals as goal
 
 both : {R : Type 0} {P Q S : R → Type 0} (o : Option R) → ((r : R) → P r → Q r → S r) → IfSome o P → IfSome o Q → IfSome o S

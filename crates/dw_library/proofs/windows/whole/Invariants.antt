@@ -1,5 +1,4 @@
-use Rattle.std.proofs.Common.{◌≡◌, ℕ, ◌+◌, ◌<◌, drop}
-use Rattle.dw_library.specs.Windows.{byte_among}
+use Rattle.dw_library.proofs.Words.{◌≡◌, ℕ, ◌+◌, ◌<◌, drop, byte_among}
 use Rattle.dw_library.proofs.windows.whole.Given as goal
 
 abbrev pub invariant-windows : goal.invariant-windows

@@ -1,8 +1,5 @@
 use Rattle.dw_normal.proofs.Words.{ℕ, List, length, Err, sym, ap, ◌∙◌, subst, rules, arith, Target, members_exist, renders, cies_bytes, fdes_bytes, cie_place, RowsRise, Puts}
-use Rattle.dw_normal.proofs.Entries.{canon_both, cies_long}
-use Rattle.dw_normal.proofs.Joined.{most_taken, put_begins, puts_both, same_err}
-use Rattle.dw_normal.proofs.Placed.{rows_fit}
-use Rattle.dw_normal.proofs.Sited.{rows_rise}
+use Rattle.dw_normal.proofs.{Entries.{canon_both, cies_long}, Joined.{most_taken, put_begins, puts_both, same_err}, Placed.rows_fit, Sited.rows_rise}
 use Rattle.dw_normal.proofs.entry.write_entries.Goals as goal
 
 pub write_cies-requires : goal.write_cies-requires

@@ -1,5 +1,4 @@
-use Rattle.dw_normal.proofs.Words.{◌≡◌, ℕ, ◌*◌, ◌≤◌, List, take, IfSome, AreFdes, Fde, Shares, Member, AreMembers, HasJoined, initial_rows}
-use Rattle.dw_normal.specs.Inner.Known.{Agree}
+use Rattle.dw_normal.proofs.Words.{◌≡◌, ℕ, ◌*◌, ◌≤◌, List, take, IfSome, AreFdes, Fde, Shares, Member, AreMembers, HasJoined, initial_rows, Agree}
 use Rattle.dw_normal.proofs.groups.gather.Given as goal
 
 abbrev pub invariant-fdes : goal.invariant-fdes

@@ -1,8 +1,5 @@
 use Rattle.dw_normal.proofs.Words.{◌≡◌, ◌<◌, Some, map, sym, ap, ◌∙◌, subst, ℕ, length-map, members_exist, fde_of, get_or, IsShown, row_or_blank}
-use Rattle.dw_normal.proofs.ChangesToCome.{behind}
-use Rattle.dw_normal.proofs.Filled.{on_ok}
-use Rattle.dw_normal.proofs.Grouped.{no_member}
-use Rattle.dw_normal.proofs.KnownCies.{stands_behind}
+use Rattle.dw_normal.proofs.{ChangesToCome.behind, Filled.on_ok, Grouped.no_member, KnownCies.stands_behind}
 use Rattle.dw_normal.proofs.groups.go_behind_first.Goals as goal
 
 pub returns-clause-behind : goal.returns-clause-behind

@@ -1,9 +1,5 @@
-use Rattle.dw_normal.proofs.Words.{◌≡◌, AreSpecified, sym, ap, ◌∙◌, subst, Rules, agreed, kept_by, row_or_blank, shown_row}
-use Rattle.dw_cfa.specs.Agreement.{kept}
-use Rattle.dw_cfa.specs.RegisterSets.{Registers, AgreesBeside, SameBeside}
-use Rattle.dw_normal.specs.Inner.Known.{Notes}
-use Rattle.dw_normal.proofs.Filled.{on_ok}
-use Rattle.dw_normal.proofs.KnownCies.{agreed_kept, notes_more, shared_beside, still_kept}
+use Rattle.dw_normal.proofs.Words.{◌≡◌, AreSpecified, sym, ap, ◌∙◌, subst, Rules, agreed, kept_by, row_or_blank, shown_row, kept, Registers, AgreesBeside, SameBeside, Notes}
+use Rattle.dw_normal.proofs.{Filled.on_ok, KnownCies.{agreed_kept, notes_more, shared_beside, still_kept}}
 use Rattle.dw_normal.proofs.groups.share_behind.Goals as goal
 
 pub returns-then-behind-clause-row : goal.returns-then-behind-clause-row

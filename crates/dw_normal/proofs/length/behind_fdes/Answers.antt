@@ -1,6 +1,5 @@
 use Rattle.dw_normal.proofs.Words.{ap, length, arith}
-use Rattle.dw_normal.proofs.Placed.{as_many}
-use Rattle.dw_normal.proofs.Summed.{none_bytes}
+use Rattle.dw_normal.proofs.{Placed.as_many, Summed.none_bytes}
 use Rattle.dw_normal.proofs.length.behind_fdes.Goals as goal
 
 pub returns-then-count-eq0 : goal.returns-then-count-eq0

@@ -1,6 +1,5 @@
 use Rattle.dw_normal.proofs.Words.{arith, members_exist}
-use Rattle.dw_normal.proofs.Placed.{rows_fit}
-use Rattle.dw_normal.proofs.Summed.{over_cies, over_fdes, within}
+use Rattle.dw_normal.proofs.{Placed.rows_fit, Summed.{over_cies, over_fdes, within}}
 use Rattle.dw_normal.proofs.length.measured.Goals as goal
 
 pub behind_cies-requires : goal.behind_cies-requires

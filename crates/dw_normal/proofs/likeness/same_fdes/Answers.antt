@@ -1,8 +1,5 @@
 use Rattle.dw_normal.proofs.Words.{◌≡◌, ℕ, ◌∷◌, Fde, members_exist, refl, ◌∙◌, sym, ap, map, get_or, Decides, get_or-map, fde_of, changes_of}
-use Rattle.dw_normal.proofs.Alike.{untrue, not_so, if_ok, same_member}
-use Rattle.dw_normal.proofs.ChangesToCome.{come_all}
-use Rattle.dw_normal.proofs.Grouped.{no_member}
-use Rattle.dw_normal.proofs.Placed.{below}
+use Rattle.dw_normal.proofs.{Alike.{untrue, not_so, if_ok, same_member}, ChangesToCome.come_all, Grouped.no_member, Placed.below}
 use Rattle.dw_normal.proofs.likeness.same_fdes.Goals as goal
 
 pub returns-then-not-same_heads-clause-same : goal.returns-then-not-same_heads-clause-same

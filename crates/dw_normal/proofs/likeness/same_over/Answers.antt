@@ -1,7 +1,5 @@
 use Rattle.dw_normal.proofs.Words.{◌≡◌, ◌<◌, List, length, get_or, ap, refl, arith, take_more_same, Member}
-use Rattle.dw_normal.proofs.Alike.{not_so, apart, all_same}
-use Rattle.dw_normal.proofs.Grouped.{no_member}
-use Rattle.dw_normal.proofs.Placed.{as_many}
+use Rattle.dw_normal.proofs.{Alike.{not_so, apart, all_same}, Grouped.no_member, Placed.as_many}
 use Rattle.dw_normal.proofs.likeness.same_over.Goals as goal
 
 pub fdes-init : goal.fdes-init

@@ -1,5 +1,4 @@
-use Rattle.dw_normal.proofs.Words.{◌≡◌, List, length, take, Member, AreMembers}
-use Rattle.dw_normal.specs.Inner.Twins.{AreTwins}
+use Rattle.dw_normal.proofs.Words.{◌≡◌, List, length, take, Member, AreMembers, AreTwins}
 use Rattle.dw_normal.proofs.likeness.same_over.Given as goal
 
 abbrev pub invariant-fdes : goal.invariant-fdes

@@ -1,5 +1,4 @@
-use Rattle.dw_normal.proofs.Words.{Option, Some, refl, sym, ap, ◌∙◌, Rules, rule, row_or_blank}
-use Rattle.dw_cfa.proofs.Lent.SameRows.{same_rows}
+use Rattle.dw_normal.proofs.Words.{Option, Some, refl, sym, ap, ◌∙◌, Rules, rule, row_or_blank, same_rows}
 use Rattle.dw_normal.proofs.likeness.same_steps.Goals as goal
 
 pub returns-then-is_same : goal.returns-then-is_same

@@ -1,5 +1,4 @@
-use Rattle.dw_normal.proofs.Reports.{length_found, length_only, only_memory}
-use Rattle.dw_normal.proofs.FaultPlaces.{refused_within}
+use Rattle.dw_normal.proofs.{Reports.{length_found, length_only, only_memory}, FaultPlaces.refused_within}
 use Rattle.dw_normal.proofs.normal.normal_length.Goals as goal
 
 pub returns-in-Ok-clause-found : goal.returns-in-Ok-clause-found

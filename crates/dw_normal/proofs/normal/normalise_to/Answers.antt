@@ -1,5 +1,4 @@
-use Rattle.dw_normal.proofs.Reports.{entries_written, none_written}
-use Rattle.dw_normal.proofs.FaultPlaces.{put_within, unwritten_within}
+use Rattle.dw_normal.proofs.{Reports.{entries_written, none_written}, FaultPlaces.{put_within, unwritten_within}}
 use Rattle.dw_normal.proofs.normal.normalise_to.Goals as goal
 
 pub returns-in-Ok : goal.returns-in-Ok

@@ -1,8 +1,5 @@
-use Rattle.std.proofs.Common.{Ok, Err, refl, ◌∙◌, sym, arith}
-use Rattle.dw_num.specs.Input.{Input}
+use Rattle.dw_num.proofs.Words.{Ok, Err, refl, ◌∙◌, sym, arith, Input, Read, shortest_uleb, shortest_sleb}
 use Rattle.dw_num.specs.Laws.{IsRest, StaysIn, ReadsStay, OneUleb, OneSleb, ShortestUleb, ShortestSleb}
-use Rattle.dw_num.specs.Front.{Read}
-use Rattle.dw_num.specs.Shortest.{shortest_uleb, shortest_sleb}
 use Rattle.dw_num.proofs.Lent.Shortest.{puts_uleb, puts_sleb, shortest_uleb-spells, shortest_uleb-least, shortest_sleb-spells, shortest_sleb-least}
 use Rattle.dw_num.proofs.Lent.Stays.{Stays, take_stays, fixed_stays, address_stays, unit_length_stays, uleb_stays, sleb_stays, register_stays}
 use Rattle.dw_num.proofs.laws.number_laws.Goals as goal

@@ -1,4 +1,4 @@
-use Rattle.std.proofs.Common.{arith, ◌+◌, ◌≡◌, ◌*◌, ◌^◌, ◌%◌, inl, inr}
+use Rattle.dw_num.proofs.Words.{arith, ◌+◌, ◌≡◌, ◌*◌, ◌^◌, ◌%◌, inl, inr}
 use Rattle.dw_num.proofs.LebLemmas.{far_group, ninth_group, group_shifted, ninth_shifted, total_of}
 use Rattle.dw_num.proofs.leb.add_group.Goals as goal
 use Rattle.dw_num.proofs.leb.add_group.Goals.{then-place-gt-TOP_PLACE-via-then-place-gt-TOP_PLACE, then-place-gt-TOP_PLACE-via-else-place-gt-TOP_PLACE+then-group-gt-TOP_GROUP}

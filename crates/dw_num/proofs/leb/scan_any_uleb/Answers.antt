@@ -1,4 +1,4 @@
-use Rattle.std.proofs.Common.{arith, ◌+◌, ◌*◌, ◌^◌, ◌%◌}
+use Rattle.dw_num.proofs.Words.{arith, ◌+◌, ◌*◌, ◌^◌, ◌%◌}
 use Rattle.dw_num.proofs.LebLemmas.{leb_len-more, leb_len-last, Grows, grows}
 use Rattle.dw_num.proofs.leb.scan_any_uleb.Goals as goal
 use Rattle.dw_num.proofs.leb.scan_any_uleb.Goals.{After-from}

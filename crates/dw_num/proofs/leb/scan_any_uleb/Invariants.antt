@@ -1,7 +1,4 @@
-use Rattle.std.proofs.Common.{◌≡◌, ◌<◌, ◌^◌, take, drop}
-use Rattle.dw_num.specs.Leb.{groups}
-use Rattle.dw_num.specs.Front.{leb_len}
-use Rattle.dw_num.specs.Inner.Scan.{further}
+use Rattle.dw_num.proofs.Words.{◌≡◌, ◌<◌, ◌^◌, take, drop, groups, leb_len, further}
 use Rattle.dw_num.proofs.leb.scan_any_uleb.Given as goal
 
 abbrev pub invariant-loop-i : goal.invariant-loop-i

@@ -1,4 +1,4 @@
-use Rattle.std.proofs.Common.{arith}
+use Rattle.dw_num.proofs.Words.{arith}
 use Rattle.dw_num.proofs.SignedGroups.{goes, ends}
 use Rattle.dw_num.proofs.write.push_signed_groups.Goals as goal
 

@@ -1,7 +1,5 @@
 use Rattle.dw_op.proofs.Words.{arith, length, ℕ, map, subst, Err, Ok, Some, None, ◌≡◌, err_from_is_err_and, map-append, refuses_by, bare, bare_step, block_input, place_index, walk, end_of, starts_of, op_of, Rises}
-use Rattle.dw_op.proofs.Search.{starts_rise}
-use Rattle.dw_op.proofs.Decoded.{ops_more, ops_bad, ops_all, ops_stuck, decoded_is}
-use Rattle.dw_op.proofs.Lent.Blocks.{bad_branch, decoded_fault}
+use Rattle.dw_op.proofs.{Search.starts_rise, Decoded.{ops_more, ops_bad, ops_all, ops_stuck, decoded_is}, Lent.Blocks.{bad_branch, decoded_fault}}
 use Rattle.dw_op.proofs.block.decode_ops.Goals as goal
 
 pub returns-in_err-places-clause-first : goal.returns-in_err-places-clause-first

@@ -1,10 +1,6 @@
 use Rattle.dw_op.proofs.Words.{Frame, Location, least_block}
 use Rattle.dw_op.specs.Laws.{LeastGivesBack}
-use Rattle.dw_op.proofs.Lent.Blocks.{block_so}
-use Rattle.dw_op.proofs.Lent.FaultPlaces.{fault_within}
-use Rattle.dw_op.proofs.Lent.LeastBlocks.{in_range_of_block, least_block_exists, block_of_least, least_no_longer}
-use Rattle.dw_op.proofs.Lent.LeastOne.{least_is_one}
-use Rattle.dw_op.proofs.Lent.EncodeLaws.{far_has_no_block}
+use Rattle.dw_op.proofs.Lent.{Blocks.block_so, FaultPlaces.fault_within, LeastBlocks.{in_range_of_block, least_block_exists, block_of_least, least_no_longer}, LeastOne.least_is_one, EncodeLaws.far_has_no_block}
 use Rattle.dw_op.proofs.laws.block_laws.Goals as goal
 
 gives_back : LeastGivesBack

@@ -1,6 +1,4 @@
-use Rattle.dw_section.proofs.Items.{cut_or_pieces, one_entries}
-use Rattle.dw_section.proofs.FaultPlaces.{cut_within, errors_within}
-use Rattle.dw_section.proofs.FirstFault.{only_answer}
+use Rattle.dw_section.proofs.{Items.{cut_or_pieces, one_entries}, FaultPlaces.{cut_within, errors_within}, FirstFault.only_answer}
 use Rattle.dw_section.proofs.entry.entries.Goals as goal
 
 pub returns-clause-only : goal.returns-clause-only

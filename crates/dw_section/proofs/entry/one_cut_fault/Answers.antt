@@ -1,6 +1,4 @@
-use Rattle.dw_section.proofs.Items.{cut_or_pieces}
-use Rattle.dw_section.proofs.FirstFault.{one_cut_fault}
-use Rattle.dw_section.proofs.Settled.{some_entries}
+use Rattle.dw_section.proofs.{Items.cut_or_pieces, FirstFault.one_cut_fault, Settled.some_entries}
 use Rattle.dw_section.proofs.entry.one_cut_fault.Goals as goal
 
 pub returns-clause-one : goal.returns-clause-one

@@ -1,5 +1,4 @@
-use Rattle.dw_section.proofs.FirstFault.{fault_or_headers, one_fault}
-use Rattle.dw_section.proofs.Settled.{some_headers}
+use Rattle.dw_section.proofs.{FirstFault.{fault_or_headers, one_fault}, Settled.some_headers}
 use Rattle.dw_section.proofs.header.one_first_fault.Goals as goal
 
 pub returns : goal.returns

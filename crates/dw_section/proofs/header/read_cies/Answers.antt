@@ -1,7 +1,5 @@
 use Rattle.dw_section.proofs.Words.{◌∙◌, sym, inr, arith, drop_more, length-drop, all_zipped_more, CieHolds, CieStuck, IsRead, cie_pieces}
-use Rattle.dw_section.proofs.Between.{between_start, between_next, between_end, between_stuck}
-use Rattle.dw_section.proofs.KeptCies.{piece_places, next_cie, none_of, all_hold, read_holds, first_cie}
-use Rattle.dw_section.proofs.Stages.{handed_on}
+use Rattle.dw_section.proofs.{Between.{between_start, between_next, between_end, between_stuck}, KeptCies.{piece_places, next_cie, none_of, all_hold, read_holds, first_cie}, Stages.handed_on}
 use Rattle.dw_section.proofs.header.read_cies.Goals as goal
 
 pub loop-at-init : goal.loop-at-init

@@ -1,9 +1,5 @@
 use Rattle.dw_section.proofs.Words.{inr, map-append, piece_in, Has, CieHolds, head_in, all_zipped_more}
-use Rattle.dw_section.proofs.Between.{between_now}
-use Rattle.dw_section.proofs.Walk.{walk_start, walk_next, walk_end, walk_stuck}
-use Rattle.dw_section.proofs.Lent.HeaderLaws.{has_fde}
-use Rattle.dw_section.proofs.Left.{headers_so, left_all}
-use Rattle.dw_section.proofs.Stages.{all_from_zip, handed_on}
+use Rattle.dw_section.proofs.{Between.between_now, Walk.{walk_start, walk_next, walk_end, walk_stuck}, Lent.HeaderLaws.has_fde, Left.{headers_so, left_all}, Stages.{all_from_zip, handed_on}}
 use Rattle.dw_section.proofs.header.read_headers.Goals as goal
 
 pub pieces-init : goal.pieces-init

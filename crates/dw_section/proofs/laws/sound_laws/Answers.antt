@@ -1,5 +1,4 @@
-use Rattle.dw_section.proofs.Lent.Registers.{fdes_registers}
-use Rattle.dw_section.proofs.Lent.Sounds.{sound_section}
+use Rattle.dw_section.proofs.Lent.{Registers.fdes_registers, Sounds.sound_section}
 use Rattle.dw_section.proofs.laws.sound_laws.Goals as goal
 
 pub returns : goal.returns

@@ -1,7 +1,5 @@
 use Rattle.dw_section.proofs.Words.{◌≡◌, ◌∙◌, ℕ, List, map, refl, sym, ap, subst, Form, Target, Span, span_of, Piece, FdeHead, Head, Headers, Has, cie, fde, FdeFits, place_of, piece_in, Returns, Range, cie_places, StandsIn, IsAmong}
-use Rattle.dw_section.proofs.Lent.Heads.{all_in}
-use Rattle.dw_section.proofs.StandLaws.{fde_from, own_stands}
-use Rattle.dw_section.proofs.Tables.{places_so}
+use Rattle.dw_section.proofs.{Lent.Heads.all_in, StandLaws.{fde_from, own_stands}, Tables.places_so}
 use Rattle.dw_section.proofs.listed_fde.found_fde.Goals as goal
 
 -- what is read at its place is the entry of the list

@@ -1,8 +1,5 @@
 use Rattle.dw_section.proofs.Words.{[], ◌∷◌, Some, None, inr, entry_in, piece_in}
-use Rattle.dw_section.proofs.StandLaws.{named_of, fde_never, cie_never, stands_joined}
-use Rattle.dw_section.proofs.StandFaults.{no_cie, own_stuck, named_stuck}
-use Rattle.dw_section.proofs.StandPlaces.{cie_within, fde_within}
-use Rattle.dw_section.proofs.Stages.{handed_on}
+use Rattle.dw_section.proofs.{StandLaws.{named_of, fde_never, cie_never, stands_joined}, StandFaults.{no_cie, own_stuck, named_stuck}, StandPlaces.{cie_within, fde_within}, Stages.handed_on}
 use Rattle.dw_section.proofs.standing_fde.fde_in.Goals as goal
 
 -- ---- an FDE that stands is not refused

@@ -1,8 +1,5 @@
 use Rattle.dw_section.proofs.Words.{None, inr, refl, sym, ap, subst, ◌∙◌, arith, err_from_is_err_and, FdeHead, Outcome, found_cie, found_head, RulesAt, StandsAt, some_is}
-use Rattle.dw_section.proofs.Lent.FdeLookup.{same_fde}
-use Rattle.dw_section.proofs.RowLookup.{runs_so}
-use Rattle.dw_section.proofs.StandLaws.{listed_stands, one_stands, stands_in_space, stands_listed}
-use Rattle.dw_section.proofs.StandFaults.{no_refusal}
+use Rattle.dw_section.proofs.{Lent.FdeLookup.same_fde, RowLookup.runs_so, StandLaws.{listed_stands, one_stands, stands_in_space, stands_listed}, StandFaults.no_refusal}
 use Rattle.dw_section.proofs.standing_fde.row_of.Goals as goal
 
 pub returns-in_err-fde-clause-own : goal.returns-in_err-fde-clause-own

@@ -1,6 +1,5 @@
 use Rattle.dw_section.proofs.Words.{sym, ap, [], ◌∷◌, ◌∙◌, fde, Piece}
-use Rattle.dw_section.proofs.Lent.Heads.{has_at}
-use Rattle.dw_section.proofs.StandLaws.{fde_from}
+use Rattle.dw_section.proofs.{Lent.Heads.has_at, StandLaws.fde_from}
 use Rattle.dw_section.proofs.standing_fde.standing.Goals as goal
 
 pub returns-in_err-piece-clause-only : goal.returns-in_err-piece-clause-only

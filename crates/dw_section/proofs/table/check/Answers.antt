@@ -1,6 +1,4 @@
-use Rattle.dw_section.proofs.Lent.CheckFirst.{fault_or_accepted}
-use Rattle.dw_section.proofs.FaultPlaces.{check_within, errors_within}
-use Rattle.dw_section.proofs.FirstFault.{only_answer}
+use Rattle.dw_section.proofs.{Lent.CheckFirst.fault_or_accepted, FaultPlaces.{check_within, errors_within}, FirstFault.only_answer}
 use Rattle.dw_section.proofs.table.check.Goals as goal
 
 pub returns-clause-only : goal.returns-clause-only

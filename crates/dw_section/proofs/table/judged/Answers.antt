@@ -1,10 +1,5 @@
 use Rattle.dw_section.proofs.Words.{List, inl, inr, subst, AreInitials, Head, refuses_by}
-use Rattle.dw_section.proofs.FdeWalk.{headers_exist, fields_fault}
-use Rattle.dw_section.proofs.KeptCies.{of_headers}
-use Rattle.dw_section.proofs.Left.{left_all}
-use Rattle.dw_section.proofs.Lent.HeaderLaws.{one_headers}
-use Rattle.dw_section.proofs.Lent.Heads.{heads_rise}
-use Rattle.dw_section.proofs.Tables.{nonempty_rise}
+use Rattle.dw_section.proofs.{FdeWalk.{headers_exist, fields_fault}, KeptCies.of_headers, Left.left_all, Lent.HeaderLaws.one_headers, Lent.Heads.heads_rise, Tables.nonempty_rise}
 use Rattle.dw_section.proofs.table.judged.Goals as goal
 
 pub returns-in-Err-clause-first : goal.returns-in-Err-clause-first

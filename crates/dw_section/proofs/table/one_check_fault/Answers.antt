@@ -1,5 +1,4 @@
-use Rattle.dw_section.proofs.Lent.CheckFirst.{fault_or_accepted, one_check_fault}
-use Rattle.dw_section.proofs.SettledCheck.{some_check}
+use Rattle.dw_section.proofs.{Lent.CheckFirst.{fault_or_accepted, one_check_fault}, SettledCheck.some_check}
 use Rattle.dw_section.proofs.table.one_check_fault.Goals as goal
 
 pub returns : goal.returns

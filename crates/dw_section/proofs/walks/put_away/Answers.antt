@@ -1,7 +1,6 @@
-use Rattle.dw_section.proofs.Words.{ℕ, subst, inl, inr, Some, Result, Ok, Err, OnOk, OnErr, nat_cmp, cases_Bool, Walking, AreLed, LedBy, Section}
-use Rattle.std.specs.BTreeMap.{BTreeMap, is_at, IsUnchanged, Updates}
-use Rattle.std.proofs.lemmas.Map.Lookups.{exact_unsigned}
-use Rattle.std.proofs.lemmas.Map.Views.{tells_apart}
+use Rattle.dw_section.proofs.Words.{ℕ, subst, inl, inr, Some, Result, Ok, Err, OnOk, OnErr, nat_cmp, cases_Bool, Walking, AreLed, LedBy, Section, BTreeMap}
+use Rattle.std.specs.BTreeMap.{is_at, IsUnchanged, Updates}
+use Rattle.std.proofs.lemmas.Map.{Lookups.exact_unsigned, Views.tells_apart}
 use Rattle.dw_section.proofs.walks.put_away.Goals as goal
 
 -- of a walk that is put at its CIE's place and of all others, and of all where none was put there

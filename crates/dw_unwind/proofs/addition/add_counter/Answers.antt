@@ -1,6 +1,4 @@
-use Rattle.std.proofs.Common.{◌≡◌, true, Option, ℕ, subst, sym, ◌∙◌, arith, refl}
-use Rattle.std.specs.Prelude.{is_some}
-use Rattle.dw_unwind.specs.Statement.{counter_is, counter}
+use Rattle.dw_unwind.proofs.Words.{◌≡◌, true, Option, ℕ, subst, sym, ◌∙◌, arith, refl, is_some, counter_is, counter}
 use Rattle.dw_unwind.proofs.KeepLaws.{repeats, keeps_counter}
 use Rattle.dw_unwind.proofs.addition.add_counter.Goals as goal
 

@@ -1,4 +1,4 @@
-use Rattle.std.proofs.Common.{◌≡◌, ◌+◌, ◌≤◌, length, arith, refl}
+use Rattle.dw_unwind.proofs.Words.{◌≡◌, ◌+◌, ◌≤◌, length, arith, refl}
 use Rattle.dw_unwind.proofs.KeepLaws.{keeps_memory}
 use Rattle.dw_unwind.proofs.addition.add_memory.Goals as goal
 

@@ -1,6 +1,4 @@
-use Rattle.std.proofs.Common.{◌≡◌, ◌<◌, true, false, Option, ℕ, subst, sym, ◌∙◌, arith, refl}
-use Rattle.std.specs.Prelude.{is_some}
-use Rattle.dw_unwind.specs.Statement.{register_is, register}
+use Rattle.dw_unwind.proofs.Words.{◌≡◌, ◌<◌, true, false, Option, ℕ, subst, sym, ◌∙◌, arith, refl, is_some, register_is, register}
 use Rattle.dw_unwind.proofs.KeepLaws.{repeats, keeps_register, told_own}
 use Rattle.dw_unwind.proofs.addition.add_register.Goals as goal
 

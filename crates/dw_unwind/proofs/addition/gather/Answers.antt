@@ -1,11 +1,7 @@
-use Rattle.std.proofs.Common.{ℕ, ◌+◌, ◌<◌, List, [], ◌++◌, length, take, drop, ap, refl, arith, ◌∙◌}
-use Rattle.std.proofs.lemmas.Slice.Zip.{AllZip-long}
-use Rattle.dw_unwind.specs.Dump.{SaysWithin}
-use Rattle.dw_unwind.specs.Inner.Gathered.{Takes}
-use Rattle.dw_unwind.specs.Lines.{lines_of}
+use Rattle.dw_unwind.proofs.Words.{ℕ, ◌+◌, ◌<◌, List, [], ◌++◌, length, take, drop, ap, refl, arith, ◌∙◌, AllZip-long, SaysWithin, Takes, lines_of}
 use Rattle.dw_unwind.proofs.LineLaws.{lines_first, so_far_more, some_left}
-use Rattle.dw_unwind.proofs.addition.gather.Goals.{In_ok-code}
 use Rattle.dw_unwind.proofs.addition.gather.Goals as goal
+use Rattle.dw_unwind.proofs.addition.gather.Goals.{In_ok-code}
 
 some : (c : In_ok-code) → 0 < length c.loop-rest.rest.now
 some c = some_left (length c.loop-rest.rest.now) c.is_empty.result c.is_empty.ensures c.loop-rest-test.true

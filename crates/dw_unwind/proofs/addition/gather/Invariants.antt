@@ -1,4 +1,4 @@
-use Rattle.std.proofs.Common.{length}
+use Rattle.dw_unwind.proofs.Words.{length}
 use Rattle.dw_unwind.specs.Inner.Gathered.{SoFar}
 use Rattle.dw_unwind.proofs.addition.gather.Given as goal
 

@@ -1,10 +1,6 @@
-use Rattle.std.proofs.Common.{◌≡◌, map, refl, subst, ap, inr}
-use Rattle.dw_cfa.specs.Rows.{Rules}
+use Rattle.dw_unwind.proofs.Words.{◌≡◌, map, refl, subst, ap, inr, Rules, Fde, fde_in, range_in, IsLed}
 use Rattle.dw_cfa.specs.declared.rule.CfaRule.TheVariants.{Unset}
-use Rattle.dw_section.specs.declared.lookup.Fde.{Fde}
-use Rattle.dw_section.specs.Ranges.{fde_in, range_in}
 use Rattle.dw_section.proofs.Lent.FdeLookup.{are_fdes}
-use Rattle.dw_unwind.specs.UnwoundAt.{IsLed}
 use Rattle.dw_unwind.proofs.by_index.row_at.Goals as goal
 
 pub returns-in_default-clause-own : goal.returns-in_default-clause-own

@@ -1,10 +1,4 @@
-use Rattle.std.proofs.Common.{Result, Err, refl, sym, ap, subst, ◌∙◌, arith, inl, inr}
-use Rattle.dw_cfa.specs.Rows.{Rules}
-use Rattle.dw_unwind.specs.declared.by_index.UnwindAtError.{UnwindAtError}
-use Rattle.dw_unwind.specs.declared.frame.Frame.{Frame}
-use Rattle.dw_unwind.specs.declared.frame.UnwindError.TheVariants.{NoFde, OutOfMemory}
-use Rattle.dw_unwind.specs.Unwound.{IsCovered}
-use Rattle.dw_unwind.specs.UnwoundAt.{IsLed, by_index}
+use Rattle.dw_unwind.proofs.Words.{Result, Err, refl, sym, ap, subst, ◌∙◌, arith, inl, inr, Rules, UnwindAtError, Frame, NoFde, OutOfMemory, IsCovered, IsLed, by_index}
 use Rattle.dw_unwind.proofs.by_index.unwind_at.Goals as goal
 
 pub returns-in-Ok-clause-own : goal.returns-in-Ok-clause-own

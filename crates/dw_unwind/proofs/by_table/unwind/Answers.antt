@@ -1,8 +1,4 @@
-use Rattle.std.proofs.Common.{ℕ, List, sym, subst, inl, inr}
-use Rattle.dw_num.specs.declared.target.Target.{Target}
-use Rattle.dw_cfa.specs.Rows.{Rules}
-use Rattle.dw_section.specs.Ranges.{IsTable}
-use Rattle.dw_unwind.specs.Unwound.{IsCovered}
+use Rattle.dw_unwind.proofs.Words.{ℕ, List, sym, subst, inl, inr, Target, Rules, IsTable, IsCovered}
 use Rattle.dw_unwind.proofs.by_table.unwind.Goals as goal
 
 pub returns-in-Ok-clause-answered : goal.returns-in-Ok-clause-answered

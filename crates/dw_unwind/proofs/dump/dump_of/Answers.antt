@@ -1,11 +1,7 @@
-use Rattle.std.proofs.Common.{◌^◌, length, ◌∙◌}
-use Rattle.dw_unwind.specs.Lines.{lines_of}
-use Rattle.dw_unwind.specs.Inner.Gathered.{Gathers}
-use Rattle.dw_unwind.specs.Inner.Ranges.{AreApart}
-use Rattle.dw_unwind.proofs.DumpLaws.{overlap_fault, later_fault, all_said, kept_within, kept_byte}
-use Rattle.dw_unwind.proofs.RangeLaws.{have_bytes}
-use Rattle.dw_unwind.proofs.dump.dump_of.Goals.{In_ok-fault, In_default}
+use Rattle.dw_unwind.proofs.Words.{◌^◌, length, ◌∙◌, lines_of, Gathers, AreApart}
+use Rattle.dw_unwind.proofs.{DumpLaws.{overlap_fault, later_fault, all_said, kept_within, kept_byte}, RangeLaws.have_bytes}
 use Rattle.dw_unwind.proofs.dump.dump_of.Goals as goal
+use Rattle.dw_unwind.proofs.dump.dump_of.Goals.{In_ok-fault, In_default}
 
 gathered : (c : In_ok-fault) → Gathers c.args.limit (lines_of c.args.text.now) c.gather.new.kept c.in_ok-fault.fault
 gathered c = c.in_ok-fault.ensures {u = tt}

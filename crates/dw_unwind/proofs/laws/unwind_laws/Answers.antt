@@ -1,8 +1,4 @@
-use Rattle.dw_unwind.proofs.FaultColumns.{faults_in_frame}
-use Rattle.dw_unwind.proofs.OneDump.{one_dump}
-use Rattle.dw_unwind.proofs.OneFrame.{one_frame}
-use Rattle.dw_unwind.proofs.SomeFrame.{some_frame}
-use Rattle.dw_unwind.proofs.Wanted.{wanted_is_missing}
+use Rattle.dw_unwind.proofs.{FaultColumns.faults_in_frame, OneDump.one_dump, OneFrame.one_frame, SomeFrame.some_frame, Wanted.wanted_is_missing}
 use Rattle.dw_unwind.proofs.laws.unwind_laws.Goals as goal
 
 pub returns : goal.returns

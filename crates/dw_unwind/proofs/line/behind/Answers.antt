@@ -1,5 +1,5 @@
+use Rattle.dw_unwind.proofs.Words.{Decides-eqb}
 use Rattle.std.proofs.lemmas.Slice.Eq.{strip_prefix_is}
-use Rattle.std.proofs.lemmas.Bool.Decides.{Decides-eqb}
 use Rattle.dw_unwind.proofs.line.behind.Goals as goal
 
 pub returns : goal.returns

@@ -1,5 +1,4 @@
-use Rattle.std.proofs.Common.{◌≡◌, ◌+◌, drop}
-use Rattle.dw_unwind.specs.Inner.Spelling.{len_until}
+use Rattle.dw_unwind.proofs.Words.{◌≡◌, ◌+◌, drop, len_until}
 use Rattle.dw_unwind.proofs.line.len_until.Given as goal
 
 abbrev pub invariant-loop-i : goal.invariant-loop-i

@@ -1,4 +1,4 @@
-use Rattle.dw_unwind.proofs.Words.{digits_lack_space, memory_parts}
+use Rattle.dw_unwind.proofs.LineParts.{digits_lack_space, memory_parts}
 use Rattle.dw_unwind.proofs.line.memory_head.Goals as goal
 
 pub returns-in_err-digits : goal.returns-in_err-digits

@@ -1,6 +1,5 @@
-use Rattle.std.proofs.Common.{subst, sym}
-use Rattle.dw_unwind.specs.Spelling.{HexPairs}
-use Rattle.dw_unwind.proofs.Words.{digits_lack_space, memory_parts}
+use Rattle.dw_unwind.proofs.Words.{subst, sym, HexPairs}
+use Rattle.dw_unwind.proofs.LineParts.{digits_lack_space, memory_parts}
 use Rattle.dw_unwind.proofs.line.memory_line.Goals as goal
 
 pub returns-in_default : goal.returns-in_default

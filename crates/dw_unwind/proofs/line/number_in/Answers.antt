@@ -1,4 +1,4 @@
-use Rattle.std.proofs.Common.{arith}
+use Rattle.dw_unwind.proofs.Words.{arith}
 use Rattle.dw_unwind.proofs.Numbers.{grows}
 use Rattle.dw_unwind.proofs.line.number_in.Goals as goal
 

@@ -1,5 +1,4 @@
-use Rattle.std.proofs.Common.{◌≡◌, ◌<◌, ◌^◌, drop}
-use Rattle.dw_num.specs.Digits.{number_behind}
+use Rattle.dw_unwind.proofs.Words.{◌≡◌, ◌<◌, ◌^◌, drop, number_behind}
 use Rattle.dw_unwind.proofs.line.number_in.Given as goal
 
 abbrev pub invariant-loop-c : goal.invariant-loop-c

@@ -1,4 +1,4 @@
-use Rattle.dw_unwind.proofs.Words.{none_said}
+use Rattle.dw_unwind.proofs.LineParts.{none_said}
 use Rattle.dw_unwind.proofs.line.read_line.Goals as goal
 
 pub returns-in-None : goal.returns-in-None

@@ -1,8 +1,5 @@
-use Rattle.std.proofs.Common.{◌∷◌, sym, ◌∙◌, subst}
-use Rattle.std.specs.Prelude.{codes}
-use Rattle.std.proofs.lemmas.List.{append_cancel_left}
-use Rattle.dw_unwind.specs.Spelling.{Hexadecimal}
-use Rattle.dw_unwind.proofs.Words.{digits_lack_space, register_parts}
+use Rattle.dw_unwind.proofs.Words.{◌∷◌, sym, ◌∙◌, subst, codes, append_cancel_left, Hexadecimal}
+use Rattle.dw_unwind.proofs.LineParts.{digits_lack_space, register_parts}
 use Rattle.dw_unwind.proofs.line.register_line.Goals as goal
 
 pub returns-in_err-name : goal.returns-in_err-name

@@ -1,7 +1,5 @@
-use Rattle.std.proofs.Common.{◌<◌, ◌+◌, length, arith, sym, ◌∙◌, ap, ◌++◌}
-use Rattle.std.proofs.lemmas.List.{take_rest}
-use Rattle.dw_unwind.specs.Inner.Spelling.{len_until}
-use Rattle.dw_unwind.proofs.Words.{word_within, lacks_front, until_parts}
+use Rattle.dw_unwind.proofs.Words.{◌<◌, ◌+◌, length, arith, sym, ◌∙◌, ap, ◌++◌, take_rest, len_until}
+use Rattle.dw_unwind.proofs.LineParts.{word_within, lacks_front, until_parts}
 use Rattle.dw_unwind.proofs.line.word_behind.Goals as goal
 
 pub returns-then-len-text : goal.returns-then-len-text

@@ -1,5 +1,4 @@
-use Rattle.std.proofs.Common.{◌+◌, ◌^◌, ◌≤◌, ℕ, length, arith, sym}
-use Rattle.dw_unwind.specs.Ranges.{byte_among}
+use Rattle.dw_unwind.proofs.Words.{◌+◌, ◌^◌, ◌≤◌, ℕ, length, arith, sym, byte_among}
 use Rattle.dw_eval.proofs.Lent.MemoryBytes.{bytes_missing, bytes_all}
 use Rattle.dw_unwind.proofs.RangeLaws.{byte_past, end_below}
 use Rattle.dw_unwind.proofs.memory.fill.Goals as goal

@@ -1,5 +1,4 @@
-use Rattle.std.proofs.Common.{◌≡◌, ℕ, ◌+◌, ◌<◌, get_or, Some}
-use Rattle.dw_unwind.specs.Ranges.{byte_among}
+use Rattle.dw_unwind.proofs.Words.{◌≡◌, ℕ, ◌+◌, ◌<◌, get_or, Some, byte_among}
 use Rattle.dw_unwind.proofs.memory.fill.Given as goal
 
 abbrev pub invariant-loop-i : goal.invariant-loop-i

@@ -1,4 +1,4 @@
-use Rattle.std.proofs.Common.{◌-◌, arith}
+use Rattle.dw_unwind.proofs.Words.{◌-◌, arith}
 use Rattle.dw_unwind.proofs.RangeLaws.{neighbours_at}
 use Rattle.dw_unwind.proofs.ranges.ends_rise.Goals as goal
 

@@ -1,6 +1,4 @@
-use Rattle.std.proofs.Common.{ℕ, ◌+◌, ◌<◌, ◌≤◌, get_or}
-use Rattle.dw_unwind.specs.declared.ranges.Range.{Range}
-use Rattle.dw_unwind.specs.Ranges.{end_of}
+use Rattle.dw_unwind.proofs.Words.{ℕ, ◌+◌, ◌<◌, ◌≤◌, get_or, Range, end_of}
 use Rattle.dw_unwind.proofs.ranges.ends_rise.Given as goal
 
 abbrev pub invariant-loop-i : goal.invariant-loop-i

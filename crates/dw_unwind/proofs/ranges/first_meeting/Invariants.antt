@@ -1,5 +1,4 @@
-use Rattle.std.proofs.Common.{◌-◌, ◌<◌, ◌≤◌, length, take}
-use Rattle.dw_unwind.specs.Inner.Ranges.{AreApart, Meet}
+use Rattle.dw_unwind.proofs.Words.{◌-◌, ◌<◌, ◌≤◌, length, take, AreApart, Meet}
 use Rattle.dw_unwind.proofs.ranges.first_meeting.Given as goal
 
 abbrev pub invariant-loop-meet : goal.invariant-loop-meet

@@ -1,6 +1,4 @@
-use Rattle.std.proofs.Common.{rules}
-use Rattle.std.proofs.lemmas.List.Sorted.{IsNonDecreasingBy-from_sort_by_key}
-use Rattle.dw_unwind.specs.declared.ranges.Range.{Range}
+use Rattle.dw_unwind.proofs.Words.{rules, IsNonDecreasingBy-from_sort_by_key, Range}
 use Rattle.dw_unwind.proofs.ranges.put_in_order.Goals as goal
 
 pub returns-clause-rises : goal.returns-clause-rises

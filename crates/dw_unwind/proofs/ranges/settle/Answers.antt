@@ -1,6 +1,4 @@
-use Rattle.std.proofs.Common.{◌<◌}
-use Rattle.std.proofs.lemmas.List.Sorted.{IsPermutation-refl}
-use Rattle.dw_unwind.specs.declared.ranges.Range.{Range}
+use Rattle.dw_unwind.proofs.Words.{◌<◌, IsPermutation-refl, Range}
 use Rattle.dw_unwind.proofs.RangeLaws.{all_permuted, apart_permuted, apart_rise, rise_from}
 use Rattle.dw_unwind.proofs.ranges.settle.Goals as goal
 

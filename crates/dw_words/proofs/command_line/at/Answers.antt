@@ -1,7 +1,5 @@
-use Rattle.std.proofs.Common.{rules, codes}
-use Rattle.clap.specs.Words.{AddsArg}
-use Rattle.dw_words.specs.CommandLine.{operands}
-use Rattle.dw_words.specs.Inner.CommandLine.{IsArg, IsCommand, at, over_file}
+use Rattle.dw_words.proofs.Words.{rules, codes, AddsArg, operands, IsArg, IsCommand, over_file}
+use Rattle.dw_words.specs.Inner.CommandLine.{at}
 use Rattle.dw_words.proofs.Commands.{added, ok_map}
 use Rattle.dw_words.proofs.command_line.at.Goals as goal
 

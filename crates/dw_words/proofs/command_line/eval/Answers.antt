@@ -1,7 +1,5 @@
-use Rattle.std.proofs.Common.{rules, codes, true, false}
-use Rattle.clap.specs.Words.{AddsArg, with_rule}
-use Rattle.dw_words.specs.CommandLine.{operand}
-use Rattle.dw_words.specs.Inner.CommandLine.{IsArg, IsCommand, choice, subcommand, eval}
+use Rattle.dw_words.proofs.Words.{rules, codes, true, false, AddsArg, with_rule, operand, IsArg, IsCommand, choice, subcommand}
+use Rattle.dw_words.specs.Inner.CommandLine.{eval}
 use Rattle.dw_words.proofs.Commands.{added, ok_map}
 use Rattle.dw_words.proofs.command_line.eval.Goals as goal
 

@@ -1,7 +1,5 @@
-use Rattle.std.proofs.Common.{rules, codes, true}
-use Rattle.clap.specs.Words.{AddsArg, with_rule}
-use Rattle.dw_words.specs.CommandLine.{flag, operand}
-use Rattle.dw_words.specs.Inner.CommandLine.{IsArg, IsCommand, subcommand, expr}
+use Rattle.dw_words.proofs.Words.{rules, codes, true, AddsArg, with_rule, flag, operand, IsArg, IsCommand, subcommand}
+use Rattle.dw_words.specs.Inner.CommandLine.{expr}
 use Rattle.dw_words.proofs.Commands.{added, ok_map}
 use Rattle.dw_words.proofs.command_line.expr.Goals as goal
 

@@ -1,7 +1,5 @@
-use Rattle.std.proofs.Common.{rules, codes}
-use Rattle.clap.specs.Words.{AddsArg, with_rule}
-use Rattle.dw_words.specs.CommandLine.{file}
-use Rattle.dw_words.specs.Inner.CommandLine.{IsArg, IsCommand, choice, subcommand, normal}
+use Rattle.dw_words.proofs.Words.{rules, codes, AddsArg, with_rule, file, IsArg, IsCommand, choice, subcommand}
+use Rattle.dw_words.specs.Inner.CommandLine.{normal}
 use Rattle.dw_words.proofs.Commands.{added, ok_map}
 use Rattle.dw_words.proofs.command_line.normal.Goals as goal
 

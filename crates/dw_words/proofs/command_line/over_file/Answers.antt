@@ -1,7 +1,4 @@
-use Rattle.std.proofs.Common.{rules}
-use Rattle.clap.specs.Words.{AddsArg}
-use Rattle.dw_words.specs.CommandLine.{file}
-use Rattle.dw_words.specs.Inner.CommandLine.{IsArg, IsCommand, subcommand, over_file}
+use Rattle.dw_words.proofs.Words.{rules, AddsArg, file, IsArg, IsCommand, subcommand, over_file}
 use Rattle.dw_words.proofs.Commands.{added, ok_map}
 use Rattle.dw_words.proofs.command_line.over_file.Goals as goal
 

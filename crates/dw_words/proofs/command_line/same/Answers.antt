@@ -1,7 +1,5 @@
-use Rattle.std.proofs.Common.{rules, codes, true}
-use Rattle.clap.specs.Words.{AddsArg}
-use Rattle.dw_words.specs.CommandLine.{operand}
-use Rattle.dw_words.specs.Inner.CommandLine.{IsArg, IsCommand, over_file, same}
+use Rattle.dw_words.proofs.Words.{rules, codes, true, AddsArg, operand, IsArg, IsCommand, over_file}
+use Rattle.dw_words.specs.Inner.CommandLine.{same}
 use Rattle.dw_words.proofs.Commands.{added, ok_map}
 use Rattle.dw_words.proofs.command_line.same.Goals as goal
 

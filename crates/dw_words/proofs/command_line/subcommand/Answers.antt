@@ -1,6 +1,4 @@
-use Rattle.std.proofs.Common.{rules, codes}
-use Rattle.clap.specs.Words.{AddsArg, new_app, with_rule}
-use Rattle.dw_words.specs.Inner.CommandLine.{IsArg, IsCommand, needed, subcommand}
+use Rattle.dw_words.proofs.Words.{rules, codes, AddsArg, new_app, with_rule, IsArg, IsCommand, needed, subcommand}
 use Rattle.dw_words.proofs.Commands.{added, described, ok_map}
 use Rattle.dw_words.proofs.command_line.subcommand.Goals as goal
 

@@ -1,7 +1,5 @@
-use Rattle.std.proofs.Common.{rules, codes, true}
-use Rattle.clap.specs.Words.{AddsArg, with_rule}
-use Rattle.dw_words.specs.CommandLine.{file, operand}
-use Rattle.dw_words.specs.Inner.CommandLine.{IsArg, IsCommand, choice, needed, subcommand, unwind}
+use Rattle.dw_words.proofs.Words.{rules, codes, true, AddsArg, with_rule, file, operand, IsArg, IsCommand, choice, needed, subcommand}
+use Rattle.dw_words.specs.Inner.CommandLine.{unwind}
 use Rattle.dw_words.proofs.Commands.{added, ok_map}
 use Rattle.dw_words.proofs.command_line.unwind.Goals as goal
 

@@ -1,10 +1,6 @@
-use Rattle.std.proofs.Common.{get_or, take}
+use Rattle.dw_words.proofs.Words.{get_or, take, App, with_subcommand, program, Name, subcommand_named, with_subcommands}
 use Rattle.std.proofs.lemmas.List.Sums.{fold_more}
-use Rattle.clap.specs.Words.{App, with_subcommand}
-use Rattle.dw_words.specs.CommandLine.{program}
-use Rattle.dw_words.specs.declared.request.Name.{Name}
 use Rattle.dw_words.specs.declared.request.Name.TheVariants.{At}
-use Rattle.dw_words.specs.Inner.CommandLine.{subcommand_named, with_subcommands}
 use Rattle.dw_words.proofs.Commands.{listed}
 use Rattle.dw_words.proofs.command_line.with_subcommands.Goals as goal
 

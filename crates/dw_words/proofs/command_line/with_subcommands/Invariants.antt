@@ -1,5 +1,4 @@
-use Rattle.std.proofs.Common.{take}
-use Rattle.dw_words.specs.Inner.CommandLine.{IsCommand, with_subcommands}
+use Rattle.dw_words.proofs.Words.{take, IsCommand, with_subcommands}
 use Rattle.dw_words.proofs.command_line.with_subcommands.Given as goal
 
 abbrev pub invariant-loop-name : goal.invariant-loop-name

@@ -1,7 +1,4 @@
-use Rattle.std.proofs.Common.{◌∙◌, ap, sym}
-use Rattle.clap.specs.Words.{Text}
-use Rattle.std.specs.Borrow.{Bor}
-use Rattle.dw_words.specs.Values.{address}
+use Rattle.dw_words.proofs.Words.{◌∙◌, ap, sym, Text, Bor, address}
 use Rattle.dw_words.proofs.AllRead.{read_more, read_none}
 use Rattle.dw_words.proofs.command_words.all_addresses.Goals as goal
 

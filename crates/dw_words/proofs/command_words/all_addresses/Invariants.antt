@@ -1,5 +1,4 @@
-use Rattle.std.proofs.Common.{◌≡◌, Some, map, take}
-use Rattle.dw_words.specs.Values.{address, all_read}
+use Rattle.dw_words.proofs.Words.{◌≡◌, Some, map, take, address, all_read}
 use Rattle.dw_words.proofs.command_words.all_addresses.Given as goal
 
 abbrev pub invariant-loop-text : goal.invariant-loop-text

@@ -1,11 +1,5 @@
-use Rattle.std.proofs.Common.{◌≡◌, ◌∙◌, true, ap, rules, subst, map, string_bytes}
-use Rattle.std.proofs.lemmas.Result.{err_from_is_err_and}
-use Rattle.clap.specs.declared.builder.command.Command.TheViews.{out-Command}
-use Rattle.clap.specs.Words.{HasKind, app_of, found_of, rows_of}
-use Rattle.dw_words.specs.Inner.CommandLine.{asked}
-use Rattle.dw_words.proofs.Asked.{free, same, wants}
-use Rattle.dw_words.proofs.Jobs.{job_so}
-use Rattle.dw_words.proofs.Plans.{failed, refused, taken}
+use Rattle.dw_words.proofs.Words.{◌≡◌, ◌∙◌, true, ap, rules, subst, map, string_bytes, err_from_is_err_and, out-Command, HasKind, app_of, found_of, rows_of, asked}
+use Rattle.dw_words.proofs.{Asked.{free, same, wants}, Jobs.job_so, Plans.{failed, refused, taken}}
 use Rattle.dw_words.proofs.command_words.plan.Goals as goal
 
 pub returns-in-Err : goal.returns-in-Err

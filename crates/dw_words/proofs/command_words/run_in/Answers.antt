@@ -1,6 +1,4 @@
-use Rattle.std.proofs.Common.{sym}
-use Rattle.std.proofs.lemmas.Result.{err_from_is_err_and}
-use Rattle.clap.specs.Words.{found_of, rows_of}
+use Rattle.dw_words.proofs.Words.{sym, err_from_is_err_and, found_of, rows_of}
 use Rattle.dw_words.proofs.Jobs.{run_fails}
 use Rattle.dw_words.proofs.command_words.run_in.Goals as goal
 

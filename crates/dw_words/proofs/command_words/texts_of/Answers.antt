@@ -1,6 +1,4 @@
-use Rattle.std.proofs.Common.{◌∙◌}
-use Rattle.clap.specs.Words.{found_of}
-use Rattle.clap.proofs.WalkLemmas.{raw_values-rows}
+use Rattle.dw_words.proofs.Words.{◌∙◌, found_of, raw_values-rows}
 use Rattle.dw_words.proofs.command_words.texts_of.Goals as goal
 
 pub returns : goal.returns

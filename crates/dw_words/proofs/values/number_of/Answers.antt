@@ -1,4 +1,4 @@
-use Rattle.std.proofs.Common.{◌∙◌}
+use Rattle.dw_words.proofs.Words.{◌∙◌}
 use Rattle.dw_words.proofs.Digits.{number_is}
 use Rattle.dw_words.proofs.values.number_of.Goals as goal
 

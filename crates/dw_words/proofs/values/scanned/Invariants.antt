@@ -1,5 +1,4 @@
-use Rattle.std.proofs.Common.{◌≡◌, drop}
-use Rattle.dw_words.specs.Inner.Values.{checked_behind}
+use Rattle.dw_words.proofs.Words.{◌≡◌, drop, checked_behind}
 use Rattle.dw_words.proofs.values.scanned.Given as goal
 
 abbrev pub invariant-loop-byte : goal.invariant-loop-byte

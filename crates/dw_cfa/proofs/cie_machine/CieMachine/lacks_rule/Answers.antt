@@ -1,6 +1,5 @@
 use Rattle.dw_cfa.proofs.Words.{rows_left}
-use Rattle.dw_cfa.proofs.Covered.{lacks_tells}
-use Rattle.dw_cfa.proofs.Lent.RunLaws.{left_from}
+use Rattle.dw_cfa.proofs.{Covered.lacks_tells, Lent.RunLaws.left_from}
 use Rattle.dw_cfa.proofs.cie_machine.CieMachine.lacks_rule.Goals as goal
 
 pub returns-in-Ok-clause-found : goal.returns-in-Ok-clause-found

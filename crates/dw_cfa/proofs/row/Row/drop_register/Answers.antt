@@ -1,8 +1,5 @@
-use Rattle.dw_cfa.proofs.Words.{ap, ◌∙◌, List, Rules, entries_of}
-use Rattle.dw_cfa.specs.Agreement.{without}
-use Rattle.dw_cfa.proofs.Slots.{entries_ascend}
-use Rattle.dw_cfa.proofs.Lent.RowLists.{Entry}
-use Rattle.dw_cfa.proofs.Lent.Narrowed.{put_out}
+use Rattle.dw_cfa.proofs.Words.{ap, ◌∙◌, List, Rules, entries_of, without}
+use Rattle.dw_cfa.proofs.{Slots.entries_ascend, Lent.RowLists.Entry, Lent.Narrowed.put_out}
 use Rattle.dw_cfa.proofs.row.Row.drop_register.Goals as goal
 
 pub returns : goal.returns

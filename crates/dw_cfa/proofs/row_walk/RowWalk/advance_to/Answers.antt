@@ -1,9 +1,6 @@
 use Rattle.dw_cfa.proofs.Words.{ap, sym, arith, Walking, ◌≡◌, ℕ, ◌<◌, Some, refl, subst, inl, Input, Leading, Machine, Progress, Rules, Stepping, last_at, left_above, NeverFalls, walk_of}
-use Rattle.dw_cfa.proofs.Lent.RunLaws.{left_from}
+use Rattle.dw_cfa.proofs.{Lent.RunLaws.left_from, Lent.RowsAt.none_at, RowsTo.stands_above, Walks.walk_from}
 use Rattle.dw_cfa.specs.declared.steps.Progress.TheVariants as progress
-use Rattle.dw_cfa.proofs.Lent.RowsAt.{none_at}
-use Rattle.dw_cfa.proofs.RowsTo.{stands_above}
-use Rattle.dw_cfa.proofs.Walks.{walk_from}
 use Rattle.dw_cfa.proofs.row_walk.RowWalk.advance_to.Goals as goal
 
 module _ (l : Leading) (fde : Input) (m : Machine) (a : ℕ) (past : a < m.location) where

@@ -1,6 +1,5 @@
 use Rattle.dw_cfa.proofs.Words.{ap, Walking}
-use Rattle.dw_cfa.proofs.StaySpecified.{walk_keeps}
-use Rattle.dw_cfa.proofs.Walks.{begun_unknown}
+use Rattle.dw_cfa.proofs.{StaySpecified.walk_keeps, Walks.begun_unknown}
 use Rattle.dw_cfa.proofs.row_walk.RowWalk.keeps.Goals as goal
 
 pub returns-in-Begun-clause-exact : goal.returns-in-Begun-clause-exact

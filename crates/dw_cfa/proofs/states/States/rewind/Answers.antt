@@ -1,4 +1,4 @@
-use Rattle.std.proofs.lemmas.Result.{on_ok_weaker}
+use Rattle.dw_cfa.proofs.Words.{on_ok_weaker}
 use Rattle.dw_cfa.proofs.StatesLaws.{begun_so, rewound}
 use Rattle.dw_cfa.proofs.states.States.rewind.Goals as goal
 

@@ -1,6 +1,5 @@
-use Rattle.std.proofs.Common.{take}
-use Rattle.dw_command.proofs.Digits.{is_last}
-use Rattle.dw_command.proofs.Puts.{in_room}
+use Rattle.dw_command.proofs.Words.{take}
+use Rattle.dw_command.proofs.{Digits.is_last, Puts.in_room}
 use Rattle.dw_command.proofs.listing.Listing.address.Goals as goal
 
 pub returns-in-Err-clause-put : goal.returns-in-Err-clause-put

@@ -1,7 +1,5 @@
-use Rattle.std.proofs.Common.{◌≡◌, ◌∙◌, ◌++◌, ◌+◌, ◌∷◌, ◌/◌, ◌%◌, [], ℕ, List, ap, arith, take, decimal}
+use Rattle.dw_command.proofs.Words.{◌≡◌, ◌∙◌, ◌++◌, ◌+◌, ◌∷◌, ◌/◌, ◌%◌, [], ℕ, List, ap, arith, take, decimal, append_assoc, decimal_two, decimal_pair}
 use Rattle.std.proofs.lemmas.Fmt.{decimal_digit}
-use Rattle.std.proofs.lemmas.List.{append_assoc}
-use Rattle.itoa.proofs.Decimal.{decimal_two, decimal_pair}
 use Rattle.dw_command.proofs.Puts.{in_room}
 use Rattle.dw_command.proofs.listing.Listing.decimal.Goals as goal
 

@@ -1,4 +1,4 @@
-use Rattle.std.proofs.Common.{◌∙◌, ◌++◌, ap, sym, ℕ, take, append-nil}
+use Rattle.dw_command.proofs.Words.{◌∙◌, ◌++◌, ap, sym, ℕ, take, append-nil}
 use Rattle.dw_command.proofs.listing.Listing.finish.Goals as goal
 
 pub returns-then-is_err-clause-held : goal.returns-then-is_err-clause-held

@@ -1,9 +1,5 @@
-use Rattle.std.proofs.Common.{◌≡◌, ◌∙◌, ◌++◌, ◌+◌, ◌*◌, ◌^◌, ◌/◌, ◌%◌, List, ℕ, false, ap, ap₂, arith, take}
-use Rattle.std.specs.Fmt.{digits}
-use Rattle.std.proofs.lemmas.List.{append_assoc}
-use Rattle.dw_command.specs.Inner.Hex.{last_digits}
-use Rattle.dw_command.proofs.Digits.{behind}
-use Rattle.dw_command.proofs.Puts.{in_room}
+use Rattle.dw_command.proofs.Words.{◌≡◌, ◌∙◌, ◌++◌, ◌+◌, ◌*◌, ◌^◌, ◌/◌, ◌%◌, List, ℕ, false, ap, ap₂, arith, take, digits, append_assoc, last_digits}
+use Rattle.dw_command.proofs.{Digits.behind, Puts.in_room}
 use Rattle.dw_command.proofs.listing.Listing.hex.Goals as goal
 
 pub returns-then-high-gt0-clause-put : goal.returns-then-high-gt0-clause-put

@@ -1,5 +1,4 @@
-use Rattle.std.proofs.Common.{◌≡◌, ◌∙◌, ◌++◌, ◌+◌, List, ℕ, ap, arith, length, take, rules, ◌≤◌}
-use Rattle.std.proofs.lemmas.List.{length-take-le}
+use Rattle.dw_command.proofs.Words.{◌≡◌, ◌∙◌, ◌++◌, ◌+◌, List, ℕ, ap, arith, length, take, rules, ◌≤◌, length-take-le}
 use Rattle.dw_command.proofs.Digits.{led, no_zeros, taken_back}
 use Rattle.dw_command.proofs.listing.Listing.hex_without_zeros.Goals as goal
 

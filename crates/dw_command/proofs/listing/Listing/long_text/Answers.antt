@@ -1,8 +1,4 @@
-use Rattle.std.proofs.Common.{◌∙◌, ◌-◌, ◌++◌, List, ℕ, length, take, drop, ap, arith, sym, subst}
-use Rattle.std.proofs.lemmas.List.{append_assoc, length-drop, take_rest}
-use Rattle.std.specs.Io.KnownBytes.{Appends}
-use Rattle.std.proofs.KnownBytes.{Appends-trans, Appends-kept}
-use Rattle.dw_command.specs.Inner.Output.{put_so_far}
+use Rattle.dw_command.proofs.Words.{◌∙◌, ◌-◌, ◌++◌, List, ℕ, length, take, drop, ap, arith, sym, subst, append_assoc, length-drop, take_rest, Appends, Appends-trans, Appends-kept, put_so_far}
 use Rattle.dw_command.proofs.Pieces.{piece_more, gone_more}
 use Rattle.dw_command.proofs.listing.Listing.long_text.Goals as goal
 

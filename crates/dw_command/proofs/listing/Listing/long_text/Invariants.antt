@@ -1,6 +1,4 @@
-use Rattle.std.proofs.Common.{ℕ, length, take, List, ◌-◌, ◌++◌, ◌≡◌, ◌≤◌}
-use Rattle.std.specs.Io.KnownBytes.{Appends}
-use Rattle.dw_command.specs.Inner.Output.{put_so_far}
+use Rattle.dw_command.proofs.Words.{ℕ, length, take, List, ◌-◌, ◌++◌, ◌≡◌, ◌≤◌, Appends, put_so_far}
 use Rattle.dw_command.specs.declared.listing.TheConstants.{ROOM}
 use Rattle.dw_command.proofs.listing.Listing.long_text.Given as goal
 

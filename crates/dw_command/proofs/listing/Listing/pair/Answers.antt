@@ -1,5 +1,4 @@
-use Rattle.std.proofs.Common.{◌≡◌, ◌∙◌, ◌*◌, arith, refl}
-use Rattle.itoa.proofs.Decimal.{PAIRS_at}
+use Rattle.dw_command.proofs.Words.{◌≡◌, ◌∙◌, ◌*◌, arith, refl, PAIRS_at}
 use Rattle.dw_command.proofs.listing.Listing.pair.Goals as goal
 
 pub returns-clause-put : goal.returns-clause-put

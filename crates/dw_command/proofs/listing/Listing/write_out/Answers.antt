@@ -1,5 +1,4 @@
-use Rattle.std.proofs.Common.{◌≡◌, ◌∙◌, ◌≤◌, ◌-◌, ◌++◌, ap, sym, arith, ℕ, List, length, take, rules}
-use Rattle.std.proofs.KnownBytes.{append_known-moved}
+use Rattle.dw_command.proofs.Words.{◌≡◌, ◌∙◌, ◌≤◌, ◌-◌, ◌++◌, ap, sym, arith, ℕ, List, length, take, rules, append_known-moved}
 use Rattle.dw_command.proofs.Puts.{parted, whole}
 use Rattle.dw_command.proofs.listing.Listing.write_out.Goals as goal
 

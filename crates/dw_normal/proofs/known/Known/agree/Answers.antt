@@ -1,5 +1,4 @@
-use Rattle.dw_normal.proofs.Words.{sym, ◌∙◌, subst, Rules, agreed_of}
-use Rattle.dw_cfa.specs.RegisterSets.{Registers, AgreesBeside, SameBeside}
+use Rattle.dw_normal.proofs.Words.{sym, ◌∙◌, subst, Rules, agreed_of, Registers, AgreesBeside, SameBeside}
 use Rattle.dw_normal.specs.Inner.Known.{Puts}
 use Rattle.dw_normal.proofs.KnownCies.{agreed_beside, puts_notes}
 use Rattle.dw_normal.proofs.known.Known.agree.Goals as goal

@@ -1,5 +1,4 @@
-use Rattle.dw_normal.proofs.Words.{sym, subst}
-use Rattle.dw_normal.specs.Inner.Twins.{AreBeside}
+use Rattle.dw_normal.proofs.Words.{sym, subst, AreBeside}
 use Rattle.dw_normal.proofs.twins.Twins.note.Goals as goal
 
 pub returns : goal.returns

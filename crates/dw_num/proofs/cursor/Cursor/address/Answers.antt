@@ -1,9 +1,5 @@
-use Rattle.std.proofs.Common.{subst}
-use Rattle.dw_num.specs.Input.{Input, AreBytes}
-use Rattle.dw_num.specs.Fixed.{Address}
-use Rattle.dw_num.specs.Front.{address_at}
-use Rattle.dw_num.proofs.Lent.LebLaws.{found_of, only_of}
-use Rattle.dw_num.proofs.Lent.FixedLaws.{address_found, address_only}
+use Rattle.dw_num.proofs.Words.{subst, Input, AreBytes, Address, address_at}
+use Rattle.dw_num.proofs.Lent.{LebLaws.{found_of, only_of}, FixedLaws.{address_found, address_only}}
 use Rattle.dw_num.proofs.cursor.Cursor.address.Goals as goal
 
 pub returns-clause-found : goal.returns-clause-found

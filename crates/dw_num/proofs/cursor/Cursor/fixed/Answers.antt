@@ -1,9 +1,5 @@
-use Rattle.std.proofs.Common.{subst}
-use Rattle.dw_num.specs.Input.{Input, AreBytes}
-use Rattle.dw_num.specs.Fixed.{Fixed}
-use Rattle.dw_num.specs.Front.{fixed_at}
-use Rattle.dw_num.proofs.Lent.LebLaws.{found_of, only_of}
-use Rattle.dw_num.proofs.Lent.FixedLaws.{fixed_found, fixed_only}
+use Rattle.dw_num.proofs.Words.{subst, Input, AreBytes, Fixed, fixed_at}
+use Rattle.dw_num.proofs.Lent.{LebLaws.{found_of, only_of}, FixedLaws.{fixed_found, fixed_only}}
 use Rattle.dw_num.proofs.cursor.Cursor.fixed.Goals as goal
 
 pub returns-clause-found : goal.returns-clause-found

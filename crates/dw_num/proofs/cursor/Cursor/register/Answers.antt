@@ -1,7 +1,4 @@
-use Rattle.std.proofs.Common.{subst}
-use Rattle.dw_num.specs.Input.{Input, AreBytes}
-use Rattle.dw_num.specs.Leb.{Register}
-use Rattle.dw_num.specs.Front.{register_at}
+use Rattle.dw_num.proofs.Words.{subst, Input, AreBytes, Register, register_at}
 use Rattle.dw_num.proofs.Lent.LebLaws.{register_found, register_only, found_of, only_of}
 use Rattle.dw_num.proofs.cursor.Cursor.register.Goals as goal
 

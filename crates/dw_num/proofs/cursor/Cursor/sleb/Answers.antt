@@ -1,9 +1,5 @@
-use Rattle.std.proofs.Common.{subst}
-use Rattle.dw_num.specs.Input.{Input, AreBytes}
-use Rattle.dw_num.specs.Leb.{Sleb}
-use Rattle.dw_num.specs.Front.{sleb_at}
-use Rattle.dw_num.proofs.Lent.LebLaws.{found_of, only_of}
-use Rattle.dw_num.proofs.Lent.SlebLaws.{sleb_found, sleb_only}
+use Rattle.dw_num.proofs.Words.{subst, Input, AreBytes, Sleb, sleb_at}
+use Rattle.dw_num.proofs.Lent.{LebLaws.{found_of, only_of}, SlebLaws.{sleb_found, sleb_only}}
 use Rattle.dw_num.proofs.cursor.Cursor.sleb.Goals as goal
 
 pub returns-clause-found : goal.returns-clause-found

@@ -1,7 +1,4 @@
-use Rattle.std.proofs.Common.{subst}
-use Rattle.dw_num.specs.Input.{Input, AreBytes}
-use Rattle.dw_num.specs.Leb.{Uleb}
-use Rattle.dw_num.specs.Front.{uleb_at}
+use Rattle.dw_num.proofs.Words.{subst, Input, AreBytes, Uleb, uleb_at}
 use Rattle.dw_num.proofs.Lent.LebLaws.{uleb_found, uleb_only, found_of, only_of}
 use Rattle.dw_num.proofs.cursor.Cursor.uleb.Goals as goal
 

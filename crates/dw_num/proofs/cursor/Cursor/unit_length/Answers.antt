@@ -1,9 +1,5 @@
-use Rattle.std.proofs.Common.{subst}
-use Rattle.dw_num.specs.Input.{Input, AreBytes}
-use Rattle.dw_num.specs.Fixed.{SpellsLength}
-use Rattle.dw_num.specs.Front.{unit_length_at}
-use Rattle.dw_num.proofs.Lent.FixedLaws.{unit_length_found, unit_length_only}
-use Rattle.dw_num.proofs.Lent.LebLaws.{found_of, only_of}
+use Rattle.dw_num.proofs.Words.{subst, Input, AreBytes, SpellsLength, unit_length_at}
+use Rattle.dw_num.proofs.Lent.{FixedLaws.{unit_length_found, unit_length_only}, LebLaws.{found_of, only_of}}
 use Rattle.dw_num.proofs.cursor.Cursor.unit_length.Goals as goal
 
 pub returns-clause-found : goal.returns-clause-found

@@ -1,7 +1,5 @@
 use Rattle.dw_op.proofs.Words.{refl, err_from_is_err_and, Frame}
-use Rattle.dw_op.proofs.Lent.Blocks.{fault_found}
-use Rattle.dw_op.proofs.Lent.FaultPlaces.{fault_within}
-use Rattle.dw_op.proofs.Judgement.{accepted_block, block_ops, refused_none}
+use Rattle.dw_op.proofs.{Lent.Blocks.fault_found, Lent.FaultPlaces.fault_within, Judgement.{accepted_block, block_ops, refused_none}}
 use Rattle.dw_op.proofs.expression.ExprRef.accept.Goals as goal
 
 pub returns-in_err-judge-clause-only : goal.returns-in_err-judge-clause-only

@@ -1,5 +1,4 @@
-use Rattle.dw_num.specs.Target.{address_limit}
-use Rattle.dw_unwind.specs.Lines.{lines_of}
+use Rattle.dw_unwind.proofs.Words.{address_limit, lines_of}
 use Rattle.dw_unwind.proofs.OneDump.{only_dump, refuses_within}
 use Rattle.dw_unwind.proofs.dump.Dump.parse.Goals as goal
 

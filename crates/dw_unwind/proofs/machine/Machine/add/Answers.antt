@@ -1,14 +1,5 @@
-use Rattle.std.proofs.Common.{ℕ, Ok, Err, sym, subst}
-use Rattle.std.proofs.lemmas.Result.{err_from_is_err_and}
-use Rattle.dw_cfa.specs.declared.rule.RegRule.{RegRule}
-use Rattle.dw_eval.specs.Context.{context}
-use Rattle.dw_section.specs.Fits.{RuleFits}
-use Rattle.dw_section.proofs.Lent.RowFits.{rule_fits}
-use Rattle.dw_unwind.specs.Columns.{RegisterIs, RegisterFails}
-use Rattle.dw_unwind.specs.Unwound.{RegistersFail}
-use Rattle.dw_unwind.specs.Inner.Recovery.{Adds, SoFar}
-use Rattle.dw_unwind.proofs.ColumnLaws.{over_error}
-use Rattle.dw_unwind.proofs.FrameLaws.{specified_listed, so_added, so_reached}
+use Rattle.dw_unwind.proofs.Words.{ℕ, Ok, Err, sym, subst, err_from_is_err_and, RegRule, context, RuleFits, rule_fits, RegisterIs, RegisterFails, RegistersFail, Adds, SoFar}
+use Rattle.dw_unwind.proofs.{ColumnLaws.over_error, FrameLaws.{specified_listed, so_added, so_reached}}
 use Rattle.dw_unwind.proofs.machine.Machine.add.Goals as goal
 
 pub register-requires-clause-fits : goal.register-requires-clause-fits

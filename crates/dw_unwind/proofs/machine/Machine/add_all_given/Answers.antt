@@ -1,6 +1,4 @@
-use Rattle.std.proofs.Common.{◌≡◌, ℕ, arith, subst}
-use Rattle.dw_eval.specs.Context.{context}
-use Rattle.dw_unwind.specs.Inner.Recovery.{SoFar}
+use Rattle.dw_unwind.proofs.Words.{◌≡◌, ℕ, arith, subst, context, SoFar}
 use Rattle.dw_unwind.proofs.machine.Machine.add_all_given.Goals as goal
 
 pub given-preserved : goal.given-preserved

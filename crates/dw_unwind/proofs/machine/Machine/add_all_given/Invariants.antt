@@ -1,6 +1,4 @@
-use Rattle.std.proofs.Common.{ℕ, Option, ◌≤◌}
-use Rattle.dw_eval.specs.Context.{context}
-use Rattle.dw_unwind.specs.Inner.Recovery.{SoFar}
+use Rattle.dw_unwind.proofs.Words.{ℕ, Option, ◌≤◌, context, SoFar}
 use Rattle.dw_unwind.proofs.machine.Machine.add_all_given.Given as goal
 
 abbrev pub invariant-given : goal.invariant-given

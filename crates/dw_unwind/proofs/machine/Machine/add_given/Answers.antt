@@ -1,8 +1,4 @@
-use Rattle.std.proofs.Common.{◌≡◌, suc, ◌+◌, true, Ok, sym, ap, subst, ◌∙◌, arith}
-use Rattle.dw_cfa.specs.declared.rule.RegRule.{RegRule}
-use Rattle.dw_eval.specs.Context.{context}
-use Rattle.dw_unwind.specs.Columns.{RegisterIs}
-use Rattle.dw_unwind.specs.Unwound.{is_listed}
+use Rattle.dw_unwind.proofs.Words.{◌≡◌, suc, ◌+◌, true, Ok, sym, ap, subst, ◌∙◌, arith, RegRule, context, RegisterIs, is_listed}
 use Rattle.dw_unwind.proofs.FrameLaws.{so_added}
 use Rattle.dw_unwind.proofs.machine.Machine.add_given.Goals as goal
 

@@ -1,10 +1,5 @@
-use Rattle.std.proofs.Common.{ℕ, Option, Err, subst, arith}
-use Rattle.std.proofs.lemmas.Result.{err_from_is_err_and}
-use Rattle.dw_eval.specs.Context.{context}
-use Rattle.dw_unwind.specs.Inner.Recovery.{Over, Adds, IsLeft}
-use Rattle.dw_unwind.specs.Unwound.{RegistersAre, RegistersFail}
-use Rattle.dw_unwind.proofs.ColumnLaws.{over_error}
-use Rattle.dw_unwind.proofs.FrameLaws.{left_before, left_none, so_all}
+use Rattle.dw_unwind.proofs.Words.{ℕ, Option, Err, subst, arith, err_from_is_err_and, context, Over, Adds, IsLeft, RegistersAre, RegistersFail}
+use Rattle.dw_unwind.proofs.{ColumnLaws.over_error, FrameLaws.{left_before, left_none, so_all}}
 use Rattle.dw_unwind.proofs.machine.Machine.registers.Goals as goal
 
 pub returns-in_err-add-clause-so : goal.returns-in_err-add-clause-so

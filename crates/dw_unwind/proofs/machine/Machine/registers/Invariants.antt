@@ -1,6 +1,4 @@
-use Rattle.std.proofs.Common.{◌≡◌, ◌≤◌}
-use Rattle.dw_eval.specs.Context.{context}
-use Rattle.dw_unwind.specs.Inner.Recovery.{SoFar, IsLeft}
+use Rattle.dw_unwind.proofs.Words.{◌≡◌, ◌≤◌, context, SoFar, IsLeft}
 use Rattle.dw_unwind.proofs.machine.Machine.registers.Given as goal
 
 abbrev pub invariant-registers : goal.invariant-registers

@@ -1,9 +1,4 @@
-use Rattle.std.proofs.Common.{subst}
-use Rattle.dw_op.specs.Expression.{Expression}
-use Rattle.dw_eval.specs.Context.{context}
-use Rattle.dw_eval.specs.Evaluation.{first_stack}
-use Rattle.dw_unwind.specs.Columns.{ValueIs, ValueFails}
-use Rattle.dw_unwind.specs.Inner.Recovery.{Over}
+use Rattle.dw_unwind.proofs.Words.{subst, Expression, context, first_stack, ValueIs, ValueFails, Over}
 use Rattle.dw_unwind.proofs.ColumnLaws.{Tells, value_over}
 use Rattle.dw_unwind.proofs.machine.Machine.value.Goals as goal
 

@@ -1,5 +1,4 @@
-use Rattle.std.proofs.Common.{◌^◌, length}
-use Rattle.dw_unwind.specs.Inner.Ranges.{IsSoundRange}
+use Rattle.dw_unwind.proofs.Words.{◌^◌, length, IsSoundRange}
 use Rattle.dw_unwind.proofs.RangeLaws.{have_bytes, all_permuted, byte_permuted}
 use Rattle.dw_unwind.proofs.memory.DumpMemory.new.Goals as goal
 

@@ -1,4 +1,4 @@
-use Rattle.std.proofs.Common.{refl, sym}
+use Rattle.dw_unwind.proofs.Words.{refl, sym}
 use Rattle.dw_unwind.proofs.memory.DumpMemoryMemory.read.Goals as goal
 
 pub returns-clause-found : goal.returns-clause-found
