@@ -16,18 +16,18 @@ import sys
 
 # Lines of sources, and of proofs.
 BUDGET = {
-    "dw_num": (1040, 1802),
-    "dw_op": (2495, 4643),
-    "dw_eval": (1675, 1556),
-    "dw_cfa": (5865, 6408),
-    "dw_section": (3364, 5960),
-    "dw_canon": (55, 4220),
-    "dw_normal": (2964, 3649),
-    "dw_unwind": (1748, 2731),
-    "dw_words": (984, 1310),
-    "dw_command": (2417, 2453),
+    "dw_num": (1040, 1677),
+    "dw_op": (2495, 4545),
+    "dw_eval": (1675, 1503),
+    "dw_cfa": (5784, 6090),
+    "dw_section": (3330, 5872),
+    "dw_canon": (55, 4104),
+    "dw_normal": (2964, 3480),
+    "dw_unwind": (1748, 2490),
+    "dw_words": (994, 1330),
+    "dw_command": (2417, 2217),
     "dwframe": (278, 0),
-    "dw_library": (2245, 955),
+    "dw_library": (2245, 846),
 }
 COLUMNS = ["sources", "functions", "public", "specs", "inner", "proofs", "longest"]
 FUNCTION = re.compile(r'^\s*(pub(?:\([a-z]+\))? )?(?:extern "C" )?fn ', re.M)
