@@ -24,7 +24,7 @@ BUDGET = {
     "dw_canon": (55, 4104),
     "dw_normal": (2964, 3480),
     "dw_unwind": (1748, 2490),
-    "dw_words": (994, 1330),
+    "dw_words": (994, 1299),
     "dw_command": (2417, 2217),
     "dwframe": (278, 0),
     "dw_library": (2245, 846),

@@ -1,7 +1,6 @@
 -- Words that begin with a subcommand's name are read alike by the command with that subcommand alone.
-use Rattle.dw_words.proofs.Words.{◌≡◌, ◌∙◌, true, false, List, [], ◌∷◌, Option, Some, None, is_some, option_map, refl, ap, ap₂, sym, find, fold, option_map_or, clap_on_literals, both, walk_stopped, built_fault, check_fault, defaults_fault}
-use Rattle.dw_words.proofs.Words.{entered_fault, fault_of, is_simple_and_free, level_fault, settle_fault, turn_fault, walk_fault, Kinds, or_else, App, Shape, built, entered, is_simple, label_of, names_of, rows_at, subcommand_of, Text, Walk}
-use Rattle.dw_words.proofs.Words.{answers_to, finished, nothing_held, settled, walk, walk_from, walked, dwframe, asked, asked_by, name_of, text_of, Name}
+use Rattle.dw_words.proofs.Words.{◌≡◌, ◌∙◌, true, List, [], ◌∷◌, Option, Some, None, refl, ap, ap₂, sym, find, fold, clap_on_literals, walk_stopped, built_fault, fault_of, is_simple_and_free, turn_fault, walk_fault, Kinds, or_else, App}
+use Rattle.dw_words.proofs.Words.{Shape, built, entered, is_simple, label_of, names_of, subcommand_of, Text, Walk, answers_to, nothing_held, walk, walk_from, walked, dwframe, asked, asked_by, name_of, text_of, Name}
 use Rattle.clap.proofs.FaultLemmas.{stopped_fault}
 use Rattle.dw_words.proofs.Jobs.{named}
 use Rattle.dw_words.specs.declared.request.Name.TheVariants as names
@@ -21,14 +20,6 @@ Stops a word = (walked a.top.rules (names_of a) start word ≡ stopped_at word [
 abbrev found : App → Text → Option Shape
 found a word = find (λ s. answers_to word (label_of s)) a.subs
 
--- what is wrong then: something in the subcommand, or what is left to check above it
-abbrev fault_in : Shape → Option Shape → List Text → Kinds
-fault_in top sub rest =
-    or_else (option_map_or (λ s. level_fault s [] nothing_held rest false []) sub [])
-    (or_else (settle_fault top.rules top.args_override_self nothing_held)
-    (or_else (defaults_fault (settled top.rules nothing_held).rows top.rules)
-    (check_fault top (finished top.rules nothing_held) (is_some (option_map (λ s. rows_at s rest) sub)))))
-
 module _ (a : App) (word : Text) (stops : Stops a word) (rest : List Text) where
   walk_is : walk a.top.rules (names_of a) nothing_held (word ∷ rest) ≡ stopped_at word rest
   walk_is = ap (λ (w : Walk). fold (walked a.top.rules (names_of a)) w rest) stops.0 ∙ sym (walk_stopped a.top.rules (names_of a) start word [] rest)
@@ -37,79 +28,59 @@ module _ (a : App) (word : Text) (stops : Stops a word) (rest : List Text) where
   unfolding walk_fault
   passes = ap₂ (λ (k : Kinds) (w : Walk). or_else k (walk_fault a.top (names_of a) w rest)) stops.1 stops.0 ∙ stopped_fault a.top (names_of a) start (word, []) rest
 
-  fault_is : built_fault a nothing_held (word ∷ rest) ≡ fault_in a.top (found a word) rest
-  fault_is =
-      ap₂ (λ (k : Kinds) (w : Walk).
-      or_else k (or_else (entered_fault a w.stopped)
-      (or_else (settle_fault a.top.rules a.top.args_override_self w.held)
-      (or_else (defaults_fault (settled a.top.rules w.held).rows a.top.rules)
-      (check_fault a.top (finished a.top.rules w.held) (is_some (entered a w.stopped))))))) passes walk_is
+-- two commands that stop there with the same subcommand
+module _ (a b : App) (word : Text) (h : Stops a word) (k : Stops b word) (sub : found a word ≡ found b word) (rest : List Text) where
+  fault_same : a.top ≡ b.top → built_fault a nothing_held (word ∷ rest) ≡ built_fault b nothing_held (word ∷ rest)
+  fault_same top = rw (passes a word h rest, passes b word k rest, walk_is a word h rest, walk_is b word k rest, top, sub) refl
 
-  subcommand_is : entered a (walk a.top.rules (names_of a) nothing_held (word ∷ rest)).stopped ≡ option_map (λ s. rows_at s rest) (found a word)
-  subcommand_is = ap (λ (w : Walk). entered a w.stopped) walk_is
+  subcommand_same : entered a (walk a.top.rules (names_of a) nothing_held (word ∷ rest)).stopped ≡ entered b (walk b.top.rules (names_of b) nothing_held (word ∷ rest)).stopped
+  subcommand_same = rw (walk_is a word h rest, walk_is b word k rest, sub) refl
 
 -- ---- the command with one subcommand, and the whole command
 
--- the first is a simple command, and both stop at the word with the same subcommand
+-- both stop at the word with the same subcommand, and the first is a simple command
 abbrev Alike : App → App → Text → Type 0
 Alike a b word =
-    (is_simple_and_free a ≡ true) × Stops (built a) word × Stops (built b) word × ((built a).top ≡ (built b).top) × (found (built a) word ≡ found (built b) word)
+    Stops (built a) word × Stops (built b) word × (found (built a) word ≡ found (built b) word) × ((built a).top ≡ (built b).top) × (is_simple a ≡ true) × (is_simple_and_free a ≡ true)
 
 alike : (n : Name) → Alike (asked (Some n)) dwframe (text_of n)
 unfolding clap_on_literals
-alike names.At = (refl, (refl, refl), (refl, refl), refl, refl)
-alike names.Check = (refl, (refl, refl), (refl, refl), refl, refl)
-alike names.Cost = (refl, (refl, refl), (refl, refl), refl, refl)
-alike names.Entries = (refl, (refl, refl), (refl, refl), refl, refl)
-alike names.Eval = (refl, (refl, refl), (refl, refl), refl, refl)
-alike names.Expr = (refl, (refl, refl), (refl, refl), refl, refl)
-alike names.Normal = (refl, (refl, refl), (refl, refl), refl, refl)
-alike names.Rows = (refl, (refl, refl), (refl, refl), refl, refl)
-alike names.Same = (refl, (refl, refl), (refl, refl), refl, refl)
-alike names.Unwind = (refl, (refl, refl), (refl, refl), refl, refl)
+alike names.At = ((refl, refl), (refl, refl), refl, refl, refl, refl)
+alike names.Check = ((refl, refl), (refl, refl), refl, refl, refl, refl)
+alike names.Cost = ((refl, refl), (refl, refl), refl, refl, refl, refl)
+alike names.Entries = ((refl, refl), (refl, refl), refl, refl, refl, refl)
+alike names.Eval = ((refl, refl), (refl, refl), refl, refl, refl, refl)
+alike names.Expr = ((refl, refl), (refl, refl), refl, refl, refl, refl)
+alike names.Normal = ((refl, refl), (refl, refl), refl, refl, refl, refl)
+alike names.Rows = ((refl, refl), (refl, refl), refl, refl, refl, refl)
+alike names.Same = ((refl, refl), (refl, refl), refl, refl, refl, refl)
+alike names.Unwind = ((refl, refl), (refl, refl), refl, refl, refl, refl)
 
-free_of : (o : Option Name) → is_simple_and_free (asked o) ≡ true
+-- a simple command, which wants a subcommand, reads words as the whole one does
+abbrev pub Reads : App → List Text → Type 0
+Reads a words =
+    (is_simple a ≡ true) × (is_simple_and_free a ≡ true) × (a.top.subcommand_required ≡ true) × (fault_of a words ≡ fault_of dwframe words) × (subcommand_of a words ≡ subcommand_of dwframe words)
+
+whole : (words : List Text) → Reads dwframe words
 unfolding clap_on_literals
-free_of None = refl
-free_of (Some n) = (alike n).0
+whole words = (refl, refl, refl, refl, refl)
 
-wants_of : (o : Option Name) → (asked o).top.subcommand_required ≡ true
-wants_of None = refl
-wants_of (Some n) = refl
-
--- words are read by either in the same way
-abbrev Same : App → App → List Text → Type 0
-Same a b words = (fault_of a words ≡ fault_of b words) × (subcommand_of a words ≡ subcommand_of b words)
-
-named_same : (n : Name) (program : Text) (rest : List Text) → Same (asked (Some n)) dwframe (program ∷ text_of n ∷ rest)
-named_same n program rest =
-    let word = text_of n in
+alone : (n : Name) (program : Text) (rest : List Text) → Reads (asked (Some n)) (program ∷ text_of n ∷ rest)
+alone n program rest =
     let a = built (asked (Some n)) in
     let b = built dwframe in
-    let h = alike n in (
-      fault_is a word h.1 rest ∙ ap₂ (λ top sub. fault_in top sub rest) h.3 h.4 ∙ sym (fault_is b word h.2 rest),
-      subcommand_is a word h.1 rest ∙ ap (option_map (λ s. rows_at s rest)) h.4 ∙ sym (subcommand_is b word h.2 rest),
-    )
+    let h = alike n in
+    (h.4, h.5, refl, fault_same a b (text_of n) h.0 h.1 h.2 rest h.3, subcommand_same a b (text_of n) h.0 h.1 h.2 rest)
 
-words_same : (words : List Text) → Same (asked (asked_by words)) dwframe words
-words_same [] = (refl, refl)
-words_same (program ∷ []) = (refl, refl)
-words_same (program ∷ word ∷ rest) = go (name_of word) refl
+asked_reads : (words : List Text) → Reads (asked (asked_by words)) words
+asked_reads [] = whole []
+asked_reads (program ∷ []) = whole (program ∷ [])
+asked_reads (program ∷ word ∷ rest) = go (name_of word) refl
   where
-    go : (o : Option Name) → name_of word ≡ o → Same (asked o) dwframe (program ∷ word ∷ rest)
-    go None e = (refl, refl)
-    go (Some n) e = rw (named word n e) (named_same n program rest)
+    go : (o : Option Name) → name_of word ≡ o → Reads (asked o) (program ∷ word ∷ rest)
+    go None e = whole (program ∷ word ∷ rest)
+    go (Some n) e = rw (named word n e) (alone n program rest)
 
 -- a command that is made for the words
-module _ (a : App) (words : List Text) (made : a ≡ asked (asked_by words)) where
-  pub free : is_simple_and_free a ≡ true
-  free = rw made (free_of (asked_by words))
-
-  pub simple : is_simple a ≡ true
-  simple = (both (is_simple a) _ free).0
-
-  pub wants : a.top.subcommand_required ≡ true
-  wants = rw made (wants_of (asked_by words))
-
-  pub same : Same a dwframe words
-  same = rw made (words_same words)
+pub reads : (a : App) (words : List Text) → a ≡ asked (asked_by words) → Reads a words
+reads a words made = rw made (asked_reads words)

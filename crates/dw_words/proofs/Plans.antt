@@ -3,7 +3,7 @@ use Rattle.dw_words.proofs.Words.{◌≡◌, ◌∙◌, true, false, List, [], O
 use Rattle.dw_words.proofs.Words.{subcommand_name_of, subcommand_of, subcommand_rows_of, dwframe, PlanError, Planned, is_help, asked, Fails, FromFault, IsSupplied, asked_by, run_in}
 use Rattle.clap.specs.declared.{error.Error.Error, parser.matches.ArgMatches.ArgMatches, parser.matches.ArgMatches.TheViews.{out-ArgMatches, out-SubCommand}}
 use Rattle.dw_words.specs.declared.request.Request.{Request}
-use Rattle.dw_words.proofs.{Asked.{free, same, simple}, Jobs.none_asked, Subcommands.supplied}
+use Rattle.dw_words.proofs.{Asked.reads, Jobs.none_asked, Subcommands.supplied}
 use Rattle.dw_words.specs.declared.request.PlanError.TheVariants as errors
 use Rattle.dw_words.specs.declared.request.Request.TheVariants as requests
 
@@ -20,14 +20,14 @@ module _ {X : Type 0} (f : X → Text) (g : X → List Row) where
       ap₂ P p q
 
 -- words that clap takes, by the command that was made for them
-pub taken : (a : App) (words : List Text) (m : ArgMatches) (name : Text) (rows : List Row) → a ≡ asked (asked_by words)
+pub accepted : (a : App) (words : List Text) (m : ArgMatches) (name : Text) (rows : List Row) → a ≡ asked (asked_by words)
     → (is_simple_and_free a ≡ true → fault_of a words ≡ []) → HasMatchesOf a words m
     → Some name ≡ subcommand_name_of m → Some rows ≡ option_map (λ (p : Text × List Row). p.1) (subcommand_rows_of m)
     → (fault_of dwframe words ≡ []) × (subcommand_of dwframe words ≡ Some (name, rows))
-taken a words m name rows made none matches named values =
-    let alike = same a words made in
+accepted a words m name rows made none matches named values =
+    let h = reads a words made in
     let pair : subcommand_rows_of m ≡ Some (name, rows) = pair_of (λ b. (out-SubCommand (box_value b)).name.now) (λ b. rows_of (found_of (out-SubCommand (box_value b)).matches)) (out-ArgMatches m).subcommand name rows named values in
-    (sym alike.0 ∙ none (free a words made), sym ((matches (simple a words made)).1 ∙ alike.1) ∙ pair)
+    (sym h.3 ∙ none h.1, sym ((matches h.0).1 ∙ h.4) ∙ pair)
 
 -- words that clap takes, with a value that is none
 pub failed : (words : List Text) (name : Text) (values : List Row) (e : PlanError) → fault_of dwframe words ≡ [] → subcommand_of dwframe words ≡ Some (name, values)

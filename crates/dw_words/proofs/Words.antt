@@ -2,8 +2,8 @@
 unfoldable pub use Rattle.clap.proofs.OnLiterals.{clap_on_literals}
 unfoldable pub use Rattle.clap.specs.{Faults.{flags_fault, walk_fault}, Walk.{bundle_met, walked}}
 pub use Rattle.clap.proofs.WalkLemmas.{both, first_value-rows, raw_values-rows, walk_stopped}
-pub use Rattle.clap.specs.Faults.{built_fault, bundle_fault, bundle_step_fault, check_fault, defaults_fault, entered_fault, flag_word_fault, level_fault, long_fault, option_fault, other_fault, positional_fault, react_fault, settle_fault}
-pub use Rattle.clap.specs.{Faults.{short_fault, step_fault, stray_fault, turn_fault, use_fault, word_fault}, Kinds.{Kinds, check_kinds, or_else, range_kinds}, Lexer.{long_of, short_of}}
+pub use Rattle.clap.specs.Faults.{built_fault, bundle_fault, bundle_step_fault, defaults_fault, entered_fault, flag_word_fault, level_fault, long_fault, option_fault, other_fault, positional_fault, react_fault, settle_fault, short_fault}
+pub use Rattle.clap.specs.{Faults.{step_fault, stray_fault, turn_fault, use_fault, word_fault}, Kinds.{Kinds, check_kinds, or_else, range_kinds}, Lexer.{long_of, short_of}}
 pub use Rattle.clap.specs.Simple.{Shape, argument_words, built, entered, is_simple, label_of, names_of, rows_at}
 pub use Rattle.clap.specs.Walk.{Held, Names, Outcome, Step, Waiting, Walk, action_of, after_flag, after_step, answers_to, arg_by_id, arg_by_index, arg_by_long, arg_by_short, at_row, attached_value, bundle, bundle_step, default_rows, done}
 pub use Rattle.clap.specs.Walk.{finished, flag_met, has_row, is_pending, long_met, long_or_other, more_values, most_values, nothing_held, option_met, option_word, plain_word, positional_held, reacted, reading_by, rows_after, settled}

@@ -193,8 +193,8 @@ fn with_subcommands<'a>(alloc: Global, names: &[Name]) -> Result<Command<'a>, Al
     Ok(command)
 }
 
-/// The command line for words that begin with this subcommand's name: it has no other one, since none could be met. Words
-/// that begin with no subcommand's name need them all.
+/// The command line for words that begin with this subcommand's name: no other one could be met, so it has no
+/// other one. For words that begin with no subcommand's name it has all of them.
 pub(crate) fn command_line<'a>(alloc: Global, name: Option<Name>) -> Result<Command<'a>, AllocError>
     ensures { IfOk result (λ c. IsCommand (asked name) c) }
 {
