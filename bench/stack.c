@@ -112,11 +112,12 @@ static void unwind_at(void)
     status = dwframe_unwind_at(&section, table, entries, &stop, &machine, told, ROOM, &frame, &refusal, &fault);
 }
 
-/* breg7 8; deref. */
+/* breg7 8; deref; and then lit1 many times. */
 static void evaluate(void)
 {
-    static const uint8_t block[] = {0x77, 0x08, 0x06};
-    dwframe_context context = {.steps = 100, .address_size = section.address_size, .byte_order = section.byte_order};
+    static uint8_t block[1024] = {0x77, 0x08, 0x06};
+    memset(block + 3, 0x31, sizeof block - 3);
+    dwframe_context context = {.steps = sizeof block, .address_size = section.address_size, .byte_order = section.byte_order};
     uint64_t value;
     status = dwframe_evaluate(block, sizeof block, &context, &machine, &value, &refusal, &fault);
 }
