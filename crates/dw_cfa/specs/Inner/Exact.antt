@@ -1,6 +1,5 @@
 -- What the programs of a CIE and of an FDE give, by the run that the code keeps to.
-use Rattle.std.specs.Prelude.{◌≡◌, ℕ, ◌≤◌, List, Some, None, Ok, Err, ◌↔◌}
-use Rattle.dw_num.specs.declared.refusal.Refusal.{Refusal}
+use Rattle.std.specs.Prelude.{◌≡◌, ℕ, ◌≤◌, List, None, Ok}
 use Rattle.dw_num.specs.Target.{address_limit}
 use Rattle.dw_num.specs.Input.{Input, AreBytes}
 use Rattle.dw_cfa.specs.declared.instr.Factors.{Factors}
@@ -9,7 +8,6 @@ use Rattle.dw_cfa.specs.declared.execution.LocatedRow.{LocatedRow}
 use Rattle.dw_cfa.specs.InstrSpells.{ProgramSpells}
 use Rattle.dw_cfa.specs.Kept.{CieKept, FdeKept}
 use Rattle.dw_cfa.specs.Rows.{Rules, AreSpecified, blank}
-use Rattle.dw_cfa.specs.Faults.{CieFault, FdeFault}
 use Rattle.dw_cfa.specs.Behind.{Leaves}
 use Rattle.dw_cfa.specs.RulesBehind.{RulesBehind}
 use Rattle.dw_cfa.specs.Inner.Runs.{placed, initial_row, rows_behind}
@@ -23,10 +21,6 @@ abbrev pub LeavesInitial : Type 0
 LeavesInitial = (f : Factors) (cie : Input) (instrs : List Instr) → AreBytes cie.bytes → ProgramSpells cie.target f instrs cie.bytes → CieKept instrs
     → (row : Rules) × (initial_row (placed f cie) blank ≡ Ok row) × Leaves f cie instrs row
 
--- its refusal is the first fault
-abbrev pub InitialRefused : Type 0
-InitialRefused = (f : Factors) (cie : Input) (r : Refusal) → AreBytes cie.bytes → (initial_row (placed f cie) blank ≡ Err r) ↔ CieFault f cie r
-
 -- an FDE's program that gives rows is one that keeps its rules
 abbrev pub BehindGives : Type 0
 BehindGives = (f : Factors) (initial : Rules) (fde : Input) (begin : ℕ) (rows : List LocatedRow) → AreBytes fde.bytes → AreSpecified 0 initial.registers → begin ≤ address_limit fde.target.size
@@ -37,8 +31,3 @@ abbrev pub GivesRows : Type 0
 GivesRows = (f : Factors) (initial : Rules) (fde : Input) (begin : ℕ) (instrs : List Instr) → AreBytes fde.bytes → AreSpecified 0 initial.registers → begin ≤ address_limit fde.target.size
     → ProgramSpells fde.target f instrs fde.bytes → FdeKept (address_limit fde.target.size) begin initial.cfa instrs
     → (rows : List LocatedRow) × (rows_behind f initial fde begin ≡ record { rows = rows; fault = None }) × RulesBehind f initial fde begin instrs rows
-
--- its refusal is the first fault
-abbrev pub BehindRefused : Type 0
-BehindRefused = (f : Factors) (initial : Rules) (fde : Input) (begin : ℕ) (r : Refusal) → AreBytes fde.bytes → AreSpecified 0 initial.registers → begin ≤ address_limit fde.target.size
-    → ((rows_behind f initial fde begin).fault ≡ Some r) ↔ FdeFault f initial.cfa fde begin r
