@@ -376,8 +376,8 @@ fn row_of<'a>(
 /// The FDE that covers an address by an index of a section's nonempty FDEs, ascending by begin, whose rules there `room` lends
 /// then; or none where the index has no entry that covers it. The entry is found by halving; the FDE at its place, and the CIE
 /// that this names, are read and judged anew, up to the row. So bytes and index need not belong together: where they do not,
-/// the answer is that of the FDE that stands at the place, or an error. Takes memory for registers above 127, expressions,
-/// offsets beyond 16 bits and remembered rows alone.
+/// the answer is that of the FDE that stands at the place, or an error. Takes memory only for registers above 127,
+/// expressions, offsets beyond 16 bits, and more than 32 changes behind rows that are remembered one above the other.
 ///
 /// `BadIndex` says that no FDE that covers the address stands at the place. `Refused` has `SectionTooLarge` (26) at 0 where there
 /// are more than 2,147,483,647 bytes, else the first fault in this order: of the entry at the place, and of what begins where its
