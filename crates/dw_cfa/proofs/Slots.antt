@@ -2,12 +2,11 @@
 use Rattle.dw_cfa.proofs.Words.{if◌then◌else◌, nat_lt, ◌≡◌, ◌⊎◌, Bool, true, false, inl, inr, cases_eq, cases_lt, ℕ, zero, suc, ◌+◌, ◌<◌, ◌≤◌, cond, Some, None, List, [], ◌∷◌, length, get_or, refl, sym, ap, ◌∙◌, subst, arith}
 use Rattle.dw_cfa.proofs.Words.{get_or-set_same, get_or-set_other, nat_tests, IsTrue, nat_eq, ℤ, ◌-◌, ◌*◌, ◌/◌, ◌%◌, ◌^◌, bit_or, bit_and, bit_at, bit_not, trailing_zeros, w64, w128, Option, not, div-le_self, bit_at-zero, bit_at_above}
 use Rattle.dw_cfa.proofs.Words.{bit_at-trailing_zeros, bit_at_set_same, bit_at_set_other, bit_at_clear_other, bit_at_clear_same, bit_at_or, Entries, RegRule, Slot, Unspecified, is_specified, AreSpecified, rule_in, listed, put, EntriesSo}
-use Rattle.dw_cfa.proofs.Words.{entries_of, kind_rule, slot_rule, listed_from, listed_near, near_rule, no_slot, rule_if, FirstBit, FirstIn, Holds, HoldsRule, IsSlotOf, set, pow-add, pow_pos, shr-shr, bit_at-lt, bit_at_and, bit_at_cat_low}
+use Rattle.dw_cfa.proofs.Words.{entries_of, slot_rule, listed_from, listed_near, near_rule, no_slot, rule_if, FirstBit, FirstIn, Holds, IsSlotOf, set, pow-add, pow_pos, shr-shr, bit_at-lt, bit_at_and, bit_at_cat_low}
 use Rattle.dw_cfa.proofs.Words.{and_pow}
-use Rattle.dw_cfa.specs.declared.slot.Kind.{Kind}
 use Rattle.std.proofs.lemmas.Nat.{one_shl}
 use Rattle.dw_cfa.proofs.Lent.{RowLists.{Entry, lower, listed_is, listed_keeps, listed_rule, other_rule, put_keeps, put_rule, same_rule_set, unlisted}, SameRows.same_entries}
-use Rattle.dw_cfa.specs.declared.slot.Kind.TheVariants as kinds
+use Rattle.dw_cfa.specs.declared.slot.Slot.TheVariants as slots
 
 -- ---- registers from one on, and those behind them
 
@@ -168,13 +167,13 @@ module _ (used : ℕ) (near : List Slot) (expressions expressions' : List Entry)
 
 -- ---- as the code sets them
 
-held_rule : (k : Kind) (r : ℕ) (n : ℤ) (rule : RegRule) → (k ≡ kinds.Expression → ⊥) → HoldsRule k r n rule → (block : RegRule) → kind_rule k r n block ≡ rule
-held_rule kinds.Expression r n rule not is block = absurd (not refl)
-held_rule k r n rule not is block = is block
+held_rule : (s : Slot) (rule : RegRule) → (s ≡ slots.Beside → ⊥) → IsSlotOf rule s → (block : RegRule) → slot_rule s block ≡ rule
+held_rule slots.Beside rule not is block = absurd (not refl)
+held_rule s rule not is block = is block
 
-plain_given : (k : Kind) (r : ℕ) (n : ℤ) (block : RegRule) → (k ≡ kinds.Expression → ⊥) → IsTrue (is_specified (kind_rule k r n block))
-plain_given kinds.Expression r n block not = absurd (not refl)
-plain_given k r n block not = refl
+plain_given : (s : Slot) (block : RegRule) → (s ≡ slots.Beside → ⊥) → IsTrue (is_specified (slot_rule s block))
+plain_given slots.Beside block not = absurd (not refl)
+plain_given s block not = refl
 
 module _ (e : Entries) (so : EntriesSo e) (r : ℕ) (s : Slot) (new : List Slot) (lt : r < 128) (b : ℕ) (bit : b ≡ 1 * 2 ^ r % 2 ^ 128) (stored : new ≡ set e.slots r s) where
   room : r < length e.slots
@@ -183,21 +182,21 @@ module _ (e : Entries) (so : EntriesSo e) (r : ℕ) (s : Slot) (new : List Slot)
   abbrev with_bit : ℕ
   with_bit = bit_or e.used b
 
-  pub plain_put : (s.kind ≡ kinds.Expression → ⊥) → (rule : RegRule) → IsSlotOf rule s → listed_near 0 (bit_or e.used b) new e.expressions.entries e.far.entries ≡ put r rule (entries_of e)
+  pub plain_put : (s ≡ slots.Beside → ⊥) → (rule : RegRule) → IsSlotOf rule s → listed_near 0 (bit_or e.used b) new e.expressions.entries e.far.entries ≡ put r rule (entries_of e)
   plain_put not rule is =
       let x = e.expressions.entries in
       ap (λ (l : List Slot). listed_near 0 with_bit l x e.far.entries) stored
       ∙ rules_put (near_rule e.used e.slots x) (near_rule with_bit (set e.slots r s) x) e.far.entries so.far r rule lt
-      (put_rule_is e.used e.slots x x r r s lt b bit refl room (λ q ne. refl) ∙ held_rule s.kind s.register s.offset rule not is (rule_in x r))
+      (put_rule_is e.used e.slots x x r r s lt b bit refl room (λ q ne. refl) ∙ held_rule s rule not is (rule_in x r))
       (λ q low. other_rule_is e.used e.slots x x r r s lt b bit refl room (λ n ne. refl) q)
 
-  pub plain_holds : (s.kind ≡ kinds.Expression → ⊥) → Holds (bit_or e.used b) new e.expressions.entries
+  pub plain_holds : (s ≡ slots.Beside → ⊥) → Holds (bit_or e.used b) new e.expressions.entries
   plain_holds not =
       let x = e.expressions.entries in
       subst (λ (l : List Slot). Holds with_bit l x) (sym stored)
-      (put_holds e.used e.slots x x r r s lt b bit refl room (λ q ne. refl) so.used (plain_given s.kind s.register s.offset (rule_in x r) not))
+      (put_holds e.used e.slots x x r r s lt b bit refl room (λ q ne. refl) so.used (plain_given s (rule_in x r) not))
 
-  module _ (rule : RegRule) (expressions' : List Entry) (is : s.kind ≡ kinds.Expression) (put_in : expressions' ≡ put r rule e.expressions.entries) where
+  module _ (rule : RegRule) (expressions' : List Entry) (is : s ≡ slots.Beside) (put_in : expressions' ≡ put r rule e.expressions.entries) where
     others : (q : ℕ) → (q ≡ r → ⊥) → rule_in expressions' q ≡ rule_in e.expressions.entries q
     others q ne = rw put_in (other_rule r q rule e.expressions.entries so.expressions ne)
 

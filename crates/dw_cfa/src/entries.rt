@@ -2,7 +2,7 @@
 
 ghost use Rattle.std.specs.Prelude.{◌≡◌, ◌<◌, ℤ, [], IfOk, IfSome, OnOk, OnErr, MatchOption, IsTrue, ◌↔◌};
 ghost use Rattle.dw_cfa.specs.declared.rule.RegRule.TheVariants.{Offset, Unspecified};
-ghost use Rattle.dw_cfa.specs.declared.slot.Kind.TheVariants.{Expression};
+ghost use Rattle.dw_cfa.specs.declared.slot.Slot.TheVariants.{Beside};
 ghost use Rattle.dw_cfa.specs.Rows.{rule_in, is_specified};
 ghost use Rattle.dw_cfa.specs.Inner.Rows.{put};
 ghost use Rattle.dw_cfa.specs.Inner.Agreement.{same_rule};
@@ -15,7 +15,7 @@ use crate::behind::{place_behind, start_behind};
 use crate::near_slots::{bit_of, copy_slots, is_in, next_in, same_slots};
 use crate::row::Specified;
 use crate::rule::RegRule;
-use crate::slot::{BESIDE, Kind, Slot, UNWRITTEN, offset_in, plain_slot, rule_of};
+use crate::slot::{Slot, offset_in, plain_slot, rule_of};
 use crate::tree::{first_difference, rule_in_tree, set_in_tree, tree_of};
 use std::alloc::{AllocError, Global};
 use std::collections::BTreeMap;
@@ -41,7 +41,7 @@ impl<'a> Entries<'a> {
         ensures so { EntriesSo result }
     {
         Entries {
-            slots: [UNWRITTEN; 128],
+            slots: [Slot::Undefined; 128],
             used: 0,
             expressions: BTreeMap::new(alloc),
             far: BTreeMap::new(alloc),
@@ -289,7 +289,7 @@ impl<'a> Entries<'a> {
     fn put_plain(&mut self, register: u16, slot: Slot)
         requires so { EntriesSo self.old }
         requires near { register < 128 }
-        requires kind { slot.kind ≡ Expression → ⊥ }
+        requires kind { slot ≡ Beside → ⊥ }
         ensures entries { (rule : TheRule) → IsSlotOf rule slot → entries_of self.new ≡ put register rule (entries_of self.old) }
         ensures so { EntriesSo self.new }
     {
@@ -308,7 +308,7 @@ impl<'a> Entries<'a> {
         ensures err { OnErr result (entries_of self.new ≡ entries_of self.old) }
     {
         set_in_tree(&mut self.expressions, register, rule)?;
-        self.slots[usize::from(register)] = BESIDE;
+        self.slots[usize::from(register)] = Slot::Beside;
         self.used |= bit_of(register);
         Ok(())
     }
@@ -351,7 +351,7 @@ impl<'a> Entries<'a> {
             self.drop_near(register);
             return Ok(());
         };
-        if let Kind::Expression = slot.kind {
+        if let Slot::Beside = slot {
             return self.put_beside(register, others.rule(register));
         }
         self.put_plain(register, slot);

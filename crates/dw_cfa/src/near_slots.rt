@@ -6,7 +6,7 @@ ghost use Rattle.dw_cfa.specs.Rows.{rule_in};
 ghost use Rattle.dw_cfa.specs.Inner.Entries.{FindsNear, FirstBit, FirstIn, Holds, SameSlots, slot_rule};
 
 use crate::rule::RegRule;
-use crate::slot::{Kind, Slot, rule_of};
+use crate::slot::{Slot, rule_of};
 use std::collections::BTreeMap;
 
 // What stands before the upper half of a mask.
@@ -138,15 +138,13 @@ pub(crate) fn same_slots(
 ) -> bool
     ensures { IsTrue result ↔ (slot_rule slot (rule_in expressions.now.entries register) ≡ slot_rule other (rule_in others.now.entries register)) }
 {
-    match (slot.kind, other.kind) {
-        (Kind::Expression, _) | (_, Kind::Expression) => {
-            same_rules(slot, other, expressions, others, register)
-        }
-        (Kind::Undefined, Kind::Undefined) => true,
-        (Kind::SameValue, Kind::SameValue) => true,
-        (Kind::Offset, Kind::Offset) => slot.offset == other.offset,
-        (Kind::ValOffset, Kind::ValOffset) => slot.offset == other.offset,
-        (Kind::Register, Kind::Register) => slot.register == other.register,
+    match (slot, other) {
+        (Slot::Beside, _) | (_, Slot::Beside) => same_rules(slot, other, expressions, others, register),
+        (Slot::Undefined, Slot::Undefined) => true,
+        (Slot::SameValue, Slot::SameValue) => true,
+        (Slot::Offset(offset), Slot::Offset(n)) => offset == n,
+        (Slot::ValOffset(offset), Slot::ValOffset(n)) => offset == n,
+        (Slot::Register(register), Slot::Register(r)) => register == r,
         _ => false,
     }
 }

@@ -1,11 +1,10 @@
 -- Where the registers of a row lie: those below 128 in slots under a mask, with their expressions in a tree, and the others in another tree.
-use Rattle.std.specs.Prelude.{◌≡◌, ℕ, zero, suc, ◌<◌, ◌≤◌, ◌-◌, List, ◌∷◌, length, Bool, Option, Some, None, ℤ, pos, IsTrue, nat_eq, nat_lt, if◌then◌else◌}
+use Rattle.std.specs.Prelude.{◌≡◌, ℕ, zero, suc, ◌<◌, ◌≤◌, ◌-◌, List, ◌∷◌, length, Bool, Option, Some, None, IsTrue, nat_eq, nat_lt, if◌then◌else◌}
 use Rattle.dw_cfa.specs.declared.rule.RegRule.{RegRule}
 use Rattle.dw_cfa.specs.declared.rule.RegRule.TheVariants as rules
 use Rattle.dw_cfa.specs.declared.entries.Entries.{Entries}
 use Rattle.dw_cfa.specs.declared.slot.Slot.{Slot}
-use Rattle.dw_cfa.specs.declared.slot.Kind.{Kind}
-use Rattle.dw_cfa.specs.declared.slot.Kind.TheVariants as kinds
+use Rattle.dw_cfa.specs.declared.slot.Slot.TheVariants as slots
 use Rattle.std.specs.Int.{bit_at}
 use Rattle.std.specs.Ordering.{nat_cmp}
 use Rattle.std.specs.BTreeMap.Range.{entries_between}
@@ -15,29 +14,23 @@ use Rattle.dw_cfa.specs.Rows.{AreSpecified, is_specified, rule_in}
 use Rattle.dw_cfa.specs.Inner.Difference.{start_behind}
 use Rattle.dw_cfa.specs.Inner.Rows.{listed}
 
-abbrev pub kind_rule : Kind → ℕ → ℤ → RegRule → RegRule
-kind_rule kinds.Undefined r n block = rules.Undefined
-kind_rule kinds.SameValue r n block = rules.SameValue
-kind_rule kinds.Offset r n block = rules.Offset n
-kind_rule kinds.ValOffset r n block = rules.ValOffset n
-kind_rule kinds.Register r n block = rules.Register r
-kind_rule kinds.Expression r n block = block
-
--- the rule that a slot holds, where this is the expression beside it
+-- the rule that a slot holds, where this is the one beside it
 abbrev pub slot_rule : Slot → RegRule → RegRule
-slot_rule s block = kind_rule s.kind s.register s.offset block
+slot_rule slots.Undefined block = rules.Undefined
+slot_rule slots.SameValue block = rules.SameValue
+slot_rule (slots.Offset n) block = rules.Offset n
+slot_rule (slots.ValOffset n) block = rules.ValOffset n
+slot_rule (slots.Register r) block = rules.Register r
+slot_rule slots.Beside block = block
 
--- an expression is kept beside the slot
-abbrev pub HoldsRule : Kind → ℕ → ℤ → RegRule → Type 0
-HoldsRule kinds.Expression r n rule = Unit {0}
-HoldsRule k r n rule = (block : RegRule) → kind_rule k r n block ≡ rule
-
+-- a slot that holds a rule, or says that it is kept beside the slots
 abbrev pub IsSlotOf : RegRule → Slot → Type 0
-IsSlotOf rule s = HoldsRule s.kind s.register s.offset rule
+IsSlotOf rule slots.Beside = Unit {0}
+IsSlotOf rule s = (block : RegRule) → slot_rule s block ≡ rule
 
 -- what an index outside would find
 abbrev pub no_slot : Slot
-no_slot = record { kind = kinds.Undefined; register = 0; offset = pos 0 }
+no_slot = slots.Undefined
 
 -- a register has the rule of its slot where the mask has it
 abbrev pub rule_if : ℕ → Slot → RegRule → RegRule

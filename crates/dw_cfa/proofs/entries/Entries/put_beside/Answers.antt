@@ -1,23 +1,20 @@
-use Rattle.dw_cfa.proofs.Words.{ℕ, ap, arith, length-set, pos, refl, set, Slot, ◌∙◌}
-use Rattle.dw_cfa.specs.declared.slot.Kind.TheVariants.{Expression}
+use Rattle.dw_cfa.proofs.Words.{ℕ, ap, arith, length-set, refl, set, ◌∙◌}
+use Rattle.dw_cfa.specs.declared.slot.Slot.TheVariants.{Beside}
 use Rattle.dw_cfa.proofs.Slots.{expression_holds, expression_put, put_so}
 use Rattle.dw_cfa.proofs.entries.Entries.put_beside.Goals as goal
-
-abbrev beside : Slot
-beside = record { kind = Expression; register = 0; offset = pos 0 }
 
 pub returns-clause-ok : goal.returns-clause-ok
 returns-clause-ok c =
     let e = c.args.self.now in
-    expression_put e c.requires.so c.args.register beside _ c.requires.near c.bit_of.result c.bit_of.ensures (ap (λ (n : ℕ). set e.slots n beside) c.from.ensures) c.args.rule c.set_in_tree.new.entries.entries refl
+    expression_put e c.requires.so c.args.register Beside _ c.requires.near c.bit_of.result c.bit_of.ensures (ap (λ (n : ℕ). set e.slots n Beside) c.from.ensures) c.args.rule c.set_in_tree.new.entries.entries refl
     c.in_ok-set_in_tree.ensures.ok
 
 pub returns-clause-so : goal.returns-clause-so
 returns-clause-so c =
     let e = c.args.self.now in let so = c.requires.so in record {
-      used = expression_holds e so c.args.register beside _ c.requires.near c.bit_of.result c.bit_of.ensures (ap (λ (n : ℕ). set e.slots n beside) c.from.ensures) c.args.rule c.set_in_tree.new.entries.entries refl
+      used = expression_holds e so c.args.register Beside _ c.requires.near c.bit_of.result c.bit_of.ensures (ap (λ (n : ℕ). set e.slots n Beside) c.from.ensures) c.args.rule c.set_in_tree.new.entries.entries refl
           c.in_ok-set_in_tree.ensures.ok c.requires.specified;
-      slots = length-set e.slots c.from.result beside ∙ so.slots;
+      slots = length-set e.slots c.from.result Beside ∙ so.slots;
       expressions = put_so c.args.register 0 c.args.rule e.expressions.entries c.set_in_tree.new.entries.entries c.in_ok-set_in_tree.ensures.ok so.expressions (omega arith);
       far = so.far;
     }
