@@ -11,9 +11,9 @@ ghost use Rattle.dw_cfa.specs.Inner.Difference.{FirstBelow, SameUnset};
 ghost use Rattle.dw_cfa.specs.Inner.LookUp.{SpecifiesIn};
 
 use crate::entries::{Entries, NEAR};
-use crate::near_slots::next_near;
+use crate::near_slots::{next_near, next_slot};
 use crate::rule::{CfaRule, RegRule};
-use crate::slot::Slot;
+use crate::slot::{Slot, offset_in};
 use crate::tree::next_in_tree;
 use std::alloc::{AllocError, Global};
 use std::collections::BTreeMap;
@@ -99,6 +99,24 @@ impl<'r, 'a> Specified<'r, 'a> {
         };
         self.last = Some(register);
         Some((register, rule))
+    }
+}
+
+impl<'r, 'a> Specified<'r, 'a> {
+    /// The next register with its offset, where its rule is `Offset`. It stays where that is another one, or none is left. A rule
+    /// takes 32 bytes, which are cleared and moved for each register else.
+    #[inline(always)]
+    pub fn next_offset(&mut self) -> Option<(u16, i64)>
+        ensures { MatchOption result (self.new ≡ self.old) (λ found. self.old ≡ (found.0, Offset found.1) ∷ self.new) }
+    {
+        let Some((register, slot)) = next_slot(self.at, self.slots, self.used) else {
+            return None;
+        };
+        let Some(offset) = offset_in(slot) else {
+            return None;
+        };
+        self.at = register + 1;
+        Some((register, offset))
     }
 }
 

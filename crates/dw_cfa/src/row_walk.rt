@@ -90,23 +90,23 @@ fn ready<'a>(leading: Leading<'a>, machine: &mut Machine<'a>, kept: bool) -> Res
 // cleared at each row else.
 #[inline(never)]
 fn first_row<'a>(
-    leading: Leading<'a>,
+    leading: &Leading<'a>,
     fde: &mut Cursor<'a>,
     machine: &mut Machine<'a>,
     kept: &mut bool,
 ) -> Result<(u128, bool), ReadError>
-    requires known { (led_rows leading fde.old machine.old.location).fault ≡ None }
+    requires known { (led_rows leading.now fde.old machine.old.location).fault ≡ None }
     requires so { RunsSo machine.old fde.old }
-    requires kept { IsTrue kept.old → HasInitial leading machine.old }
-    ensures row { GivesRow (led_rows leading.entry fde.old machine.old.location) leading.entry.factors fde.new machine.new result }
-    ensures kept { IsTrue kept.new → HasInitial leading.entry machine.new }
-    ensures keeps { WalkKeeps (progress_after result) leading.entry fde.new machine.new }
-    ensures left { AreLeft leading.entry (initial_of (progress_after result) machine.new.initial) }
+    requires kept { IsTrue kept.old → HasInitial leading.now machine.old }
+    ensures row { GivesRow (led_rows leading.now fde.old machine.old.location) leading.now.factors fde.new machine.new result }
+    ensures kept { IsTrue kept.new → HasInitial leading.now machine.new }
+    ensures keeps { WalkKeeps (progress_after result) leading.now fde.new machine.new }
+    ensures left { AreLeft leading.now (initial_of (progress_after result) machine.new.initial) }
     ensures kept_row { machine.new.states.kept ≡ machine.old.states.kept }
 {
     are_bytes(leading.program.bytes);
     are_bytes(fde.rest());
-    ready(leading, machine, *kept)?;
+    ready(*leading, machine, *kept)?;
     *kept = true;
     next_row(fde, leading.factors, machine, true)
 }
@@ -334,7 +334,7 @@ impl<'a> RowWalk<'a> {
     {
         let (fde, machine) = (&mut self.fde, &mut self.machine);
         let answer = match self.progress {
-            Progress::Begun => first_row(self.leading, fde, machine, &mut self.kept),
+            Progress::Begun => first_row(&self.leading, fde, machine, &mut self.kept),
             Progress::Running => {
                 let factors = self.leading.factors;
                 return match go_on_row(&mut self.progress, fde, factors, machine) {

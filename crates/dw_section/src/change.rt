@@ -277,6 +277,11 @@ impl<'a> Changes<'a> {
         if self.failed {
             return Err(AllocError);
         }
+        if self.lent && self.steps.next_start().is_none() {
+            // The row that is lent stays, and none is before it.
+            self.kept = false;
+            return Ok(None);
+        }
         let change = next_change(&mut self.steps, &mut self.kept, self.lent, self.end);
         self.lent = matches!(change, Ok(Some(_)));
         self.failed = change.is_err();

@@ -3,15 +3,15 @@ use Rattle.dw_cfa.proofs.{StaySpecified.{led_keeps, row_behind}, Walks.{led_init
 use Rattle.dw_cfa.proofs.row_walk.first_row.Goals as goal
 
 pub ready-requires-clause-runs : goal.ready-requires-clause-runs
-ready-requires-clause-runs c = led_initial c.args.leading c.args.fde.now c.args.machine.now.location c.requires.known
+ready-requires-clause-runs c = led_initial c.args.leading.now c.args.fde.now c.args.machine.now.location c.requires.known
 
 pub next_row-requires-clause-known : goal.next_row-requires-clause-known
 next_row-requires-clause-known c k =
-    ap (λ (o : Outcome). o.fault) (led_ran c.args.leading c.args.fde.now c.args.machine.now c.ready.new.machine c.requires.so c.in_ok-ready.ensures.ok) ∙ c.requires.known
+    ap (λ (o : Outcome). o.fault) (led_ran c.args.leading.now c.args.fde.now c.args.machine.now c.ready.new.machine c.requires.so c.in_ok-ready.ensures.ok) ∙ c.requires.known
 
 pub returns : goal.returns
 returns c =
-    let l = c.args.leading in let fde = c.args.fde.now in let old = c.args.machine.now in let at = c.ready.new.machine in let new = c.next_row.new in
+    let l = c.args.leading.now in let fde = c.args.fde.now in let old = c.args.machine.now in let at = c.ready.new.machine in let new = c.next_row.new in
     let so = c.in_ok-ready.ensures.ok in
     let all = led_keeps l fde old at c.are_bytes.ensures (subst AreBytes c.rest.ensures c.are_bytes-2.ensures) c.requires.so so in
     record {
