@@ -263,11 +263,11 @@ lowest_bit n k fits some =
     (omega arith, bit_inside n k j fits z.1, sym (shifted n k j) ∙ z.1, λ q low high. let at : q ≡ k + (q - k) = omega arith in ap (bit_at n) at ∙ sym (shifted n k (q - k)) ∙ z.2 (q - k) (omega arith))
 
 -- a mask and its halves
-low_half : (n q : ℕ) → q < 64 → bit_at (n % 2 ^ 64) q ≡ bit_at n q
+pub low_half : (n q : ℕ) → q < 64 → bit_at (n % 2 ^ 64) q ≡ bit_at n q
 low_half n q lt =
     let whole : n ≡ n / 2 ^ 64 * 2 ^ 64 + n % 2 ^ 64 = omega arith in sym (ap (λ (m : ℕ). bit_at m q) whole ∙ bit_at_cat_low (n / 2 ^ 64) 64 (n % 2 ^ 64) q lt)
 
-high_half : (n q : ℕ) → bit_at (n / 2 ^ 64) q ≡ bit_at n (64 + q)
+pub high_half : (n q : ℕ) → bit_at (n / 2 ^ 64) q ≡ bit_at n (64 + q)
 high_half n q = shifted n 64 q
 
 pub none_high : (n k : ℕ) → 64 ≤ k → FirstIn 64 None (n / 2 ^ 64) (k - 64) → FirstIn 128 None n k

@@ -17,7 +17,7 @@ pub use Rattle.dw_cfa.specs.declared.instr.{Factors.Factors, Instr.Instr, Instr.
 pub use Rattle.dw_cfa.specs.declared.{machine.Machine.Machine, marks.Marks.Marks, opcode.Opcode.Opcode, opening.FirstRow.TheVariants.{CfaOffset, Initial, Other}, row_walk.Leading.Leading, rule.CfaRule.CfaRule}
 pub use Rattle.dw_cfa.specs.declared.{rule.CfaRule.TheVariants.Unset, rule.RegRule.RegRule, rule.RegRule.TheVariants.{SameValue, Unspecified}, slot.Slot.Slot, steps.Progress.Progress}
 pub use Rattle.dw_cfa.specs.Inner.{Agreement.{agreed, is_agreed, same_cfa, same_rule}, Coverage.{is_unset, lacks_from, leaves_one}, Difference.{SameUnset, start_behind}}
-pub use Rattle.dw_cfa.specs.Inner.Entries.{EntriesSo, FirstBit, FirstIn, Holds, HoldsRule, IsSlotOf, LeavesAmong, LeavesAt, LeavesBelow, SameSlots, entries_of, far_behind, kind_rule, left, listed_near, near_rule, no_slot, rule_if}
+pub use Rattle.dw_cfa.specs.Inner.Entries.{EntriesSo, FirstBit, FirstIn, Holds, HoldsRule, IsSlotOf, LeavesAmong, LeavesAt, LeavesBelow, SameOutside, SameSlots, entries_of, far_behind, kind_rule, left, listed_near, near_rule, no_slot, rule_if}
 pub use Rattle.dw_cfa.specs.Inner.{Entries.slot_rule, Exact.{BehindGives, GivesRows, InitialLeaves, LeavesInitial}}
 pub use Rattle.dw_cfa.specs.Inner.{FrontInstr.{after_code, after_length, block_in, expression_of, form_at, judged, known_at, leaving, operand_at, then_operand, with_instr}, LookUp.look_up_at}
 pub use Rattle.dw_cfa.specs.Inner.Machine.{State, after, begun, changed, cie_fault, empty_fault, fde_fault, half_fault, moved, popped, program_fault, written}
