@@ -1,9 +1,8 @@
 -- The registers that were set since a row was kept: those without a mark have the same rules in both rows.
-use Rattle.dw_cfa.proofs.Words.{◌≡◌, ℕ, suc, ◌+◌, ◌<◌, ◌≤◌, Bool, List, [], ◌∷◌, Option, refl, sym, ap, ◌∙◌, subst, arith, inl, inr, ◌*◌, ◌%◌, ◌^◌, bit_or, not, is_some, IsTrue, Result, Ok, Err, OnOk, OnErr, bit_at, filter, nat_tests}
-use Rattle.dw_cfa.proofs.Words.{cases_lt, IsAdded, Marks, RegRule, Rules, Unspecified, SameValue, AreSpecified, rule_in, put, with_rule, DiffersFirst, FirstDifference, SameBetween, SameUnset, CopiedUpTo, MarksMore, MarksSo, KeptSo}
+use Rattle.dw_cfa.proofs.Words.{◌≡◌, ◌↔◌, ℕ, suc, ◌+◌, ◌<◌, ◌≤◌, Bool, List, [], ◌∷◌, refl, sym, ap, ◌∙◌, subst, arith, inl, inr, ◌*◌, ◌%◌, ◌^◌, bit_or, IsTrue, Result, Ok, Err, OnOk, OnErr, bit_at, filter, nat_tests}
+use Rattle.dw_cfa.proofs.Words.{cases_lt, IsAdded, Marks, RegRule, Rules, Unspecified, SameValue, AreSpecified, rule_in, put, with_rule, DiffersFirst, SameBetween, SameUnset, CopiedUpTo, MarksMore, MarksSo, KeptSo}
 use Rattle.dw_cfa.proofs.Words.{SameUnlisted, SameUnmarked, Unmarked}
 use Rattle.dw_cfa.proofs.{Lent.RowLists.{Entry, lower, other_rule, put_rule, same_rule_set, unlisted}, Difference.FromOn, Slots.{bit_set_other, bit_set_same, neither}, Lent.Narrowed.{filter_keeps, filter_rule}, Lent.SameRows.one_row}
-use Rattle.dw_cfa.proofs.Lent.Skipped.{same_exactly}
 
 -- ---- marks
 
@@ -43,11 +42,8 @@ set_so (Err x) old new kept row row' r rule h up so more marked ok is = rw is (m
 
 -- ---- both rows
 
-pub kept_exactly : (a b : Rules) (o : Option ℕ) (none : Bool) → a.cfa ≡ b.cfa → AreSpecified 0 a.registers → AreSpecified 0 b.registers → FirstDifference 0 a.registers b.registers o → is_some o ≡ not none
-    → (IsTrue none → a ≡ b) × (a ≡ b → IsTrue none)
-kept_exactly a b o none cfa up up' h is =
-    let both = same_exactly a.registers b.registers o none up up' h is in
-    ((λ t. one_row a b cfa (both.0 t)), (λ e. both.1 (ap (λ (r : Rules). r.registers) e)))
+pub kept_exactly : (a b : Rules) (none : Bool) → a.cfa ≡ b.cfa → IsTrue none ↔ (a.registers ≡ b.registers) → IsTrue none ↔ (a ≡ b)
+kept_exactly a b none cfa both = ((λ t. one_row a b cfa (both.0 t)), (λ e. both.1 (ap (λ (r : Rules). r.registers) e)))
 
 -- ---- copying marked registers
 

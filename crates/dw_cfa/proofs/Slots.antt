@@ -3,7 +3,6 @@ use Rattle.dw_cfa.proofs.Words.{if◌then◌else◌, nat_lt, ◌≡◌, ◌⊎�
 use Rattle.dw_cfa.proofs.Words.{get_or-set_same, get_or-set_other, nat_tests, IsTrue, nat_eq, ℤ, ◌-◌, ◌*◌, ◌/◌, ◌%◌, ◌^◌, bit_or, bit_and, bit_at, bit_not, trailing_zeros, w64, w128, Option, not, div-le_self, bit_at-zero, bit_at_above}
 use Rattle.dw_cfa.proofs.Words.{bit_at-trailing_zeros, bit_at_set_same, bit_at_set_other, bit_at_clear_other, bit_at_clear_same, bit_at_or, Entries, RegRule, Slot, Unspecified, is_specified, AreSpecified, rule_in, listed, put, EntriesSo}
 use Rattle.dw_cfa.proofs.Words.{entries_of, slot_rule, listed_from, listed_near, near_rule, no_slot, rule_if, FirstBit, FirstIn, Holds, IsSlotOf, set, pow-add, pow_pos, shr-shr, bit_at-lt, bit_at_and, bit_at_cat_low}
-use Rattle.dw_cfa.proofs.Words.{and_pow}
 use Rattle.std.proofs.lemmas.Nat.{one_shl}
 use Rattle.dw_cfa.proofs.Lent.{RowLists.{Entry, lower, listed_is, listed_keeps, listed_rule, other_rule, put_keeps, put_rule, same_rule_set, unlisted}, SameRows.same_entries}
 use Rattle.dw_cfa.specs.declared.slot.Slot.TheVariants as slots
@@ -124,13 +123,6 @@ high_bit r le lt =
     ap (λ (n : ℕ). n * 2 ^ 64 % 2 ^ 128) (one_shl (r - 64) 64 (omega arith)) ∙ ap (λ (n : ℕ). n % 2 ^ 128) (whole ∙ one)
 
 module _ (n r b : ℕ) (lt : r < 128) (bit : b ≡ 1 * 2 ^ r % 2 ^ 128) where
-  pub bit_tested : not (nat_eq (bit_and n b) 0) ≡ nat_eq (bit_at n r) 1
-  bit_tested =
-      let is : bit_and n b ≡ bit_at n r * 2 ^ r = ap (bit_and n) (bit ∙ one_shl r 128 lt) ∙ and_pow n r in elim (cases_bit (bit_at n r) (bit_at-lt n r)) [
-        | inl e ↦ let none : bit_and n b ≡ 0 * 2 ^ r = is ∙ ap (λ (m : ℕ). m * 2 ^ r) e in grind (arith, nat_tests, none, e)
-        | inr e ↦ let some : bit_and n b ≡ 1 * 2 ^ r = is ∙ ap (λ (m : ℕ). m * 2 ^ r) e in grind (arith, nat_tests, some, e, pow_pos r)
-      ]
-
   pub bit_set_same : bit_at (bit_or n b) r ≡ 1
   bit_set_same = ap (λ (m : ℕ). bit_at (bit_or n m) r) bit ∙ bit_at_set_same w128 n r lt
 
@@ -262,11 +254,11 @@ lowest_bit n k fits some =
     (omega arith, bit_inside n k j fits z.1, sym (shifted n k j) ∙ z.1, λ q low high. let at : q ≡ k + (q - k) = omega arith in ap (bit_at n) at ∙ sym (shifted n k (q - k)) ∙ z.2 (q - k) (omega arith))
 
 -- a mask and its halves
-low_half : (n q : ℕ) → q < 64 → bit_at (n % 2 ^ 64) q ≡ bit_at n q
+pub low_half : (n q : ℕ) → q < 64 → bit_at (n % 2 ^ 64) q ≡ bit_at n q
 low_half n q lt =
     let whole : n ≡ n / 2 ^ 64 * 2 ^ 64 + n % 2 ^ 64 = omega arith in sym (ap (λ (m : ℕ). bit_at m q) whole ∙ bit_at_cat_low (n / 2 ^ 64) 64 (n % 2 ^ 64) q lt)
 
-high_half : (n q : ℕ) → bit_at (n / 2 ^ 64) q ≡ bit_at n (64 + q)
+pub high_half : (n q : ℕ) → bit_at (n / 2 ^ 64) q ≡ bit_at n (64 + q)
 high_half n q = shifted n 64 q
 
 pub none_high : (n k : ℕ) → 64 ≤ k → FirstIn 64 None (n / 2 ^ 64) (k - 64) → FirstIn 128 None n k

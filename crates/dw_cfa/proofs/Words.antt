@@ -17,7 +17,7 @@ pub use Rattle.dw_cfa.specs.declared.instr.{Factors.Factors, Instr.Instr, Instr.
 pub use Rattle.dw_cfa.specs.declared.{machine.Machine.Machine, marks.Marks.Marks, opcode.Opcode.Opcode, opening.FirstRow.TheVariants.{CfaOffset, Initial, Other}, row_walk.Leading.Leading, rule.CfaRule.CfaRule}
 pub use Rattle.dw_cfa.specs.declared.{rule.CfaRule.TheVariants.Unset, rule.RegRule.RegRule, rule.RegRule.TheVariants.{SameValue, Unspecified}, slot.Slot.Slot, steps.Progress.Progress}
 pub use Rattle.dw_cfa.specs.Inner.{Agreement.{agreed, is_agreed, same_cfa, same_rule}, Coverage.{is_unset, lacks_from, leaves_one}, Difference.{SameUnset, start_behind}}
-pub use Rattle.dw_cfa.specs.Inner.Entries.{EntriesSo, FirstBit, FirstIn, Holds, IsSlotOf, LeavesAmong, LeavesAt, LeavesBelow, SameSlots, entries_of, far_behind, left, listed_near, near_rule, no_slot, rule_if}
+pub use Rattle.dw_cfa.specs.Inner.Entries.{EntriesSo, FirstBit, FirstIn, Holds, IsSlotOf, LeavesAmong, LeavesAt, LeavesBelow, SameOutside, SameSlots, entries_of, far_behind, left, listed_near, near_rule, no_slot, rule_if}
 pub use Rattle.dw_cfa.specs.Inner.{Entries.slot_rule, Exact.{BehindGives, GivesRows, InitialLeaves, LeavesInitial}}
 pub use Rattle.dw_cfa.specs.Inner.{FrontInstr.{after_code, after_length, block_in, expression_of, form_at, judged, known_at, leaving, operand_at, then_operand, with_instr}, LookUp.look_up_at}
 pub use Rattle.dw_cfa.specs.Inner.Machine.{State, after, begun, changed, cie_fault, empty_fault, fde_fault, half_fault, moved, popped, program_fault, written}
@@ -42,7 +42,7 @@ pub use Rattle.std.proofs.Common.{length-append, length-set, lt-ltb, ltb-false, 
 pub use Rattle.std.proofs.Common.{reverse, rules, set, shr-shr, slice_get, subst, suc, sym, take, take_all, to_z, true, unsigned_abs, unwrap_or, w64, zero, ℕ, ℤ, ◌%◌, ◌*ℤ◌, ◌*◌, ◌++◌, ◌+◌, ◌-◌, ◌/◌, ◌<◌, ◌^◌, ◌||◌, ◌↔◌, ◌∙◌, ◌∷◌, ◌≡◌, ◌≤◌}
 pub use Rattle.std.proofs.{Common.{◌⊎◌}, lemmas.Bool.{cases_Bool, cases_eq, cases_lt, eqb-false, or_cases, or_parts}, lemmas.Bool.Decides.{leb_tells, nat_tests, not_from_Decides}, lemmas.Int.{fits_signed_mul, to_z-of_z}}
 pub use Rattle.std.proofs.lemmas.{List.Sums.sum_by-cons, Map.Made.filter_same_pairs}
-pub use Rattle.std.proofs.lemmas.Nat.Bits.{and_pow, bit_at-lt, bit_at-trailing_zeros, bit_at-zero, bit_at_above, bit_at_and, bit_at_cat_low, bit_at_clear_other, bit_at_clear_same, bit_at_or, bit_at_set_other, bit_at_set_same}
+pub use Rattle.std.proofs.lemmas.Nat.Bits.{bit_at-lt, bit_at-trailing_zeros, bit_at-zero, bit_at_above, bit_at_and, bit_at_cat_low, bit_at_clear_other, bit_at_clear_same, bit_at_or, bit_at_set_other, bit_at_set_same}
 pub use Rattle.std.proofs.lemmas.Result.{IfErr-weaker, IfOk-weaker, err_from_is_err_and, on_err_weaker, on_ok_weaker}
 pub use Rattle.std.specs.{BTreeMap.{insert_entry, is_at}, BTreeMap.Range.range_contains, Bool.one_answer, Int.{bit_at, bit_not, trailing_zeros, w128}, List.{AllByRecursion, AllZip}, declared.ops.Bound.Bound}
 pub use Rattle.std.specs.declared.ops.Bound.TheVariants.{Unbounded}

@@ -50,6 +50,23 @@ pub(crate) fn run_fixed_advance<'a, K: Keep<'a>>(
     run_advance(factors, keep, at, delta, fault)
 }
 
+/// The same out of line, for advances that are rare, so that the loop that runs a program stays small.
+#[inline(never)]
+pub(crate) fn run_long_advance<'a, K: Keep<'a>>(
+    cursor: &mut Cursor<'a>,
+    factors: Factors,
+    keep: &mut K,
+    at: u64,
+    width: usize,
+    fault: &mut Refusal,
+) -> End
+    requires location { IsWithinLimit (K.machine keep.old) }
+    requires width { IsWidth width }
+    ensures { Taken K.takes (advance_at factors width cursor.old) at keep.old result fault.new cursor.new keep.new }
+{
+    run_fixed_advance(cursor, factors, keep, at, width, fault)
+}
+
 /// Moves the location to an address that is not below it.
 #[tactic(auto, unfolding(crate::specs::Inner::ByOpcode::set_loc_at))]
 #[inline(never)]

@@ -10,9 +10,9 @@ use crate::machine::{End, refused};
 use crate::opcode::{block, plain, signed};
 use dw_num::{Cursor, Refusal};
 
-/// The CFA is a register plus an offset.
+/// The CFA is a register plus an offset. Out of line, as few programs of FDEs say it.
 #[tactic(auto, unfolding(crate::specs::Inner::ByOpcode::def_cfa_at))]
-#[inline(always)]
+#[inline(never)]
 pub(crate) fn run_def_cfa<'a, K: Keep<'a>>(
     cursor: &mut Cursor<'a>,
     keep: &mut K,

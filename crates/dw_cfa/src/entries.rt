@@ -1,6 +1,6 @@
 //! The registers of a row with their rules (6.4.1).
 
-ghost use Rattle.std.specs.Prelude.{◌≡◌, ◌<◌, ℤ, [], IfOk, IfSome, OnOk, OnErr, MatchOption, IsTrue, ◌↔◌};
+ghost use Rattle.std.specs.Prelude.{◌≡◌, ◌<◌, ℤ, [], false, IfOk, IfSome, OnOk, OnErr, MatchOption, IsTrue, ◌↔◌};
 ghost use Rattle.dw_cfa.specs.declared.rule.RegRule.TheVariants.{Offset, Unspecified};
 ghost use Rattle.dw_cfa.specs.declared.slot.Slot.TheVariants.{Beside};
 ghost use Rattle.dw_cfa.specs.Rows.{rule_in, is_specified};
@@ -10,6 +10,7 @@ ghost use Rattle.dw_cfa.specs.Inner.Entries.{entries_of, EntriesSo, IsSlotOf, sl
 ghost use Rattle.dw_cfa.specs.declared.rule.RegRule.{RegRule as TheRule};
 ghost use Rattle.dw_cfa.specs.Difference.{FirstDifference, place_behind};
 ghost use Rattle.dw_cfa.specs.Inner.Difference.{FirstBelow, SameUnset};
+ghost use Rattle.dw_cfa.specs.Inner.Marks.{CopiedUpTo};
 
 use crate::behind::{place_behind, start_behind};
 use crate::near_slots::{bit_of, copy_slots, is_in, next_in, same_slots};
@@ -333,6 +334,20 @@ impl<'a> Entries<'a> {
         Ok(())
     }
 
+    // Gives a register that may have a slot the rule that others give it, which is kept beside the slot.
+    #[inline(never)]
+    fn copy_beside(&mut self, others: &Entries<'a>, register: u16) -> Result<(), AllocError>
+        requires so { EntriesSo self.old }
+        requires others { EntriesSo others.now }
+        requires near { register < 128 }
+        requires specified { IsTrue (is_specified (rule_in (entries_of others.now) register)) }
+        ensures ok { OnOk result (entries_of self.new ≡ put register (rule_in (entries_of others.now) register) (entries_of self.old)) }
+        ensures so { EntriesSo self.new }
+        ensures err { OnErr result (entries_of self.new ≡ entries_of self.old) }
+    {
+        self.put_beside(register, others.rule(register))
+    }
+
     // Gives a register that may have a slot the rule that others give it.
     #[inline(always)]
     pub(crate) fn copy_near(
@@ -352,7 +367,7 @@ impl<'a> Entries<'a> {
             return Ok(());
         };
         if let Slot::Beside = slot {
-            return self.put_beside(register, others.rule(register));
+            return self.copy_beside(others, register);
         }
         self.put_plain(register, slot);
         Ok(())
@@ -393,6 +408,38 @@ impl<'a> Entries<'a> {
             place = register + 1;
         }
         Ok(())
+    }
+
+    // Gives the registers in a mask the rules that others give them, where all others below 128 have the same rules, and those
+    // beside slots are the same.
+    #[inline(always)]
+    fn copy_masked(&mut self, others: &Entries<'a>, mask: u128)
+        requires so { EntriesSo self.old }
+        requires others { EntriesSo others.now }
+        requires expressions { self.old.expressions.entries ≡ others.now.expressions.entries }
+        requires same { SameUnset mask (entries_of self.old) (entries_of others.now) }
+        ensures copied { CopiedUpTo 128 (entries_of others.now) (entries_of self.old) (entries_of self.new) }
+        ensures so { EntriesSo self.new }
+    {
+        copy_slots(&mut self.slots, &others.slots, others.used & mask);
+        self.used = others.used;
+    }
+
+    // The same where no rule is kept beside a slot, and says whether that is so.
+    #[inline(always)]
+    pub(crate) fn copy_among(&mut self, others: &Entries<'a>, mask: u128) -> bool
+        requires so { EntriesSo self.old }
+        requires others { EntriesSo others.now }
+        requires same { SameUnset mask (entries_of self.old) (entries_of others.now) }
+        ensures copied { IsTrue result → CopiedUpTo 128 (entries_of others.now) (entries_of self.old) (entries_of self.new) }
+        ensures so { EntriesSo self.new }
+        ensures stays { result ≡ false → entries_of self.new ≡ entries_of self.old }
+    {
+        if !self.expressions.is_empty() || !others.expressions.is_empty() {
+            return false;
+        }
+        self.copy_masked(others, mask);
+        true
     }
 
     // Makes them a copy of others, where both have the same trees.

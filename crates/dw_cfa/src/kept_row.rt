@@ -16,10 +16,10 @@ use std::alloc::{AllocError, Global};
 use std::collections::BTreeMap;
 use std::ops::Bound;
 
-// Copies the rules of the registers in a mask.
-#[inline(always)]
+// Copies the rules of the registers in a mask, one after another.
+#[inline(never)]
 #[tactic(auto, using(crate::proofs::Marked::copied_on, crate::proofs::Marked::copied_next))]
-fn copy_near<'a>(row: &Row<'a>, copy: &mut Row<'a>, mask: u128) -> Result<(), AllocError>
+fn copy_each<'a>(row: &Row<'a>, copy: &mut Row<'a>, mask: u128) -> Result<(), AllocError>
     requires { SameUnset mask copy.old.registers row.now.registers }
     ensures { OnOk result (CopiedUpTo 128 row.now.registers copy.old.registers copy.new.registers) }
 {
@@ -30,6 +30,18 @@ fn copy_near<'a>(row: &Row<'a>, copy: &mut Row<'a>, mask: u128) -> Result<(), Al
         place = register + 1;
     }
     Ok(())
+}
+
+// The same, mostly by slots alone.
+#[inline(always)]
+fn copy_near<'a>(row: &Row<'a>, copy: &mut Row<'a>, mask: u128) -> Result<(), AllocError>
+    requires { SameUnset mask copy.old.registers row.now.registers }
+    ensures { OnOk result (CopiedUpTo 128 row.now.registers copy.old.registers copy.new.registers) }
+{
+    if copy.copy_among(row, mask) {
+        return Ok(());
+    }
+    copy_each(row, copy, mask)
 }
 
 // Copies the rules of the registers in a tree.
@@ -211,12 +223,21 @@ impl<'a> KeptRow<'a> {
         next_far_difference(kept, row, &marks.far, behind)
     }
 
+    // Whether no register has another rule. Out of line: it is asked where the CFA's rules are the same alone.
+    #[inline(never)]
+    fn has_same_registers(&self, row: &Row<'_>) -> bool
+        requires { KeptSo self.now.marks self.now.row.registers row.now.registers }
+        ensures { IsTrue result ↔ (self.now.row.registers ≡ row.now.registers) }
+    {
+        self.next_difference(row, None).is_none()
+    }
+
     /// Whether a row is the kept one.
     #[inline(always)]
     pub(crate) fn is_same(&self, row: &Row<'_>) -> bool
         requires { KeptSo self.now.marks self.now.row.registers row.now.registers }
         ensures { IsTrue result ↔ (self.now.row ≡ row.now) }
     {
-        self.row.cfa_rule().is_same(row.cfa_rule()) && self.next_difference(row, None).is_none()
+        self.row.cfa_rule().is_same(row.cfa_rule()) && self.has_same_registers(row)
     }
 }

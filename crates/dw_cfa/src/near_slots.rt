@@ -3,7 +3,7 @@
 ghost use Rattle.std.specs.Prelude.{◌≡◌, ◌<◌, ◌≤◌, ◌↔◌, ◌*◌, ◌^◌, ◌%◌, false, IsTrue, length, nat_eq};
 ghost use Rattle.std.specs.Int.{bit_at};
 ghost use Rattle.dw_cfa.specs.Rows.{rule_in};
-ghost use Rattle.dw_cfa.specs.Inner.Entries.{FindsNear, FindsSlot, FirstBit, FirstIn, Holds, SameSlots, slot_rule};
+ghost use Rattle.dw_cfa.specs.Inner.Entries.{FindsNear, FindsSlot, FirstBit, FirstIn, Holds, SameOutside, SameSlots, slot_rule};
 
 use crate::rule::RegRule;
 use crate::slot::{Slot, rule_of};
@@ -25,13 +25,16 @@ pub(crate) fn bit_of(register: u16) -> u128
     u128::from(1_u64 << (register - 64)) << 64
 }
 
-/// Whether a register is in a mask.
+/// Whether a register is in a mask, of which one half is looked at.
 #[inline(always)]
 pub(crate) fn is_in(mask: u128, register: u16) -> bool
     requires { register < 128 }
     ensures { result ≡ nat_eq (bit_at mask register) 1 }
 {
-    mask & bit_of(register) != 0
+    if register < 64 {
+        return ((mask % HALF) as u64 >> register) % 2 == 1;
+    }
+    ((mask >> 64) as u64 >> (register - 64)) % 2 == 1
 }
 
 // The first bit from a place on of one half of a mask.
@@ -85,6 +88,7 @@ pub(crate) fn copy_slots(slots: &mut [Slot; 128], others: &[Slot; 128], mask: u1
     requires others { length others.now ≡ 128 }
     ensures slots { length slots.new ≡ 128 }
     ensures copied { SameSlots mask others.now slots.new }
+    ensures stays { SameOutside mask slots.old slots.new }
 {
     let mut place = 0;
     'slots: while let Some(register) = next_in(mask, place) {

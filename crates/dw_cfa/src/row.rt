@@ -1,6 +1,6 @@
 //! Rows of rules (6.4.1).
 
-ghost use Rattle.std.specs.Prelude.{◌≡◌, ◌<◌, ℤ, [], ◌∷◌, IfOk, OnOk, OnErr, MatchOption, IsTrue, ◌↔◌};
+ghost use Rattle.std.specs.Prelude.{◌≡◌, ◌<◌, ℤ, [], ◌∷◌, false, IfOk, OnOk, OnErr, MatchOption, IsTrue, ◌↔◌};
 ghost use Rattle.std.specs.Iterator.{YieldsFirst, item_count};
 ghost use Rattle.dw_cfa.specs.declared.rule.RegRule.TheVariants.{Offset};
 ghost use Rattle.dw_cfa.specs.Rows.{AreSpecified, rule, rule_in, blank};
@@ -9,6 +9,7 @@ ghost use Rattle.dw_cfa.specs.Agreement.{IsAgreed, kept};
 ghost use Rattle.dw_cfa.specs.Difference.{FirstDifference, place_behind};
 ghost use Rattle.dw_cfa.specs.Inner.Difference.{FirstBelow, SameUnset};
 ghost use Rattle.dw_cfa.specs.Inner.LookUp.{SpecifiesIn};
+ghost use Rattle.dw_cfa.specs.Inner.Marks.{CopiedUpTo};
 
 use crate::entries::{Entries, NEAR};
 use crate::near_slots::{next_near, next_slot};
@@ -294,6 +295,17 @@ impl<'a> Row<'a> {
         ensures err { OnErr result (self.new ≡ self.old) }
     {
         self.entries.copy_near(&other.entries, register)
+    }
+
+    // Gives the registers in a mask the rules of another row, where all others below 128 have the same rules and no rule of either
+    // is kept beside a slot, and says whether that is so.
+    #[inline(always)]
+    pub(crate) fn copy_among(&mut self, other: &Row<'a>, mask: u128) -> bool
+        requires { SameUnset mask self.old.registers other.now.registers }
+        ensures copied { IsTrue result → CopiedUpTo 128 other.now.registers self.old.registers self.new.registers }
+        ensures stays { result ≡ false → self.new ≡ self.old }
+    {
+        self.entries.copy_among(&other.entries, mask)
     }
 
     /// Makes it a copy of another row, in the room that is there, or answers want of memory. It is some row then.

@@ -290,6 +290,15 @@ impl<'a> States<'a> {
         self.rows.set(register, rule)
     }
 
+    // Gives a register the rule of a row, whatever that is. Out of line: room for a rule is cleared at each register else.
+    #[inline(never)]
+    fn set_rule_of(&mut self, row: &Row<'a>, register: u16) -> Result<(), AllocError>
+        ensures kept { self.new.kept ≡ self.old.kept }
+        ensures set { OnOk result (self.new ≡ record { row = with_rule register (rule_in row.now.registers register) self.old.row; stack = self.old.stack; first = self.old.first; kept = self.old.kept }) }
+    {
+        self.set(register, row.rule(register))
+    }
+
     /// Gives a register the rule that a row gives it, or answers want of memory.
     #[inline(always)]
     pub(crate) fn set_as(&mut self, row: &Row<'a>, register: u16) -> Result<(), AllocError>
@@ -297,10 +306,10 @@ impl<'a> States<'a> {
         ensures set { OnOk result (self.new ≡ record { row = with_rule register (rule_in row.now.registers register) self.old.row; stack = self.old.stack; first = self.old.first; kept = self.old.kept }) }
     {
         if register >= NEAR {
-            return self.set(register, row.rule(register));
+            return self.set_rule_of(row, register);
         }
         if self.is_listed {
-            return self.change(register, row.rule(register));
+            return self.set_rule_of(row, register);
         }
         self.saved.marks.mark(register)?;
         self.rows.row().ascends();

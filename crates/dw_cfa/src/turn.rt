@@ -8,7 +8,7 @@ ghost use Rattle.dw_cfa.specs.Inner.FrontInstr.{instr_at};
 ghost use Rattle.dw_cfa.specs.Inner.Runs.{RunsSo, rows_left};
 ghost use Rattle.dw_cfa.specs.Inner.Turns.{Does, IsWithinLimit, Stays, Taken, Turned};
 
-use crate::advance::{run_advance, run_fixed_advance, run_set_loc};
+use crate::advance::{run_advance, run_fixed_advance, run_long_advance, run_set_loc};
 use crate::cfa::{
     run_def_cfa, run_def_cfa_expression, run_def_cfa_offset, run_def_cfa_offset_sf,
     run_def_cfa_register, run_def_cfa_sf,
@@ -47,7 +47,7 @@ fn apply<'a, K: Keep<'a>>(
         Opcode::AdvanceLoc(delta) => run_advance(factors, keep, at, u64::from(delta), fault),
         Opcode::AdvanceLoc1 => run_fixed_advance(cursor, factors, keep, at, 1, fault),
         Opcode::AdvanceLoc2 => run_fixed_advance(cursor, factors, keep, at, 2, fault),
-        Opcode::AdvanceLoc4 => run_fixed_advance(cursor, factors, keep, at, 4, fault),
+        Opcode::AdvanceLoc4 => run_long_advance(cursor, factors, keep, at, 4, fault),
         Opcode::DefCfa => run_def_cfa(cursor, keep, at, fault),
         Opcode::DefCfaSf => run_def_cfa_sf(cursor, factors, keep, at, fault),
         Opcode::DefCfaRegister => run_def_cfa_register(cursor, keep, at, fault),

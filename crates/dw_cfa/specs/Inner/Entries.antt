@@ -60,6 +60,10 @@ entries_of e = listed_near 0 e.used e.slots e.expressions.entries e.far.entries
 abbrev pub SameSlots : ℕ → List Slot → List Slot → Type 0
 SameSlots mask others near = (q : ℕ) → bit_at mask q ≡ 1 → get_or near q no_slot ≡ get_or others q no_slot
 
+-- all other slots are as they were
+abbrev pub SameOutside : ℕ → List Slot → List Slot → Type 0
+SameOutside mask old new = (q : ℕ) → bit_at mask q ≡ 0 → get_or new q no_slot ≡ get_or old q no_slot
+
 -- a register that the mask has has a rule
 abbrev pub Holds : ℕ → List Slot → List (ℕ × RegRule) → Type 0
 Holds used near expressions = (q : ℕ) → bit_at used q ≡ 1 → IsTrue (is_specified (near_rule used near expressions q))

@@ -4,5 +4,4 @@ use Rattle.dw_cfa.proofs.kept_row.KeptRow.is_same.Goals as goal
 
 pub returns-then-is_same : goal.returns-then-is_same
 returns-then-is_same c =
-    let d = c.next_difference.ensures in
-    kept_exactly c.args.self.now.row c.args.row.now c.next_difference.result c.is_none.result (sym c.cfa_rule.ensures ∙ c.if-is_same.ensures.0 refl ∙ c.cfa_rule-2.ensures) d.ascending d.other_ascending d.first c.is_none.ensures
+    kept_exactly c.args.self.now.row c.args.row.now c.has_same_registers.result (sym c.cfa_rule.ensures ∙ c.if-is_same.ensures.0 refl ∙ c.cfa_rule-2.ensures) c.has_same_registers.ensures
