@@ -171,15 +171,11 @@ fn told_rule(number: u16, kind: u16, other: u16, offset: i64) -> Rule
     }
 }
 
-#[inline(always)]
-fn rule_of(number: u16, rule: &RegRule<'_>) -> Rule
+#[inline(never)]
+fn any_rule(number: u16, rule: &RegRule<'_>) -> Rule
     ensures told { result ≡ rule_of (number, rule.now) }
     ensures fits { number < 65536 }
 {
-    // Most rules are of this kind, and are told without a look at the others.
-    if let RegRule::Offset(offset) = rule {
-        return told_rule(number, 3, 0, *offset);
-    }
     match rule {
         RegRule::Unspecified => told_rule(number, 0, 0, 0),
         RegRule::Undefined => told_rule(number, 1, 0, 0),
@@ -208,12 +204,20 @@ pub(crate) fn put_rules(row: &CfaRow<'_>, out: &mut [Rule]) -> usize
     ensures count { result ≡ length row.now.registers }
     ensures rules { out.new ≡ over (map rule_of row.now.registers) out.old }
 {
+    let mut rules = row.specified();
     let mut count: usize = 0;
-    for (number, rule) in row.specified() {
-        put_rule(out, count, rule_of(number, &rule));
+    'rules: loop {
+        if let Some((number, offset)) = rules.next_offset() {
+            put_rule(out, count, told_rule(number, 3, 0, offset));
+            count += 1;
+            continue;
+        }
+        let Some((number, rule)) = rules.next() else {
+            return count;
+        };
+        put_rule(out, count, any_rule(number, &rule));
         count += 1;
     }
-    count
 }
 
 pub(crate) fn no_row() -> Row
