@@ -1,4 +1,4 @@
-use Rattle.dw_command.proofs.Words.{◌++◌, ℕ, List, codes, append_assoc, false, subst, sym, digits, Appends-kept, Appends-trans, Adds, cfa_text, column_text, lines}
+use Rattle.dw_command.proofs.Words.{◌++◌, ℕ, List, codes, append_assoc, false, subst, sym, digits, Appends-kept, Appends-trans, Adds, cfa_text}
 use Rattle.dw_cfa.specs.declared.rule.CfaRule.{CfaRule}
 use Rattle.dw_command.proofs.Puts.{behind_kept}
 use Rattle.dw_command.proofs.row_text.put_row.Goals as goal

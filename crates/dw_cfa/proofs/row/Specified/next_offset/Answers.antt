@@ -12,6 +12,6 @@ returns c =
     let is : slot_rule c.in-Some.slot beside ≡ Offset c.in-Some-offset_in.offset = c.in-Some-offset_in.ensures beside in
     let more : r + 1 ≡ suc r = omega arith in
     rw (more, to_z-of_z w64 c.in-Some-offset_in.offset fits) (
-      sym c.self.view_is
-      ∙ next_used w.used w.slots.now w.expressions.now.entries (far_behind w.last w.far.now.entries) c.self.invariant.1 w.at r c.in-Some.ensures.0 c.in-Some.slot c.in-Some.ensures.1 _ (sym is)
+    sym c.self.view_is
+    ∙ next_used w.used w.slots.now w.expressions.now.entries (far_behind w.last w.far.now.entries) c.self.invariant.1 w.at r c.in-Some.ensures.0 c.in-Some.slot c.in-Some.ensures.1 _ (sym is)
     )
