@@ -3,7 +3,7 @@
 ghost use Rattle.std.specs.Prelude.{◌≡◌, ◌<◌, ◌≤◌, ◌↔◌, ◌*◌, ◌^◌, ◌%◌, false, IsTrue, length, nat_eq};
 ghost use Rattle.std.specs.Int.{bit_at};
 ghost use Rattle.dw_cfa.specs.Rows.{rule_in};
-ghost use Rattle.dw_cfa.specs.Inner.Entries.{FindsNear, FindsSlot, FirstBit, FirstIn, Holds, SameOutside, SameSlots, slot_rule};
+ghost use Rattle.dw_cfa.specs.Inner.Entries.{FindsNear, FirstBit, FirstIn, Holds, SameOutside, SameSlots, slot_rule};
 
 use crate::rule::RegRule;
 use crate::slot::{Slot, rule_of};
@@ -97,20 +97,7 @@ pub(crate) fn copy_slots(slots: &mut [Slot; 128], others: &[Slot; 128], mask: u1
     }
 }
 
-/// The first register from a place on that the mask has, and its slot.
-#[inline(always)]
-pub(crate) fn next_slot(at: u16, slots: &[Slot; 128], used: u128) -> Option<(u16, Slot)>
-    requires { length slots.now ≡ 128 }
-    ensures { FindsSlot result at used slots.now }
-{
-    let Some(next) = next_in(used, u32::from(at)) else {
-        return None;
-    };
-    let register = next as u16;
-    Some((register, slots[usize::from(register)]))
-}
-
-/// The same with its rule.
+/// The first register from a place on that the mask has, and its rule.
 #[inline(always)]
 pub(crate) fn next_near<'a>(
     at: u16,
@@ -122,9 +109,11 @@ pub(crate) fn next_near<'a>(
     requires holds { Holds used slots.now expressions.now.entries }
     ensures { FindsNear result at used slots.now expressions.now.entries }
 {
-    let Some((register, slot)) = next_slot(at, slots, used) else {
+    let Some(next) = next_in(used, u32::from(at)) else {
         return None;
     };
+    let register = next as u16;
+    let slot = slots[usize::from(register)];
     Some((register, rule_of(slot, expressions, register)))
 }
 

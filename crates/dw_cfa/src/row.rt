@@ -12,7 +12,7 @@ ghost use Rattle.dw_cfa.specs.Inner.LookUp.{SpecifiesIn};
 ghost use Rattle.dw_cfa.specs.Inner.Marks.{CopiedUpTo};
 
 use crate::entries::{Entries, NEAR};
-use crate::near_slots::{next_near, next_slot};
+use crate::near_slots::{next_in, next_near};
 use crate::rule::{CfaRule, RegRule};
 use crate::slot::{Slot, offset_in};
 use crate::tree::next_in_tree;
@@ -101,21 +101,14 @@ impl<'r, 'a> Specified<'r, 'a> {
         self.last = Some(register);
         Some((register, rule))
     }
-}
 
-impl<'r, 'a> Specified<'r, 'a> {
-    /// The next register with its offset, where its rule is `Offset`. It stays where that is another one, or none is left. A rule
-    /// takes 32 bytes, which are cleared and moved for each register else.
+    /// The next register with its offset, where its rule is `Offset`. A rule takes 32 bytes, which are moved for each register else.
     #[inline(always)]
     pub fn next_offset(&mut self) -> Option<(u16, i64)>
         ensures { MatchOption result (self.new ≡ self.old) (λ found. self.old ≡ (found.0, Offset found.1) ∷ self.new) }
     {
-        let Some((register, slot)) = next_slot(self.at, self.slots, self.used) else {
-            return None;
-        };
-        let Some(offset) = offset_in(slot) else {
-            return None;
-        };
+        let register = next_in(self.used, u32::from(self.at))? as u16;
+        let offset = offset_in(self.slots[usize::from(register)])?;
         self.at = register + 1;
         Some((register, offset))
     }

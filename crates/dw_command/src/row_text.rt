@@ -1,9 +1,7 @@
 //! How rows are printed: a line for an FDE, and under it a line for each address from which its rules are others.
 
-ghost use Rattle.std.specs.Prelude.{◌≡◌, ◌+◌, ◌++◌, ◌-◌, ◌^◌, ◌<◌, ◌≤◌, codes, None, OnOk};
-ghost use Rattle.dw_cfa.specs.declared.rule.RegRule.TheVariants.{Offset};
+ghost use Rattle.std.specs.Prelude.{◌+◌, ◌++◌, ◌-◌, ◌^◌, ◌<◌, ◌≤◌, codes, None, OnOk};
 ghost use Rattle.dw_command.specs.RowTexts.{at_text, cfa_text, column_text, fde_text, operations_text, row_text, rule_text};
-ghost use Rattle.dw_command.specs.Texts.{lines};
 ghost use Rattle.dw_command.specs.Inner.Output.{Adds, Told};
 ghost use Rattle.dw_command.specs.declared.listing.TheConstants.{PIECE, ROOM};
 
@@ -58,18 +56,6 @@ fn put_cfa<W: Write>(listing: &mut Listing<W>, rule: &CfaRule<'_>) -> Result<(),
     Ok(())
 }
 
-// The rule of a register that is saved at an offset.
-#[inline(always)]
-fn put_offset<W: Write>(listing: &mut Listing<W>, offset: i64)
-    requires { listing.old.len + 64 ≤ ROOM }
-    ensures told { listing.new.failures ≡ listing.old.failures }
-    ensures put { Adds W.contents listing.old listing.new (codes "=" ++ rule_text (Offset offset)) }
-{
-    listing.text(b"=[cfa");
-    listing.offset(offset);
-    listing.text(b"]");
-}
-
 // The rule of a register. One that reads memory stands in brackets.
 #[inline(always)]
 fn put_rule<W: Write>(listing: &mut Listing<W>, rule: &RegRule<'_>) -> Result<(), OutputFault>
@@ -83,7 +69,11 @@ fn put_rule<W: Write>(listing: &mut Listing<W>, rule: &RegRule<'_>) -> Result<()
         RegRule::Unspecified => listing.text(b"="),
         RegRule::Undefined => listing.text(b"=u"),
         RegRule::SameValue => listing.text(b"=s"),
-        RegRule::Offset(offset) => put_offset(listing, *offset),
+        RegRule::Offset(offset) => {
+            listing.text(b"=[cfa");
+            listing.offset(*offset);
+            listing.text(b"]");
+        }
         RegRule::ValOffset(offset) => {
             listing.text(b"=cfa");
             listing.offset(*offset);
@@ -106,8 +96,8 @@ fn put_rule<W: Write>(listing: &mut Listing<W>, rule: &RegRule<'_>) -> Result<()
     Ok(())
 }
 
-// A register and its rule. Out of line: most rules are offsets.
-#[inline(never)]
+// A register and its rule.
+#[inline(always)]
 fn put_column<W: Write>(
     listing: &mut Listing<W>,
     register: u16,
@@ -121,44 +111,6 @@ fn put_column<W: Write>(
     listing.text(b" r");
     listing.decimal(u64::from(register));
     put_rule(listing, rule)
-}
-
-// A register that is saved at an offset.
-#[inline(always)]
-fn put_saved<W: Write>(
-    listing: &mut Listing<W>,
-    register: u16,
-    offset: i64,
-) -> Result<(), OutputFault>
-    requires room { listing.old.failures < 2 ^ 64 - 1 }
-    ensures told { Told listing.old.failures listing.new.failures result }
-    ensures put { OnOk result (Adds W.contents listing.old listing.new (column_text (register, Offset offset))) }
-{
-    listing.make_room()?;
-    listing.text(b" r");
-    listing.decimal(u64::from(register));
-    put_offset(listing, offset);
-    Ok(())
-}
-
-// The registers of a row with their rules.
-#[inline(always)]
-fn put_columns<W: Write>(listing: &mut Listing<W>, row: &Row<'_>) -> Result<(), OutputFault>
-    requires room { listing.old.failures < 2 ^ 64 - 1 }
-    ensures told { Told listing.old.failures listing.new.failures result }
-    ensures put { OnOk result (Adds W.contents listing.old listing.new (lines column_text row.now.registers)) }
-{
-    let mut columns = row.specified();
-    'columns: loop {
-        if let Some((register, offset)) = columns.next_offset() {
-            put_saved(listing, register, offset)?;
-            continue;
-        }
-        let Some((register, rule)) = columns.next() else {
-            return Ok(());
-        };
-        put_column(listing, register, &rule)?;
-    }
 }
 
 /// Puts the line of an FDE: the addresses that it covers, up to its end, and its return address register.
@@ -209,7 +161,17 @@ pub fn put_row<W: Write>(
     listing.text(b" 0x");
     listing.address(address);
     put_cfa(listing, row.cfa_rule())?;
-    put_columns(listing, row)?;
+    let mut columns = row.specified();
+    'columns: loop {
+        if let Some((register, offset)) = columns.next_offset() {
+            put_column(listing, register, &RegRule::Offset(offset))?;
+            continue;
+        }
+        let Some((register, rule)) = columns.next() else {
+            break;
+        };
+        put_column(listing, register, &rule)?;
+    }
     listing.make_room()?;
     listing.text(b"\n");
     Ok(())

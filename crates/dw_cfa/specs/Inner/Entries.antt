@@ -83,12 +83,7 @@ FirstIn end (Some r) mask place = (place ≤ r) × (r < end) × (bit_at mask r �
 abbrev pub FirstBit : Option ℕ → ℕ → ℕ → Type 0
 FirstBit first mask place = FirstIn 128 first mask place
 
--- the first register of the slots from a place on, and its slot
-abbrev pub FindsSlot : Option (ℕ × Slot) → ℕ → ℕ → List Slot → Type 0
-FindsSlot None at used near = FirstBit None used at
-FindsSlot (Some found) at used near = FirstBit (Some found.0) used at × (found.1 ≡ get_or near found.0 no_slot)
-
--- and its rule
+-- the first register of the slots from a place on
 abbrev pub FindsNear : Option (ℕ × RegRule) → ℕ → ℕ → List Slot → List (ℕ × RegRule) → Type 0
 FindsNear None at used near expressions = (far : List (ℕ × RegRule)) → listed_near at used near expressions far ≡ far
 FindsNear (Some entry) at used near expressions =

@@ -1,1 +1,0 @@
-use Rattle.dw_command.proofs.row_text.put_columns.Goals as goal
