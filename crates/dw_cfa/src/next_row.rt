@@ -29,8 +29,8 @@ pub(crate) fn go_on_row<'a>(
 {
     let code = Code::Truncated;
     let mut fault = Refusal { code, at: 0 };
+    let start = machine.location;
     'instrs: while cursor.left() > 0 {
-        let start = machine.location;
         match turn(cursor, factors, machine, true, &mut fault) {
             End::On => {}
             End::Moved => return Ok(Some(start)),
@@ -39,5 +39,5 @@ pub(crate) fn go_on_row<'a>(
         }
     }
     *progress = Progress::Finished;
-    Ok(Some(machine.location))
+    Ok(Some(start))
 }

@@ -224,7 +224,8 @@ pub(crate) fn push_move(
     push_far_move(out, from, to, target)
 }
 
-/// Appends what leads from an initial row to the one that is shown.
+/// Appends what leads from an initial row to the one that is shown. Out of line: the loop over an FDE's changes is slower beside it.
+#[inline(never)]
 pub(crate) fn push_first<'a>(
     out: &mut Vec<u8>,
     shared: &Row<'a>,
