@@ -331,29 +331,18 @@ shortest_uleb-more v big fits =
 pub shortest_uleb-ten : (v : ℕ) → v < 2 ^ 64 → length (shortest_uleb v) ≤ 10
 shortest_uleb-ten v fits = shortest_uleb-most v 9 (omega arith)
 
--- the number of a magnitude, turned over or not
-pub shortest_signed-one : (t : Bool) (m : ℕ) → m < 64 → length (shortest_sleb (as_signed t m)) ≡ 1
-unfolding shortest_sleb
-shortest_signed-one true m lt = rw (lt-ltb m 64 lt) refl
-shortest_signed-one false m lt = rw (lt-ltb m 64 lt) refl
+-- a signed number has as many groups as twice its magnitude, turned over or not
+turned_length : (t : Bool) (n k m : ℕ) → k / 2 ≡ m → length (leb_of n k) ≡ length (turned_leb t n m)
+turned_length t zero k m e = refl
+turned_length t (suc n) k m e = elim (cases_lt m 64) [
+  | inl small ↦ rw (lt-ltb m 64 small, lt-ltb k 128 (omega arith)) refl
+  | inr large ↦ rw (le-ltb m 64 large, le-ltb k 128 (omega arith)) (ap suc (turned_length t n (k / 128) (m / 128) (omega arith)))
+]
 
-turned_leb-more : (t : Bool) (m : ℕ) → 64 ≤ m → m < 2 ^ 63 → length (turned_leb t 9 m) ≡ 1 + length (turned_leb t 9 (m / 128))
-turned_leb-more t m big fits =
-    let s8 = turned_spells t 8 (m / 128) (omega arith) in
-    let s9 = turned_spells t 9 (m / 128) (omega arith) in
-    let a = turned_shortest t 9 (m / 128) (turned_leb t 8 (m / 128)) s8 in
-    let b = turned_shortest t 8 (m / 128) (turned_leb t 9 (m / 128)) s9 in
-    rw (le-ltb m 64 big) (omega (arith, a, b))
-
-pub shortest_signed-more : (t : Bool) (m : ℕ) → 64 ≤ m → m < 2 ^ 63 → length (shortest_sleb (as_signed t m)) ≡ 1 + length (shortest_sleb (as_signed t (m / 128)))
-unfolding shortest_sleb
-shortest_signed-more true m big fits = turned_leb-more true m big fits
-shortest_signed-more false m big fits = turned_leb-more false m big fits
-
-pub shortest_signed-ten : (t : Bool) (m : ℕ) → m < 2 ^ 63 → length (shortest_sleb (as_signed t m)) ≤ 10
-unfolding shortest_sleb
-shortest_signed-ten true m fits = turned_most true m 9 (omega arith)
-shortest_signed-ten false m fits = turned_most false m 9 (omega arith)
+pub signed_length : (t : Bool) (m : ℕ) → length (shortest_uleb (2 * m)) ≡ length (shortest_sleb (as_signed t m))
+unfolding shortest_uleb shortest_sleb
+signed_length true m = turned_length true 9 (2 * m) m (omega arith)
+signed_length false m = turned_length false 9 (2 * m) m (omega arith)
 
 -- what is appended as the shortest spelling is this one
 pub puts_uleb : (v : ℕ) (old new : List ℕ) → PutsUleb v old new → new ≡ old ++ shortest_uleb v
