@@ -118,6 +118,9 @@ after_register r = sleb_at r.1 >>= with_op (Breg r.0)
 abbrev pub size_in : ℕ → ℕ → ℕ × Input → Read Step
 size_in most at k = if nat_le 1 k.0 && nat_le k.0 most then with_op DerefSize k else fault BadDerefSize at
 
+abbrev pub deref_size_at : Input → Read Step
+deref_size_at i = fixed_at 1 i >>= size_in (byte_count i.target.size) i.at
+
 abbrev pub after_size : ℕ × Input → Read Step
 after_size size = uleb_at size.1 >>= with_op (BitPiece size.0)
 
@@ -140,7 +143,7 @@ operands_at opcodes.LongReg i = register_at i >>= with_op Reg
 operands_at opcodes.LongBreg i = register_at i >>= after_register
 operands_at opcodes.Fbreg i = sleb_at i >>= with_op Fbreg
 operands_at opcodes.Piece i = uleb_at i >>= with_op Piece
-operands_at opcodes.DerefSize i = fixed_at 1 i >>= size_in (byte_count i.target.size) i.at
+operands_at opcodes.DerefSize i = deref_size_at i
 operands_at opcodes.BitPiece i = uleb_at i >>= after_size
 operands_at opcodes.Implicit i = uleb_at i >>= after_length
 
