@@ -1,11 +1,11 @@
 //! The operation at the front of what is left of a block.
 
-ghost use Rattle.std.specs.Prelude.{◌≡◌, ◌+◌, ◌%◌, length};
+ghost use Rattle.std.specs.Prelude.{◌≡◌, ◌+◌, ◌%◌, ◌^◌, ◌<◌, ◌≤◌, length};
 ghost use Rattle.dw_num.specs.Inner.Front.{Gives};
 ghost use Rattle.dw_num.specs.Target.{address_limit, byte_count};
 ghost use Rattle.dw_num.specs.Fixed.{IsWidth, fixed_number};
 ghost use Rattle.dw_op.specs.Operands.{modulo};
-ghost use Rattle.dw_op.specs.Inner.FrontOp.{bare_step, width_of, half_of, top_of, signed_of, plain_op, opcode_of, allows, operands_at, deref_size_at, step_at};
+ghost use Rattle.dw_op.specs.Inner.FrontOp.{bare_step, width_of, half_of, signed_of, plain_op, opcode_of, allows, operands_at, deref_size_at, step_at};
 
 use crate::op::Op;
 use crate::profile::{Profile, is_in_frame};
@@ -193,7 +193,9 @@ fn width(count: ByteCount) -> usize
 
 // The first number whose sign bit is set.
 fn half(count: ByteCount) -> u64
-    ensures { result ≡ half_of count }
+    ensures value { result ≡ half_of count }
+    ensures some { 0 < result }
+    ensures most { result ≤ 2 ^ 63 }
 {
     match count {
         ByteCount::One => 0x80,
@@ -203,26 +205,15 @@ fn half(count: ByteCount) -> u64
     }
 }
 
-// The last number of this width.
-fn top(count: ByteCount) -> u64
-    ensures { result ≡ top_of count }
-{
-    match count {
-        ByteCount::One => 0xff,
-        ByteCount::Two => 0xffff,
-        ByteCount::Four => 0xffff_ffff,
-        ByteCount::Eight => 0xffff_ffff_ffff_ffff,
-    }
-}
-
 // A number of this width as two's complement.
 fn signed(count: ByteCount, number: u64) -> i64
     ensures { result ≡ signed_of count number }
 {
-    if number < half(count) {
+    let half = half(count);
+    if number < half {
         number as i64
     } else {
-        -1 - (top(count).saturating_sub(number) as i64)
+        -1 - ((half - 1 + half).saturating_sub(number) as i64)
     }
 }
 
