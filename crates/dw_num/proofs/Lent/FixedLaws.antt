@@ -1,11 +1,11 @@
 -- Numbers of a fixed width, and lengths, read as they are spelled.
-use Rattle.dw_num.proofs.Words.{◌≡◌, ℕ, ◌+◌, ◌^◌, ◌<◌, ◌≤◌, List, [], ◌∷◌, ◌++◌, length, take, drop, Ok, refl, sym, ap, subst, ◌∙◌, append_assoc, arith, inl, inr, get_or, cases_lt, lt-ltb, le-ltb, take-add, drop_at, take-append-drop}
+use Rattle.dw_num.proofs.Words.{◌≡◌, ℕ, ◌+◌, ◌^◌, ◌<◌, ◌≤◌, List, [], ◌∷◌, ◌++◌, length, take, drop, Ok, refl, sym, ap, subst, ◌∙◌, append_assoc, arith, inl, inr, get_or, cases_lt, lt-ltb, le-ltb, take-add, drop_at}
 use Rattle.dw_num.proofs.Words.{length-take, length-drop, length-append, get_or-take, get_or-drop, get_or_past, get_or-append-add, le_bytes_2, be_bytes_2, le_bytes_4, be_bytes_4, le_bytes_8, be_bytes_8, big_number-reads_back}
 use Rattle.dw_num.proofs.Words.{little_number-reads_back, length-bytes_high_first, length-bytes_low_first, big_from-lt, little_from-lt, Target, Order, Little, Big, byte_count, Truncated, ReservedLength, Input, AreBytes, Takes, behind}
 use Rattle.dw_num.proofs.Words.{Address, Fixed, IsWidth, fixed_bytes, fixed_number, length_bytes, LengthFits, SpellsLength, fault, fixed_at, address_at, length_of, long_length_at, unit_length_at}
 use Rattle.std.proofs.lemmas.Bool.Decides.{eqb_tells}
 use Rattle.dw_num.specs.declared.target.{UnitLength.UnitLength, Size.Size, Size.TheVariants.{Four, Eight}, Form.Form, Form.TheVariants.{Dwarf32, Dwarf64}}
-use Rattle.dw_num.proofs.Lent.LebLaws.{done, ok_is}
+use Rattle.dw_num.proofs.Lent.LebLaws.{done, ok_is, took}
 
 take-bytes : (n : ℕ) (bytes : List ℕ) → AreBytes bytes → AreBytes (take n bytes)
 take-bytes n bytes h i =
@@ -30,9 +30,9 @@ fixed_back_8 Little bytes len h = le_bytes_8 (take 8 bytes) _ (omega (arith, len
 fixed_back_8 Big bytes len h = be_bytes_8 (take 8 bytes) _ (omega (arith, length-take 8 bytes)) (take-bytes 8 bytes h)
     (omega (arith, get_or-take 8 bytes 0 0 (omega arith), get_or-take 8 bytes 1 0 (omega arith), get_or-take 8 bytes 2 0 (omega arith), get_or-take 8 bytes 3 0 (omega arith), get_or-take 8 bytes 4 0 (omega arith), get_or-take 8 bytes 5 0 (omega arith), get_or-take 8 bytes 6 0 (omega arith), get_or-take 8 bytes 7 0 (omega arith)))
 
-pub fixed_below_8 : (order : Order) (bytes : List ℕ) → AreBytes bytes → fixed_number order 8 bytes < 2 ^ 64
-fixed_below_8 Little bytes h = omega (arith, h 0, h 1, h 2, h 3, h 4, h 5, h 6, h 7)
-fixed_below_8 Big bytes h = omega (arith, h 0, h 1, h 2, h 3, h 4, h 5, h 6, h 7)
+pub fixed_below : (order : Order) (n : ℕ) (bytes : List ℕ) → AreBytes bytes → fixed_number order n bytes < 256 ^ n
+fixed_below Little n bytes h = little_from-lt 0 n bytes h
+fixed_below Big n bytes h = big_from-lt 0 n bytes h
 
 pub fixed_again : (order : Order) (n v : ℕ) (rest : List ℕ) → v < 256 ^ n → fixed_number order n (fixed_bytes order n v ++ rest) ≡ v
 fixed_again Little n v rest fits = little_number-reads_back n v rest fits
@@ -44,9 +44,6 @@ length-fixed Big n v = length-bytes_high_first n v
 
 -- ---- lengths
 
-pub took : (i : Input) (n : ℕ) → n ≤ length i.bytes → Takes i (take n i.bytes) (behind n i)
-took i n len = record { bytes = sym (take-append-drop n i.bytes); at = ap (λ (m : ℕ). i.at + m) (omega (arith, length-take n i.bytes)); target = refl }
-
 long_found_at : (i new : Input) (u : UnitLength) → fixed_number i.target.order 4 i.bytes ≡ 0xffffffff → AreBytes i.bytes → long_length_at i ≡ Ok (u, new) → (b : List ℕ) × SpellsLength i.target.order u b × Takes i b new
 long_found_at i new u ones h e = elim (cases_lt (length i.bytes) 12) [
   | inl short ↦ let k : fault {A = UnitLength × Input} Truncated i.at ≡ done (u, new) = rw (lt-ltb (length i.bytes) 12 short) at e in absurd cc
@@ -56,7 +53,7 @@ long_found_at i new u ones h e = elim (cases_lt (length i.bytes) 12) [
       let back : fixed_bytes i.target.order 8 (fixed_number i.target.order 8 (drop 4 i.bytes)) ≡ take 8 (drop 4 i.bytes) = fixed_back_8 i.target.order (drop 4 i.bytes) (omega (arith, length-drop 4 i.bytes)) (drop-bytes 4 i.bytes h) in
       let k : done (record { form = Dwarf64; length = n }, behind 12 i) ≡ done (u, new) = rw (le-ltb (length i.bytes) 12 long) at e in
       subst (λ (p : UnitLength × Input). (b : List ℕ) × SpellsLength i.target.order p.0 b × Takes i b p.1) (ok_is (record { form = Dwarf64; length = n }, behind 12 i) (u, new) k)
-      (take 12 i.bytes, record { bytes = rw (front, back) (take-add 4 8 i.bytes); fits = fixed_below_8 i.target.order (drop 4 i.bytes) (drop-bytes 4 i.bytes h) }, took i 12 long)
+      (take 12 i.bytes, record { bytes = rw (front, back) (take-add 4 8 i.bytes); fits = fixed_below i.target.order 8 (drop 4 i.bytes) (drop-bytes 4 i.bytes h) }, took i 12 long)
 ]
 
 found_at : (i new : Input) (u : UnitLength) (n : ℕ) → n ≡ fixed_number i.target.order 4 i.bytes → 4 ≤ length i.bytes → AreBytes i.bytes → length_of n i ≡ Ok (u, new) → (b : List ℕ) × SpellsLength i.target.order u b × Takes i b new
@@ -122,10 +119,6 @@ fixed_back order n bytes (inl is) len h = subst (λ (m : ℕ). fixed_bytes order
 fixed_back order n bytes (inr (inl is)) len h = subst (λ (m : ℕ). fixed_bytes order m (fixed_number order m bytes) ≡ take m bytes) (sym is) (fixed_back_2 order bytes (omega arith) h)
 fixed_back order n bytes (inr (inr (inl is))) len h = subst (λ (m : ℕ). fixed_bytes order m (fixed_number order m bytes) ≡ take m bytes) (sym is) (fixed_back_4 order bytes (omega arith) h)
 fixed_back order n bytes (inr (inr (inr is))) len h = subst (λ (m : ℕ). fixed_bytes order m (fixed_number order m bytes) ≡ take m bytes) (sym is) (fixed_back_8 order bytes (omega arith) h)
-
-pub fixed_below : (order : Order) (n : ℕ) (bytes : List ℕ) → AreBytes bytes → fixed_number order n bytes < 256 ^ n
-fixed_below Little n bytes h = little_from-lt 0 n bytes h
-fixed_below Big n bytes h = big_from-lt 0 n bytes h
 
 -- the first n bytes spell their number
 pub is_fixed : (order : Order) (n : ℕ) (bytes : List ℕ) → IsWidth n → n ≤ length bytes → AreBytes bytes → Fixed order n (fixed_number order n bytes) (take n bytes)

@@ -2,7 +2,7 @@
 use Rattle.dw_num.proofs.Words.{◌≡◌, ℕ, zero, suc, ◌+◌, if◌then◌else◌, nat_lt, ◌*◌, ◌/◌, ◌%◌, ◌^◌, ◌<◌, ◌≤◌, Bool, true, false, leb, List, [], ◌∷◌, ◌++◌, length, append-nil, append_assoc, refl, sym, ap, ◌∙◌, inl, inr, lit<, arith, ℤ, pos, negsuc, FitsSigned, w64, pow-succ'}
 use Rattle.dw_num.proofs.Words.{ints, cases_lt, lt-ltb, le-ltb, leb-true, leb-false, le-leb, lt-leb, IsLeb, groups, is_negative, Uleb, Sleb, leb_of, turned_leb, shortest_uleb, shortest_sleb, turned, PutsUleb}
 use Rattle.dw_num.proofs.Words.{PutsSleb, turned_from, as_signed}
-use Rattle.dw_num.proofs.Lent.Turned.{signed_groups-turned, turned_from-false}
+use Rattle.dw_num.proofs.{LebLemmas.turned_from-false, Lent.Turned.signed_groups-turned}
 
 -- ---- sums from the first byte on
 
