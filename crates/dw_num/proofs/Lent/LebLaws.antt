@@ -54,6 +54,10 @@ pub cond_ok : {A : Type 0} (b : Bool) (x : Result A Refusal) (r : Refusal) (y : 
 cond_ok true x r y e = (refl, e)
 cond_ok false x r y e = absurd cc
 
+pub cond_not : {A : Type 0} (b : Bool) (x : Result A Refusal) (r : Refusal) (y : A) → cond b (Err r) x ≡ done y → (b ≡ false) × (x ≡ done y)
+cond_not true x r y e = absurd cc
+cond_not false x r y e = (refl, e)
+
 pub took : (i : Input) (n : ℕ) → n ≤ length i.bytes → Takes i (take n i.bytes) (behind n i)
 took i n len = record { bytes = sym (take-append-drop n i.bytes); at = ap (λ (m : ℕ). i.at + m) (omega (arith, length-take n i.bytes)); target = refl }
 
