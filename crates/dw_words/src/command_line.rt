@@ -142,7 +142,10 @@ fn unwind<'a>(alloc: Global) -> Result<Command<'a>, AllocError>
     ensures { IfOk result (λ c. IsCommand unwind c) }
 {
     let command = subcommand(alloc, "unwind", help::UNWIND, help::AFTER_UNWIND)?;
-    let command = with_arg(command, option(alloc, "default", "same|undefined", help::DEFAULT))?;
+    let command = with_arg(
+        command,
+        option(alloc, "default", "same|undefined", help::DEFAULT),
+    )?;
     let command = with_arg(command, choice(alloc, "steps", "L", help::STEPS))?;
     let command = with_arg(command, operand(alloc, "FILE", true, help::FILE))?;
     with_arg(command, operand(alloc, "DUMP", true, help::DUMP))
