@@ -1,7 +1,6 @@
 //! Expressions in their least spelling.
 
-ghost use Rattle.std.specs.Prelude.{◌≡◌, ◌<◌, ◌^◌, ◌++◌, ◌-ℤ◌, length, take, pos, FitsSigned, OnOk};
-ghost use Rattle.std.specs.Int.{w16, cast_unsigned};
+ghost use Rattle.std.specs.Prelude.{◌≡◌, ◌<◌, ◌^◌, ◌++◌, length, take, OnOk};
 ghost use Rattle.dw_op.specs.Block.{branch_target};
 ghost use Rattle.dw_op.specs.Expression.{bare};
 ghost use Rattle.dw_op.specs.Inner.Accepted.{IsAccepted, ops_of};
