@@ -71,6 +71,7 @@ pub(crate) fn turned(t: u64, size: Size) -> u64
 }
 
 /// The signed quotient, toward zero. The least number by -1 is itself.
+#[tactic(auto, using(crate::proofs::Signed::nonzero))]
 pub(crate) fn quotient(s: u64, t: u64, size: Size) -> u64
     requires { 0 < t % address_limit size }
     ensures { result ≡ modulo (address_limit size) (int_div (signed size s) (signed size t)) }

@@ -3,8 +3,8 @@
 ghost use Rattle.std.specs.Prelude.{◌≡◌};
 ghost use Rattle.dw_eval.specs.Kinds.{kind_entry};
 
-use std::error::Error;
 use std::fmt;
+use thiserror::Error;
 
 /// What is wrong.
 #[derive(Clone, Copy, Debug, PartialEq, Eq)]
@@ -92,22 +92,13 @@ impl fmt::Display for Kind {
 }
 
 /// Why an evaluation has no answer.
-#[derive(Clone, Copy, Debug, PartialEq, Eq)]
+#[derive(Clone, Copy, Debug, PartialEq, Eq, Error)]
 pub enum EvalError {
     /// A fault. `kind` is what is wrong; `index` is that of the operation which it comes from, counted from 0, or the list's
     /// length for a fault at the end.
+    #[error("{kind} at operation {index}")]
     Fault { kind: Kind, index: usize },
     /// A request for memory was refused.
+    #[error("out of memory")]
     OutOfMemory,
 }
-
-impl fmt::Display for EvalError {
-    fn fmt<W: fmt::Write>(&self, f: &mut fmt::Formatter<W>) -> fmt::Result {
-        match self {
-            EvalError::Fault { kind, index } => write!(f, "{kind} at operation {index}"),
-            EvalError::OutOfMemory => write!(f, "out of memory"),
-        }
-    }
-}
-
-impl Error for EvalError {}

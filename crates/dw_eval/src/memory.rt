@@ -4,28 +4,18 @@ ghost use Rattle.std.specs.Prelude.{◌≡◌, ℕ, ◌<◌, ◌≤◌, ◌-◌,
 ghost use Rattle.dw_eval.specs.Bytes.{number_in_memory};
 
 use dw_num::Order;
-use std::error::Error;
-use std::fmt;
+use thiserror::Error;
 
 /// Why a read has no answer.
-#[derive(Clone, Copy, Debug, PartialEq, Eq)]
+#[derive(Clone, Copy, Debug, PartialEq, Eq, Error)]
 pub enum ReadFault {
     /// A byte is missing.
+    #[error("a byte is missing")]
     Unreadable,
     /// The device failed.
+    #[error("the device failed")]
     Device,
 }
-
-impl fmt::Display for ReadFault {
-    fn fmt<W: fmt::Write>(&self, f: &mut fmt::Formatter<W>) -> fmt::Result {
-        match self {
-            ReadFault::Unreadable => write!(f, "a byte is missing"),
-            ReadFault::Device => write!(f, "the device failed"),
-        }
-    }
-}
-
-impl Error for ReadFault {}
 
 /// Bytes by their addresses, and a count of how often the device failed. A read changes no byte.
 pub trait Memory {

@@ -31,21 +31,7 @@ impl Model for Registers {
     ghost invariant = { λ r. PlacesSo r.known r.values r.far.items r.end };
 }
 
-// What a register holds that has a place.
-#[inline(always)]
-fn near_value(known: &[bool; 128], values: &[u64; 128], index: usize) -> Option<u64>
-    requires known { length known.now ≡ 128 }
-    requires values { length values.now ≡ 128 }
-    requires near { index < 128 }
-    ensures { result ≡ near_held known.now values.now index }
-{
-    if known[index] {
-        return Some(values[index]);
-    }
-    None
-}
-
-// And one that has none.
+// What a register holds that has no place.
 fn far_value(far: &Vec<Option<u64>>, place: usize) -> Option<u64>
     ensures { result ≡ held far.now.items place }
 {
@@ -53,6 +39,7 @@ fn far_value(far: &Vec<Option<u64>>, place: usize) -> Option<u64>
 }
 
 // And any one.
+#[tactic(auto, unfolding(crate::specs::Inner::Registers::any_held))]
 #[inline(always)]
 fn value_of(
     known: &[bool; 128],
@@ -65,10 +52,13 @@ fn value_of(
     ensures { result ≡ any_held known.now values.now far.now.items register }
 {
     let index = usize::from(register);
-    if index < NEAR {
-        return near_value(known, values, index);
+    if index >= NEAR {
+        return far_value(far, index - NEAR);
     }
-    far_value(far, index - NEAR)
+    if known[index] {
+        return Some(values[index]);
+    }
+    None
 }
 
 // Lets a register that has a place hold a value.

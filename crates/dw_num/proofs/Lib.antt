@@ -1,5 +1,3 @@
 mod Words
 pub mod LebLemmas
-pub mod Groups
-pub mod SignedGroups
 pub mod Lent

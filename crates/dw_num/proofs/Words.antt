@@ -6,8 +6,8 @@ pub use Rattle.dw_num.specs.{Front.{Read, Reads, fault, fits_signed, leb_len, le
 pub use Rattle.dw_num.specs.{Leb.{IsLeb, Register, Sleb, Uleb, groups, groups_from, is_negative, last_byte, signed_groups}, Shortest.{leb_of, turned, turned_leb}, ShortestLeb.{PutsSleb, PutsUleb}, Target.byte_count}
 pub use Rattle.dw_num.specs.declared.{refusal.Code.TheVariants.{NumberTooLarge, RegisterTooLarge, ReservedLength, Truncated}, refusal.Refusal.Refusal, target.Order.Order, target.Order.TheVariants.{Big, Little}, target.Target.Target}
 pub use Rattle.dw_num.specs.Inner.Scan.{IsTotal, as_signed, further, turned_from}
-pub use Rattle.std.proofs.Common.{Bool, Err, FitsSigned, IfOk, List, None, Ok, Option, Result, Some, SomeIff, [], add-one, add-zero, add_assoc, ap, append-nil, append_assoc, arith, cond, drop, drop-cons, drop_at, false, get_or}
-pub use Rattle.std.proofs.Common.{get_or-append-add, get_or-drop, get_or-take, inl, inr, le-leb, le-ltb, leb, leb-false, leb-true, length, length-append, length-drop, length-take, lit<, lt-ltb, nat_lt, negsuc, of_z, pos, pow-add, pow-suc}
+pub use Rattle.std.proofs.Common.{Bool, Err, FitsSigned, IfOk, List, None, Ok, Option, Result, Some, SomeIff, [], add-one, add-zero, add_assoc, ap, append-nil, append_assoc, arith, cond, drop, drop-cons, drop_at, false, get_or, if◌then◌else◌}
+pub use Rattle.std.proofs.Common.{get_or-append-add, get_or-drop, get_or-take, inl, inr, le-leb, le-ltb, leb, leb-false, leb-true, length, length-append, length-drop, length-take, lit<, lt-ltb, ltb-false, ltb-true, nat_lt, negsuc, of_z, pos, pow-add, pow-suc}
 pub use Rattle.std.proofs.Common.{refl, subst, suc, sym, take, take-add, take-append-drop, to_z, true, w64, zero, zero-add, ℕ, ℤ, ◌%◌, ◌*◌, ◌++◌, ◌+◌, ◌-ℤ◌, ◌-◌, ◌/◌, ◌<◌, ◌==◌, ◌^◌, ◌∙◌, ◌∷◌, ◌≡◌, ◌≤◌, ◌⊎◌}
 pub use Rattle.std.proofs.{Math.Nat.{pow-le-pow_right, pow-succ'}, lemmas.Bool.{cases_Bool, cases_lt, lt-leb}, lemmas.Grind.pow_more, lemmas.Int.ints, lemmas.List.{get_or_past, take_more}}
 pub use Rattle.std.proofs.lemmas.Nat.{be_bytes_2, be_bytes_4, be_bytes_8, le_bytes_2, le_bytes_4, le_bytes_8, mul-le, shl_whole}

@@ -1,7 +1,6 @@
 //! Reading numbers from a slice, from its front on.
 
 ghost use Rattle.std.specs.Prelude.{◌≡◌, ℕ, ℤ, ◌+◌, ◌<◌, ◌≤◌, ◌^◌, List, [], ◌∷◌, ◌++◌, length, IfOk};
-ghost use Rattle.byteorder.specs.Endian.{big_number, little_number};
 ghost use Rattle.dw_num.specs.Input.{Input, AreBytes, Takes, behind};
 ghost use Rattle.dw_num.specs.Fixed.{Address, Fixed, IsWidth, SpellsLength, fixed_number};
 ghost use Rattle.dw_num.specs.Leb.{Register, Sleb, Uleb};
@@ -23,35 +22,19 @@ pub fn are_bytes(bytes: &[u8])
     let _ = bytes;
 }
 
+// The number that the first n bytes spell in one order.
 #[inline(always)]
-fn little_in(bytes: &[u8], n: usize) -> u64
+fn ordered_in<B: ByteOrder>(bytes: &[u8], n: usize) -> u64
     requires some { 1 ≤ n }
     requires most { n ≤ 8 }
     requires room { n ≤ length bytes.now }
-    ensures { result ≡ little_number n bytes.now }
+    ensures { result ≡ B.number_of n bytes.now }
 {
     match n {
-        1 => u64::from(bytes[0]),
-        2 => u64::from(LittleEndian::read_u16(bytes)),
-        4 => u64::from(LittleEndian::read_u32(bytes)),
-        8 => LittleEndian::read_u64(bytes),
-        _ => LittleEndian::read_uint(bytes, n),
-    }
-}
-
-#[inline(always)]
-fn big_in(bytes: &[u8], n: usize) -> u64
-    requires some { 1 ≤ n }
-    requires most { n ≤ 8 }
-    requires room { n ≤ length bytes.now }
-    ensures { result ≡ big_number n bytes.now }
-{
-    match n {
-        1 => u64::from(bytes[0]),
-        2 => u64::from(BigEndian::read_u16(bytes)),
-        4 => u64::from(BigEndian::read_u32(bytes)),
-        8 => BigEndian::read_u64(bytes),
-        _ => BigEndian::read_uint(bytes, n),
+        2 => u64::from(B::read_u16(bytes)),
+        4 => u64::from(B::read_u32(bytes)),
+        8 => B::read_u64(bytes),
+        _ => B::read_uint(bytes, n),
     }
 }
 
@@ -63,9 +46,12 @@ fn number_in(order: Order, bytes: &[u8], n: usize) -> u64
     requires room { n ≤ length bytes.now }
     ensures { result ≡ fixed_number order n bytes.now }
 {
+    if n == 1 {
+        return u64::from(bytes[0]);
+    }
     match order {
-        Order::Little => little_in(bytes, n),
-        Order::Big => big_in(bytes, n),
+        Order::Little => ordered_in::<LittleEndian>(bytes, n),
+        Order::Big => ordered_in::<BigEndian>(bytes, n),
     }
 }
 

@@ -5,28 +5,18 @@ ghost use Rattle.dw_num.specs.declared.error.ReadError.TheVariants.{OutOfMemory,
 
 use crate::refusal::Refusal;
 use std::alloc::{AllocError, AllocFailed};
-use std::error::Error;
-use std::fmt;
+use thiserror::Error;
 
 /// Why a block, a program or a section has no answer.
-#[derive(Clone, Copy, Debug, PartialEq, Eq)]
+#[derive(Clone, Copy, Debug, PartialEq, Eq, Error)]
 pub enum ReadError {
     /// The first fault, and its place.
+    #[error("{0}")]
     Refused(Refusal),
     /// A request for memory was refused.
+    #[error("out of memory")]
     OutOfMemory,
 }
-
-impl fmt::Display for ReadError {
-    fn fmt<W: fmt::Write>(&self, f: &mut fmt::Formatter<W>) -> fmt::Result {
-        match self {
-            ReadError::Refused(refusal) => write!(f, "{refusal}"),
-            ReadError::OutOfMemory => write!(f, "out of memory"),
-        }
-    }
-}
-
-impl Error for ReadError {}
 
 impl From<Refusal> for ReadError {
     ghost from_gives = { λ r e. e ≡ Refused r };

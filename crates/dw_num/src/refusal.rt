@@ -3,8 +3,8 @@
 ghost use Rattle.std.specs.Prelude.{◌≡◌};
 ghost use Rattle.dw_num.specs.Codes.{code_entry};
 
-use std::error::Error;
 use std::fmt;
+use thiserror::Error;
 
 /// What is wrong. Fields are named as in 6.4.1, instructions as in 6.4.2. N is the number of bits of an address.
 #[derive(Clone, Copy, Debug, PartialEq, Eq)]
@@ -150,18 +150,11 @@ impl fmt::Display for Code {
 }
 
 /// A fault, and the byte that it is found at: a place in the section, or in the block where a block alone was given.
-#[derive(Clone, Copy, Debug, PartialEq, Eq)]
+#[derive(Clone, Copy, Debug, PartialEq, Eq, Error)]
+#[error("{code} at byte {at}")]
 pub struct Refusal {
     /// What is wrong.
     pub code: Code,
     /// The place of the byte.
     pub at: u64,
 }
-
-impl fmt::Display for Refusal {
-    fn fmt<W: fmt::Write>(&self, f: &mut fmt::Formatter<W>) -> fmt::Result {
-        write!(f, "{} at byte {}", self.code, self.at)
-    }
-}
-
-impl Error for Refusal {}

@@ -1,7 +1,6 @@
 -- How the code keeps what the contracts say. No clause of a `pub fn` reaches these.
 pub mod Codes
 pub mod LeastOf
-pub mod ByOpcode
 pub mod ByOperation
 pub mod Steps
 pub mod Windows

@@ -60,10 +60,7 @@ fn index(places: &[u64], place: u64) -> Option<usize>
     requires { Rises 0 places.now }
     ensures { result ≡ place_index places.now place }
 {
-    match places.binary_search(&place) {
-        Ok(index) => Some(index),
-        Err(_) => None,
-    }
+    places.binary_search(&place).ok()
 }
 
 // A branch to this operation.

@@ -8,6 +8,7 @@ ghost use Rattle.dw_op.specs.Expression.{bare};
 ghost use Rattle.dw_op.specs.Inner.LeastOf.{spelling, address, operand_bytes, spelling_bytes, least_bytes, constant, long_constant, longest_constant, register_form, register_offset, least_spelling};
 
 use crate::op::Op;
+use crate::operation::last_address;
 use dw_num::{Order, Size, Target, put_fixed, put_sleb, put_uleb, sleb_len, uleb_len};
 use std::alloc::AllocError;
 
@@ -114,10 +115,7 @@ fn constant<'a>(value: u64, under: u64) -> Spelling<'a>
 fn under_limit(value: u64, size: Size) -> u64
     ensures { result ≡ address_limit size - 1 - value }
 {
-    match size {
-        Size::Four => 0xffff_ffff_u64.saturating_sub(value),
-        Size::Eight => 0xffff_ffff_ffff_ffff_u64.saturating_sub(value),
-    }
+    last_address(size).saturating_sub(value)
 }
 
 fn address<'a>(value: u64, size: Size) -> Spelling<'a>

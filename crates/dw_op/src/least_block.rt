@@ -15,30 +15,18 @@ use crate::list::OpList;
 use crate::op::Op;
 use dw_num::Target;
 use std::alloc::{AllocError, AllocFailed, Global};
-use std::error::Error;
-use std::fmt;
+use thiserror::Error;
 
 /// Why a list of operations is not encoded.
-#[derive(Clone, Copy, Debug, PartialEq, Eq)]
+#[derive(Clone, Copy, Debug, PartialEq, Eq, Error)]
 pub enum EncodeError {
     /// The displacement of a branch does not fit 16 signed bits. `index` is the branch's in the list, counted from 0.
+    #[error("BranchTooFar at operation {index}")]
     BranchTooFar { index: usize },
     /// Memory ran out.
+    #[error("out of memory")]
     OutOfMemory,
 }
-
-impl fmt::Display for EncodeError {
-    fn fmt<W: fmt::Write>(&self, f: &mut fmt::Formatter<W>) -> fmt::Result {
-        match self {
-            EncodeError::BranchTooFar { index } => {
-                write!(f, "BranchTooFar at operation {index}")
-            }
-            EncodeError::OutOfMemory => write!(f, "out of memory"),
-        }
-    }
-}
-
-impl Error for EncodeError {}
 
 impl<T: Drop> From<AllocFailed<T>> for EncodeError {
     ghost use Rattle.std.specs.Prelude.{◌≡◌};

@@ -1,7 +1,6 @@
 //! Expressions in their least spelling.
 
-ghost use Rattle.std.specs.Prelude.{◌≡◌, ◌<◌, ◌^◌, ◌++◌, ◌-ℤ◌, length, take, pos, FitsSigned, OnOk};
-ghost use Rattle.std.specs.Int.{w16, cast_unsigned};
+ghost use Rattle.std.specs.Prelude.{◌≡◌, ◌<◌, ◌^◌, ◌++◌, length, take, OnOk};
 ghost use Rattle.dw_op.specs.Block.{branch_target};
 ghost use Rattle.dw_op.specs.Expression.{bare};
 ghost use Rattle.dw_op.specs.Inner.Accepted.{IsAccepted, ops_of};
@@ -10,7 +9,7 @@ ghost use Rattle.dw_op.specs.Inner.Sums.{IsNear, bits_to};
 
 use crate::expression::OpSteps;
 use crate::least::{op_least_len, put_op};
-use crate::least_block::branch_target;
+use crate::least_block::{branch_target, displacement_bits};
 use crate::op::Op;
 use crate::walk::{Measure, Walker};
 use dw_num::{Target, are_bytes};
@@ -28,25 +27,13 @@ pub(crate) fn steps_len(mut steps: OpSteps<'_>, target: Target) -> usize
     total
 }
 
-// The sixteen bits of a displacement that fits them.
-fn bits_between(from: usize, to: usize) -> u16
-    requires { FitsSigned w16 (pos to -ℤ pos from) }
-    ensures { result ≡ cast_unsigned w16 (pos to -ℤ pos from) }
-{
-    if from <= to {
-        (to - from) as u16
-    } else {
-        (0x1_0000 - (from - to)) as u16
-    }
-}
-
 // The sixteen bits of the displacement of a branch that ends here and has where it goes, 0 for another operation.
 fn branch_bits(end: usize, op: &Op<'_>) -> u16
     requires { IsNear end (branch_target (bare op.now)) }
     ensures { result ≡ bits_to end (branch_target (bare op.now)) }
 {
     match branch_target(op) {
-        Some(start) => bits_between(end, start),
+        Some(start) => displacement_bits(end, start).unwrap_or(0),
         None => 0,
     }
 }

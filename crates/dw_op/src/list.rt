@@ -8,10 +8,10 @@ ghost use Rattle.dw_op.specs.Inner.Ranges.{Fits};
 
 use crate::equality::same_ops;
 use crate::op::{Op, are_typed};
+use crate::operation::last_address;
 use dw_num::{Size, Target};
-use std::error::Error;
-use std::fmt;
 use std::marker::Model;
+use thiserror::Error;
 
 /// Operations of a DWARF expression (2.5) or of a location description (2.6) for a target, which are in range for it:
 /// constants (`Op::Const`) and addresses (`DW_OP_addr`) below 2^N, where an address has N bits (2.5.1.1); the sizes of
@@ -37,37 +37,24 @@ impl<'a> Model for OpList<'a> {
 }
 
 /// The first operation of a list that is out of range.
-#[derive(Clone, Copy, Debug, PartialEq, Eq)]
+#[derive(Clone, Copy, Debug, PartialEq, Eq, Error)]
+#[error("BadOperand at operation {index}")]
 pub struct BadOperand {
     /// Its index in the list, counted from 0.
     pub index: usize,
 }
 
-impl fmt::Display for BadOperand {
-    fn fmt<W: fmt::Write>(&self, f: &mut fmt::Formatter<W>) -> fmt::Result {
-        write!(f, "BadOperand at operation {}", self.index)
-    }
-}
-
-impl Error for BadOperand {}
-
 // Whether a number is an address.
 fn is_address(number: u64, size: Size) -> bool
     ensures { IsTrue result ↔ number < address_limit size }
 {
-    match size {
-        Size::Four => number < 0x1_0000_0000,
-        Size::Eight => true,
-    }
+    number <= last_address(size)
 }
 
 fn is_access_size(bytes: u8, size: Size) -> bool
     ensures { IsTrue result ↔ (1 ≤ bytes) × (bytes ≤ byte_count size) }
 {
-    match size {
-        Size::Four => 1 <= bytes && bytes <= 4,
-        Size::Eight => 1 <= bytes && bytes <= 8,
-    }
+    1 <= bytes && bytes <= size.byte_count()
 }
 
 // Whether what the types leave open is in range.

@@ -1,12 +1,11 @@
 //! The operation at the front of what is left of a block.
 
-ghost use Rattle.std.specs.Prelude.{◌≡◌, ◌+◌, ◌%◌, length};
+ghost use Rattle.std.specs.Prelude.{◌≡◌, ◌+◌, ◌%◌, ◌^◌, ◌<◌, ◌≤◌, length};
 ghost use Rattle.dw_num.specs.Inner.Front.{Gives};
 ghost use Rattle.dw_num.specs.Target.{address_limit, byte_count};
 ghost use Rattle.dw_num.specs.Fixed.{IsWidth, fixed_number};
 ghost use Rattle.dw_op.specs.Operands.{modulo};
-ghost use Rattle.dw_op.specs.Inner.FrontOp.{bare_step, width_of, half_of, top_of, signed_of, plain_op, opcode_of, allows, operands_at, step_at};
-ghost use Rattle.dw_op.specs.Inner.ByOpcode.{address_step, unsigned_step, signed_step, uconst_step, sconst_step, pick_step, plus_step, jump_step, breg_step, long_reg_step, long_breg_step, fbreg_step, piece_step, deref_size_step, bit_piece_step, implicit_step};
+ghost use Rattle.dw_op.specs.Inner.FrontOp.{bare_step, width_of, half_of, signed_of, plain_op, opcode_of, allows, operands_at, deref_size_at, step_at};
 
 use crate::op::Op;
 use crate::profile::{Profile, is_in_frame};
@@ -164,7 +163,7 @@ fn reduced(size: Size, number: u64) -> u64
 }
 
 // The last number that is an address.
-fn last_address(size: Size) -> u64
+pub(crate) fn last_address(size: Size) -> u64
     ensures { result + 1 ≡ address_limit size }
 {
     match size {
@@ -177,11 +176,7 @@ fn last_address(size: Size) -> u64
 fn wrapped(size: Size, number: i64) -> u64
     ensures { result ≡ modulo (address_limit size) number }
 {
-    if number < 0 {
-        last_address(size) - reduced(size, (-1 - number) as u64)
-    } else {
-        reduced(size, number as u64)
-    }
+    reduced(size, number.cast_unsigned())
 }
 
 fn width(count: ByteCount) -> usize
@@ -198,7 +193,9 @@ fn width(count: ByteCount) -> usize
 
 // The first number whose sign bit is set.
 fn half(count: ByteCount) -> u64
-    ensures { result ≡ half_of count }
+    ensures value { result ≡ half_of count }
+    ensures some { 0 < result }
+    ensures most { result ≤ 2 ^ 63 }
 {
     match count {
         ByteCount::One => 0x80,
@@ -208,26 +205,15 @@ fn half(count: ByteCount) -> u64
     }
 }
 
-// The last number of this width.
-fn top(count: ByteCount) -> u64
-    ensures { result ≡ top_of count }
-{
-    match count {
-        ByteCount::One => 0xff,
-        ByteCount::Two => 0xffff,
-        ByteCount::Four => 0xffff_ffff,
-        ByteCount::Eight => 0xffff_ffff_ffff_ffff,
-    }
-}
-
 // A number of this width as two's complement.
 fn signed(count: ByteCount, number: u64) -> i64
     ensures { result ≡ signed_of count number }
 {
-    if number < half(count) {
+    let half = half(count);
+    if number < half {
         number as i64
     } else {
-        -1 - (top(count).saturating_sub(number) as i64)
+        -1 - ((half - 1 + half).saturating_sub(number) as i64)
     }
 }
 
@@ -246,118 +232,9 @@ fn two_bytes(order: Order, bytes: &[u8]) -> u16
 
 // ---- operands
 
-#[tactic(auto, unfolding(crate::specs::Inner::ByOpcode::address_step))]
-fn read_address<'a>(cursor: &mut Cursor<'a>) -> Result<Step<'a>, Refusal>
-    ensures { Gives bare_step result (address_step cursor.old) cursor.new }
-{
-    let address = cursor.address()?;
-    Ok(Step::Plain(Op::Addr(address)))
-}
-
-#[tactic(auto, unfolding(crate::specs::Inner::ByOpcode::unsigned_step))]
-fn read_unsigned<'a>(cursor: &mut Cursor<'a>, count: ByteCount) -> Result<Step<'a>, Refusal>
-    ensures { Gives bare_step result (unsigned_step count cursor.old) cursor.new }
-{
-    let size = cursor.target().size;
-    let number = cursor.fixed(width(count))?;
-    Ok(Step::Plain(Op::Const(reduced(size, number))))
-}
-
-#[tactic(auto, unfolding(crate::specs::Inner::ByOpcode::signed_step))]
-fn read_signed<'a>(cursor: &mut Cursor<'a>, count: ByteCount) -> Result<Step<'a>, Refusal>
-    ensures { Gives bare_step result (signed_step count cursor.old) cursor.new }
-{
-    let size = cursor.target().size;
-    let number = cursor.fixed(width(count))?;
-    Ok(Step::Plain(Op::Const(wrapped(size, signed(count, number)))))
-}
-
-#[tactic(auto, unfolding(crate::specs::Inner::ByOpcode::uconst_step))]
-fn read_uconst<'a>(cursor: &mut Cursor<'a>) -> Result<Step<'a>, Refusal>
-    ensures { Gives bare_step result (uconst_step cursor.old) cursor.new }
-{
-    let size = cursor.target().size;
-    let number = cursor.uleb()?;
-    Ok(Step::Plain(Op::Const(reduced(size, number))))
-}
-
-#[tactic(auto, unfolding(crate::specs::Inner::ByOpcode::sconst_step))]
-fn read_sconst<'a>(cursor: &mut Cursor<'a>) -> Result<Step<'a>, Refusal>
-    ensures { Gives bare_step result (sconst_step cursor.old) cursor.new }
-{
-    let size = cursor.target().size;
-    let number = cursor.sleb()?;
-    Ok(Step::Plain(Op::Const(wrapped(size, number))))
-}
-
-#[tactic(auto, unfolding(crate::specs::Inner::ByOpcode::pick_step))]
-fn read_pick<'a>(cursor: &mut Cursor<'a>) -> Result<Step<'a>, Refusal>
-    ensures { Gives bare_step result (pick_step cursor.old) cursor.new }
-{
-    let entry = cursor.byte()?;
-    Ok(Step::Plain(Op::Pick(entry)))
-}
-
-#[tactic(auto, unfolding(crate::specs::Inner::ByOpcode::plus_step))]
-fn read_plus<'a>(cursor: &mut Cursor<'a>) -> Result<Step<'a>, Refusal>
-    ensures { Gives bare_step result (plus_step cursor.old) cursor.new }
-{
-    let number = cursor.uleb()?;
-    Ok(Step::Plain(Op::PlusUconst(number)))
-}
-
-#[tactic(auto, unfolding(crate::specs::Inner::ByOpcode::jump_step))]
-fn read_jump<'a>(cursor: &mut Cursor<'a>, branch: Branch) -> Result<Step<'a>, Refusal>
-    ensures { Gives bare_step result (jump_step branch cursor.old) cursor.new }
-{
-    let order = cursor.target().order;
-    let bytes = cursor.take(2)?;
-    Ok(Step::Jump(branch, two_bytes(order, bytes)))
-}
-
-#[tactic(auto, unfolding(crate::specs::Inner::ByOpcode::breg_step))]
-fn read_breg<'a>(cursor: &mut Cursor<'a>, register: u16) -> Result<Step<'a>, Refusal>
-    ensures { Gives bare_step result (breg_step register cursor.old) cursor.new }
-{
-    let offset = cursor.sleb()?;
-    Ok(Step::Plain(Op::Breg(register, offset)))
-}
-
-#[tactic(auto, unfolding(crate::specs::Inner::ByOpcode::long_reg_step))]
-fn read_long_reg<'a>(cursor: &mut Cursor<'a>) -> Result<Step<'a>, Refusal>
-    ensures { Gives bare_step result (long_reg_step cursor.old) cursor.new }
-{
-    let register = cursor.register()?;
-    Ok(Step::Plain(Op::Reg(register)))
-}
-
-#[tactic(auto, unfolding(crate::specs::Inner::ByOpcode::long_breg_step, crate::specs::Inner::ByOpcode::breg_step))]
-fn read_long_breg<'a>(cursor: &mut Cursor<'a>) -> Result<Step<'a>, Refusal>
-    ensures { Gives bare_step result (long_breg_step cursor.old) cursor.new }
-{
-    let register = cursor.register()?;
-    read_breg(cursor, register)
-}
-
-#[tactic(auto, unfolding(crate::specs::Inner::ByOpcode::fbreg_step))]
-fn read_fbreg<'a>(cursor: &mut Cursor<'a>) -> Result<Step<'a>, Refusal>
-    ensures { Gives bare_step result (fbreg_step cursor.old) cursor.new }
-{
-    let offset = cursor.sleb()?;
-    Ok(Step::Plain(Op::Fbreg(offset)))
-}
-
-#[tactic(auto, unfolding(crate::specs::Inner::ByOpcode::piece_step))]
-fn read_piece<'a>(cursor: &mut Cursor<'a>) -> Result<Step<'a>, Refusal>
-    ensures { Gives bare_step result (piece_step cursor.old) cursor.new }
-{
-    let size = cursor.uleb()?;
-    Ok(Step::Plain(Op::Piece(size)))
-}
-
-#[tactic(auto, unfolding(crate::specs::Inner::ByOpcode::deref_size_step))]
+// A size is from 1 to that of an address.
 fn read_deref_size<'a>(cursor: &mut Cursor<'a>) -> Result<Step<'a>, Refusal>
-    ensures { Gives bare_step result (deref_size_step cursor.old) cursor.new }
+    ensures { Gives bare_step result (deref_size_at cursor.old) cursor.new }
 {
     let at = cursor.at();
     let most = cursor.target().size.byte_count();
@@ -372,46 +249,45 @@ fn read_deref_size<'a>(cursor: &mut Cursor<'a>) -> Result<Step<'a>, Refusal>
     }
 }
 
-#[tactic(auto, unfolding(crate::specs::Inner::ByOpcode::bit_piece_step))]
-fn read_bit_piece<'a>(cursor: &mut Cursor<'a>) -> Result<Step<'a>, Refusal>
-    ensures { Gives bare_step result (bit_piece_step cursor.old) cursor.new }
-{
-    let size = cursor.uleb()?;
-    let offset = cursor.uleb()?;
-    Ok(Step::Plain(Op::BitPiece(size, offset)))
-}
-
-#[tactic(auto, unfolding(crate::specs::Inner::ByOpcode::implicit_step))]
-fn read_implicit<'a>(cursor: &mut Cursor<'a>) -> Result<Step<'a>, Refusal>
-    ensures { Gives bare_step result (implicit_step cursor.old) cursor.new }
-{
-    let len = cursor.uleb()?;
-    let block = cursor.take(len as usize)?;
-    Ok(Step::Plain(Op::Implicit(block)))
-}
-
-#[tactic(auto, unfolding(crate::specs::Inner::FrontOp::operands_at, crate::specs::Inner::ByOpcode::address_step, crate::specs::Inner::ByOpcode::unsigned_step, crate::specs::Inner::ByOpcode::signed_step, crate::specs::Inner::ByOpcode::uconst_step, crate::specs::Inner::ByOpcode::sconst_step, crate::specs::Inner::ByOpcode::pick_step, crate::specs::Inner::ByOpcode::plus_step, crate::specs::Inner::ByOpcode::jump_step, crate::specs::Inner::ByOpcode::breg_step, crate::specs::Inner::ByOpcode::long_reg_step, crate::specs::Inner::ByOpcode::long_breg_step, crate::specs::Inner::ByOpcode::fbreg_step, crate::specs::Inner::ByOpcode::piece_step, crate::specs::Inner::ByOpcode::deref_size_step, crate::specs::Inner::ByOpcode::bit_piece_step, crate::specs::Inner::ByOpcode::implicit_step))]
+#[tactic(auto, unfolding(crate::specs::Inner::FrontOp::operands_at))]
 fn operands<'a>(cursor: &mut Cursor<'a>, opcode: Opcode<'a>) -> Result<Step<'a>, Refusal>
     ensures { Gives bare_step result (operands_at opcode.entry cursor.old) cursor.new }
 {
+    let size = cursor.target().size;
+    let order = cursor.target().order;
     match opcode {
         Opcode::Alone(op) => Ok(Step::Plain(op)),
-        Opcode::Addr => read_address(cursor),
-        Opcode::Unsigned(count) => read_unsigned(cursor, count),
-        Opcode::Signed(count) => read_signed(cursor, count),
-        Opcode::Uconst => read_uconst(cursor),
-        Opcode::Sconst => read_sconst(cursor),
-        Opcode::Pick => read_pick(cursor),
-        Opcode::PlusUconst => read_plus(cursor),
-        Opcode::Jump(branch) => read_jump(cursor, branch),
-        Opcode::Breg(register) => read_breg(cursor, register),
-        Opcode::LongReg => read_long_reg(cursor),
-        Opcode::LongBreg => read_long_breg(cursor),
-        Opcode::Fbreg => read_fbreg(cursor),
-        Opcode::Piece => read_piece(cursor),
+        Opcode::Addr => Ok(Step::Plain(Op::Addr(cursor.address()?))),
+        Opcode::Unsigned(count) => {
+            let number = cursor.fixed(width(count))?;
+            Ok(Step::Plain(Op::Const(reduced(size, number))))
+        }
+        Opcode::Signed(count) => {
+            let number = cursor.fixed(width(count))?;
+            Ok(Step::Plain(Op::Const(wrapped(size, signed(count, number)))))
+        }
+        Opcode::Uconst => Ok(Step::Plain(Op::Const(reduced(size, cursor.uleb()?)))),
+        Opcode::Sconst => Ok(Step::Plain(Op::Const(wrapped(size, cursor.sleb()?)))),
+        Opcode::Pick => Ok(Step::Plain(Op::Pick(cursor.byte()?))),
+        Opcode::PlusUconst => Ok(Step::Plain(Op::PlusUconst(cursor.uleb()?))),
+        Opcode::Jump(branch) => Ok(Step::Jump(branch, two_bytes(order, cursor.take(2)?))),
+        Opcode::Breg(register) => Ok(Step::Plain(Op::Breg(register, cursor.sleb()?))),
+        Opcode::LongReg => Ok(Step::Plain(Op::Reg(cursor.register()?))),
+        Opcode::LongBreg => {
+            let register = cursor.register()?;
+            Ok(Step::Plain(Op::Breg(register, cursor.sleb()?)))
+        }
+        Opcode::Fbreg => Ok(Step::Plain(Op::Fbreg(cursor.sleb()?))),
+        Opcode::Piece => Ok(Step::Plain(Op::Piece(cursor.uleb()?))),
         Opcode::DerefSize => read_deref_size(cursor),
-        Opcode::BitPiece => read_bit_piece(cursor),
-        Opcode::Implicit => read_implicit(cursor),
+        Opcode::BitPiece => {
+            let size = cursor.uleb()?;
+            Ok(Step::Plain(Op::BitPiece(size, cursor.uleb()?)))
+        }
+        Opcode::Implicit => {
+            let len = cursor.uleb()?;
+            Ok(Step::Plain(Op::Implicit(cursor.take(len as usize)?)))
+        }
     }
 }
 

@@ -1,6 +1,5 @@
 mod Words
 mod Digits
-mod Commands
 mod AllRead
 mod Rows
 mod Subcommands

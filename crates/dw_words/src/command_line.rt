@@ -1,7 +1,7 @@
 //! The command line as `clap` reads it, with its texts of help.
 
-ghost use Rattle.std.specs.Prelude.{◌≡◌, IfOk};
-ghost use Rattle.clap.specs.Words.{app_of};
+ghost use Rattle.std.specs.Prelude.{◌≡◌, IfOk, false};
+ghost use Rattle.clap.specs.Words.{app_of, rule_of, with_rule};
 ghost use Rattle.clap.specs.declared.builder.command.Command.TheViews.{out-Command};
 ghost use Rattle.dw_words.specs.CommandLine.{flag, operand, operands, program};
 ghost use Rattle.dw_words.specs.Inner.CommandLine.{IsArg, IsCommand, asked, at, choice, eval, expr, needed, normal, over_file, same, subcommand, subcommand_named, unwind, with_subcommands};
@@ -77,6 +77,15 @@ fn described<'a>(command: Command<'a>, about: &'a str, after: &'a str) -> Comman
     command.about(about).after_help(after)
 }
 
+// A command with one more argument.
+fn with_arg<'a>(command: Command<'a>, arg: Arg<'a>) -> Result<Command<'a>, AllocError>
+    requires { arg.global ≡ false }
+    ensures app { IfOk result (λ c. app_of c ≡ with_rule (app_of command.entry) (rule_of arg.entry)) }
+    ensures local { IfOk result (λ c. (out-Command c).has_globals ≡ (out-Command command.entry).has_globals) }
+{
+    command.arg(arg)
+}
+
 // A subcommand with the options that each of them has.
 fn subcommand<'a>(
     alloc: Global,
@@ -86,9 +95,9 @@ fn subcommand<'a>(
 ) -> Result<Command<'a>, AllocError>
     ensures { IfOk result (λ c. IsCommand (subcommand name.entry.now) c) }
 {
-    described(Command::new(alloc, name), about, after)
-        .arg(option(alloc, "size", "4|8", help::SIZE))?
-        .arg(option(alloc, "order", "little|big", help::ORDER))
+    let command = described(Command::new(alloc, name), about, after);
+    let command = with_arg(command, option(alloc, "size", "4|8", help::SIZE))?;
+    with_arg(command, option(alloc, "order", "little|big", help::ORDER))
 }
 
 // A subcommand over one file.
@@ -100,60 +109,61 @@ fn over_file<'a>(
 ) -> Result<Command<'a>, AllocError>
     ensures { IfOk result (λ c. IsCommand (over_file name.entry.now) c) }
 {
-    subcommand(alloc, name, about, after)?.arg(operand(alloc, "FILE", true, help::FILE))
+    let command = subcommand(alloc, name, about, after)?;
+    with_arg(command, operand(alloc, "FILE", true, help::FILE))
 }
 
 fn at<'a>(alloc: Global) -> Result<Command<'a>, AllocError>
     ensures { IfOk result (λ c. IsCommand at c) }
 {
-    over_file(alloc, "at", help::AT, help::AFTER_AT)?.arg(operands(alloc, "ADDRESS", help::ADDRESS))
+    let command = over_file(alloc, "at", help::AT, help::AFTER_AT)?;
+    with_arg(command, operands(alloc, "ADDRESS", help::ADDRESS))
 }
 
 fn expr<'a>(alloc: Global) -> Result<Command<'a>, AllocError>
     ensures { IfOk result (λ c. IsCommand expr c) }
 {
-    subcommand(alloc, "expr", help::EXPR, help::AFTER_EXPR)?
-        .arg(flag(alloc, "frame", help::FRAME))?
-        .arg(operand(alloc, "HEX", true, help::HEX))
+    let command = subcommand(alloc, "expr", help::EXPR, help::AFTER_EXPR)?;
+    let command = with_arg(command, flag(alloc, "frame", help::FRAME))?;
+    with_arg(command, operand(alloc, "HEX", true, help::HEX))
 }
 
 fn eval<'a>(alloc: Global) -> Result<Command<'a>, AllocError>
     ensures { IfOk result (λ c. IsCommand eval c) }
 {
-    subcommand(alloc, "eval", help::EVAL, help::AFTER_EVAL)?
-        .arg(choice(alloc, "steps", "L", help::STEPS))?
-        .arg(choice(alloc, "start", "0xV", help::START))?
-        .arg(operand(alloc, "HEX", true, help::HEX))?
-        .arg(operand(alloc, "DUMP", false, help::DUMP_OF_EVAL))
+    let command = subcommand(alloc, "eval", help::EVAL, help::AFTER_EVAL)?;
+    let command = with_arg(command, choice(alloc, "steps", "L", help::STEPS))?;
+    let command = with_arg(command, choice(alloc, "start", "0xV", help::START))?;
+    let command = with_arg(command, operand(alloc, "HEX", true, help::HEX))?;
+    with_arg(command, operand(alloc, "DUMP", false, help::DUMP_OF_EVAL))
 }
 
 fn unwind<'a>(alloc: Global) -> Result<Command<'a>, AllocError>
     ensures { IfOk result (λ c. IsCommand unwind c) }
 {
-    subcommand(alloc, "unwind", help::UNWIND, help::AFTER_UNWIND)?
-        .arg(option(alloc, "default", "same|undefined", help::DEFAULT))?
-        .arg(choice(alloc, "steps", "L", help::STEPS))?
-        .arg(operand(alloc, "FILE", true, help::FILE))?
-        .arg(operand(alloc, "DUMP", true, help::DUMP))
+    let command = subcommand(alloc, "unwind", help::UNWIND, help::AFTER_UNWIND)?;
+    let command = with_arg(
+        command,
+        option(alloc, "default", "same|undefined", help::DEFAULT),
+    )?;
+    let command = with_arg(command, choice(alloc, "steps", "L", help::STEPS))?;
+    let command = with_arg(command, operand(alloc, "FILE", true, help::FILE))?;
+    with_arg(command, operand(alloc, "DUMP", true, help::DUMP))
 }
 
 fn normal<'a>(alloc: Global) -> Result<Command<'a>, AllocError>
     ensures { IfOk result (λ c. IsCommand normal c) }
 {
-    subcommand(alloc, "normal", help::NORMAL, help::AFTER_NORMAL)?
-        .arg(choice(alloc, "cap", "L", help::CAP))?
-        .arg(operand(alloc, "FILE", true, help::FILE))
+    let command = subcommand(alloc, "normal", help::NORMAL, help::AFTER_NORMAL)?;
+    let command = with_arg(command, choice(alloc, "cap", "L", help::CAP))?;
+    with_arg(command, operand(alloc, "FILE", true, help::FILE))
 }
 
 fn same<'a>(alloc: Global) -> Result<Command<'a>, AllocError>
     ensures { IfOk result (λ c. IsCommand same c) }
 {
-    over_file(alloc, "same", help::SAME, help::AFTER_SAME)?.arg(operand(
-        alloc,
-        "FILE2",
-        true,
-        help::FILE2,
-    ))
+    let command = over_file(alloc, "same", help::SAME, help::AFTER_SAME)?;
+    with_arg(command, operand(alloc, "FILE2", true, help::FILE2))
 }
 
 fn subcommand_named<'a>(alloc: Global, name: Name) -> Result<Command<'a>, AllocError>

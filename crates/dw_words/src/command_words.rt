@@ -1,9 +1,10 @@
 //! What the words of a command line ask for.
 
-ghost use Rattle.std.specs.Prelude.{◌≡◌, ◌≤◌, [], IfOk, IfSome, map, option_map, string_bytes};
+ghost use Rattle.std.specs.Prelude.{◌≡◌, ◌≤◌, [], IfErr, IfOk, IfSome, None, Some, map, option_map, string_bytes};
 ghost use Rattle.clap.specs.Words.{all_of, first_of, found_of, rows_of};
 ghost use Rattle.dw_words.specs.Plan.{Planned, is_help};
 ghost use Rattle.dw_words.specs.Values.{address, all_read};
+ghost use Rattle.dw_words.specs.declared.request.PlanError.TheVariants.{BadValue};
 ghost use Rattle.dw_words.specs.declared.request.Name.TheVariants.{At, Check, Eval, Expr, Normal, Same, Unwind};
 ghost use Rattle.dw_words.specs.Inner.Plan.{Answers, FromFault, Given, GivenAt, IsSupplied, addresses_in, asked_by, at_in, block_in, cap_in, default_in, eval_in, expr_in, file_in, name_of, normal_in, options, own, profile_in, run_held, run_in, same_in, start_in, steps_in, target_in, task_held, task_in, unwind_in};
 
@@ -34,6 +35,17 @@ fn texts_of<'m, 'a>(matches: &'m ArgMatches<'a>, id: &str) -> Option<&'m [&'a st
     ensures { option_map (λ texts. map (λ s. s.now) texts.now) result ≡ all_of id.now (rows_of (found_of matches.now)) }
 {
     matches.get_strs(id)
+}
+
+// What has to be there, or the name of the option or operand whose value is bad.
+fn needed<T>(value: Option<T>, name: &'static str) -> Result<T, PlanError>
+    ensures ok { IfOk result (λ x. value ≡ Some x) }
+    ensures err { IfErr result (λ e. (value ≡ None) × (e ≡ BadValue name.entry)) }
+{
+    match value {
+        Some(value) => Ok(value),
+        None => Err(PlanError::BadValue(name)),
+    }
 }
 
 fn name_of(text: &str) -> Option<Name>
@@ -118,9 +130,7 @@ fn profile_in(matches: &ArgMatches<'_>) -> Option<Profile>
 fn block_in(alloc: Global, matches: &ArgMatches<'_>) -> Result<Vec<u8>, PlanError>
     ensures { Answers (rows_of (found_of matches.now)) (Given (own Eval)) block_in (λ bytes. bytes.items) result }
 {
-    let Some(text) = text_of(matches, "HEX") else {
-        return Err(PlanError::BadValue("HEX"));
-    };
+    let text = needed(text_of(matches, "HEX"), "HEX")?;
     match block_of(alloc, text) {
         Ok(block) => Ok(block),
         Err(FromHexError::OutOfMemory) => Err(PlanError::OutOfMemory),
@@ -166,12 +176,8 @@ fn at_in<'a>(alloc: Global, matches: &ArgMatches<'a>, size: Size) -> Result<Task
 fn eval_in<'a>(alloc: Global, matches: &ArgMatches<'a>, size: Size) -> Result<Task<'a>, PlanError>
     ensures { Answers (rows_of (found_of matches.now)) (GivenAt size (own Eval)) (eval_in size) task_held result }
 {
-    let Some(steps) = steps_in(matches) else {
-        return Err(PlanError::BadValue("--steps"));
-    };
-    let Some(start) = start_in(matches, size) else {
-        return Err(PlanError::BadValue("--start"));
-    };
+    let steps = needed(steps_in(matches), "--steps")?;
+    let start = needed(start_in(matches, size), "--start")?;
     let block = block_in(alloc, matches)?;
     let dump = text_of(matches, "DUMP");
     Ok(Task::Eval(Evaluation {
@@ -185,9 +191,7 @@ fn eval_in<'a>(alloc: Global, matches: &ArgMatches<'a>, size: Size) -> Result<Ta
 fn expr_in<'a>(alloc: Global, matches: &ArgMatches<'a>) -> Result<Task<'a>, PlanError>
     ensures { Answers (rows_of (found_of matches.now)) (Given (own Expr)) expr_in task_held result }
 {
-    let Some(profile) = profile_in(matches) else {
-        return Err(PlanError::BadValue("--frame"));
-    };
+    let profile = needed(profile_in(matches), "--frame")?;
     let block = block_in(alloc, matches)?;
     Ok(Task::Expr { profile, block })
 }
@@ -195,42 +199,26 @@ fn expr_in<'a>(alloc: Global, matches: &ArgMatches<'a>) -> Result<Task<'a>, Plan
 fn normal_in<'a>(matches: &ArgMatches<'a>) -> Result<Task<'a>, PlanError>
     ensures { Answers (rows_of (found_of matches.now)) (Given (own Normal)) normal_in task_held result }
 {
-    let Some(cap) = cap_in(matches) else {
-        return Err(PlanError::BadValue("--cap"));
-    };
-    let Some(path) = text_of(matches, "FILE") else {
-        return Err(PlanError::BadValue("FILE"));
-    };
+    let cap = needed(cap_in(matches), "--cap")?;
+    let path = needed(text_of(matches, "FILE"), "FILE")?;
     Ok(Task::Normal(Writing { cap, path }))
 }
 
 fn same_in<'a>(matches: &ArgMatches<'a>) -> Result<Task<'a>, PlanError>
     ensures { Answers (rows_of (found_of matches.now)) (Given (own Same)) same_in task_held result }
 {
-    let Some(path) = text_of(matches, "FILE") else {
-        return Err(PlanError::BadValue("FILE"));
-    };
-    let Some(other) = text_of(matches, "FILE2") else {
-        return Err(PlanError::BadValue("FILE2"));
-    };
+    let path = needed(text_of(matches, "FILE"), "FILE")?;
+    let other = needed(text_of(matches, "FILE2"), "FILE2")?;
     Ok(Task::Same { path, other })
 }
 
 fn unwind_in<'a>(matches: &ArgMatches<'a>) -> Result<Task<'a>, PlanError>
     ensures { Answers (rows_of (found_of matches.now)) (Given (own Unwind)) unwind_in task_held result }
 {
-    let Some(steps) = steps_in(matches) else {
-        return Err(PlanError::BadValue("--steps"));
-    };
-    let Some(default) = default_in(matches) else {
-        return Err(PlanError::BadValue("--default"));
-    };
-    let Some(path) = text_of(matches, "FILE") else {
-        return Err(PlanError::BadValue("FILE"));
-    };
-    let Some(dump) = text_of(matches, "DUMP") else {
-        return Err(PlanError::BadValue("DUMP"));
-    };
+    let steps = needed(steps_in(matches), "--steps")?;
+    let default = needed(default_in(matches), "--default")?;
+    let path = needed(text_of(matches, "FILE"), "FILE")?;
+    let dump = needed(text_of(matches, "DUMP"), "DUMP")?;
     Ok(Task::Unwind(Unwinding {
         default,
         steps,
@@ -242,10 +230,7 @@ fn unwind_in<'a>(matches: &ArgMatches<'a>) -> Result<Task<'a>, PlanError>
 fn path_in<'a>(matches: &ArgMatches<'a>) -> Result<&'a str, PlanError>
     ensures { Answers (rows_of (found_of matches.now)) (Given (own Check)) file_in (λ path. path.now) result }
 {
-    match text_of(matches, "FILE") {
-        Some(path) => Ok(path),
-        None => Err(PlanError::BadValue("FILE")),
-    }
+    needed(text_of(matches, "FILE"), "FILE")
 }
 
 fn task_in<'a>(
@@ -282,9 +267,7 @@ fn task_in<'a>(
 fn run_in<'a>(alloc: Global, text: &str, matches: &ArgMatches<'a>) -> Result<Job<'a>, PlanError>
     ensures { Answers (rows_of (found_of matches.now)) (IsSupplied text.now) (run_in text.now) run_held result }
 {
-    let Some(name) = name_of(text) else {
-        return Err(PlanError::BadValue("the subcommand"));
-    };
+    let name = needed(name_of(text), "the subcommand")?;
     let target = target_in(matches)?;
     let task = task_in(alloc, name, target.size, matches)?;
     Ok(Job { target, task })

@@ -7,8 +7,7 @@ use dw_eval::Policy;
 use dw_num::Target;
 use dw_op::Profile;
 use std::alloc::AllocError;
-use std::error::Error;
-use std::fmt;
+use thiserror::Error;
 
 /// What is asked for.
 pub enum Request<'a> {
@@ -122,27 +121,18 @@ pub struct Unwinding<'a> {
 }
 
 /// Why there is no plan.
-#[derive(Debug, Drop)]
+#[derive(Debug, Drop, Error)]
 pub enum PlanError {
     /// The value of an option or an operand, by its name, is none that it may have.
+    #[error("bad value for {0}")]
     BadValue(&'static str),
     /// The words are none of the command's.
+    #[error("{0}")]
     Words(clap::Error),
     /// A request for memory was refused.
+    #[error("out of memory")]
     OutOfMemory,
 }
-
-impl fmt::Display for PlanError {
-    fn fmt<W: fmt::Write>(&self, f: &mut fmt::Formatter<W>) -> fmt::Result {
-        match self {
-            PlanError::BadValue(name) => write!(f, "bad value for {name}"),
-            PlanError::Words(error) => write!(f, "{error}"),
-            PlanError::OutOfMemory => write!(f, "out of memory"),
-        }
-    }
-}
-
-impl Error for PlanError {}
 
 impl From<AllocError> for PlanError {
     ghost from_gives = { λ _ e. e ≡ OutOfMemory };

@@ -92,6 +92,7 @@ fn scanned(base: u8, text: &[u8]) -> Option<u64>
 }
 
 // The number of the digits, unless it passes 64 bits.
+#[tactic(auto, using(crate::proofs::Digits::number_is))]
 fn number_of(base: u8, text: &[u8]) -> Option<u64>
     requires base { 0 < base }
     ensures { result ≡ option_and_then (below 18446744073709551616) (number_behind base 0 text.now) }

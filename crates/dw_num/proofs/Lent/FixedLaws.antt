@@ -1,11 +1,11 @@
 -- Numbers of a fixed width, and lengths, read as they are spelled.
-use Rattle.dw_num.proofs.Words.{◌≡◌, ℕ, ◌+◌, ◌^◌, ◌<◌, ◌≤◌, List, [], ◌∷◌, ◌++◌, length, take, drop, Ok, refl, sym, ap, subst, ◌∙◌, append_assoc, arith, inl, inr, get_or, cases_lt, lt-ltb, le-ltb, take-add, drop_at, take-append-drop}
+use Rattle.dw_num.proofs.Words.{◌≡◌, ℕ, ◌+◌, ◌^◌, ◌<◌, ◌≤◌, List, [], ◌∷◌, ◌++◌, length, take, drop, Ok, refl, sym, ap, subst, ◌∙◌, append_assoc, arith, inl, inr, get_or, cases_lt, lt-ltb, le-ltb, ltb-false, nat_lt, take-add, drop_at}
 use Rattle.dw_num.proofs.Words.{length-take, length-drop, length-append, get_or-take, get_or-drop, get_or_past, get_or-append-add, le_bytes_2, be_bytes_2, le_bytes_4, be_bytes_4, le_bytes_8, be_bytes_8, big_number-reads_back}
-use Rattle.dw_num.proofs.Words.{little_number-reads_back, length-bytes_high_first, length-bytes_low_first, big_from-lt, little_from-lt, Target, Order, Little, Big, byte_count, Truncated, ReservedLength, Input, AreBytes, Takes, behind}
+use Rattle.dw_num.proofs.Words.{little_number-reads_back, length-bytes_high_first, length-bytes_low_first, big_from-lt, little_from-lt, Target, Order, Little, Big, byte_count, ReservedLength, Input, AreBytes, Takes, behind}
 use Rattle.dw_num.proofs.Words.{Address, Fixed, IsWidth, fixed_bytes, fixed_number, length_bytes, LengthFits, SpellsLength, fault, fixed_at, address_at, length_of, long_length_at, unit_length_at}
 use Rattle.std.proofs.lemmas.Bool.Decides.{eqb_tells}
 use Rattle.dw_num.specs.declared.target.{UnitLength.UnitLength, Size.Size, Size.TheVariants.{Four, Eight}, Form.Form, Form.TheVariants.{Dwarf32, Dwarf64}}
-use Rattle.dw_num.proofs.Lent.LebLaws.{done, ok_is}
+use Rattle.dw_num.proofs.Lent.LebLaws.{cond_not, done, ok_is, took}
 
 take-bytes : (n : ℕ) (bytes : List ℕ) → AreBytes bytes → AreBytes (take n bytes)
 take-bytes n bytes h i =
@@ -30,9 +30,9 @@ fixed_back_8 Little bytes len h = le_bytes_8 (take 8 bytes) _ (omega (arith, len
 fixed_back_8 Big bytes len h = be_bytes_8 (take 8 bytes) _ (omega (arith, length-take 8 bytes)) (take-bytes 8 bytes h)
     (omega (arith, get_or-take 8 bytes 0 0 (omega arith), get_or-take 8 bytes 1 0 (omega arith), get_or-take 8 bytes 2 0 (omega arith), get_or-take 8 bytes 3 0 (omega arith), get_or-take 8 bytes 4 0 (omega arith), get_or-take 8 bytes 5 0 (omega arith), get_or-take 8 bytes 6 0 (omega arith), get_or-take 8 bytes 7 0 (omega arith)))
 
-pub fixed_below_8 : (order : Order) (bytes : List ℕ) → AreBytes bytes → fixed_number order 8 bytes < 2 ^ 64
-fixed_below_8 Little bytes h = omega (arith, h 0, h 1, h 2, h 3, h 4, h 5, h 6, h 7)
-fixed_below_8 Big bytes h = omega (arith, h 0, h 1, h 2, h 3, h 4, h 5, h 6, h 7)
+pub fixed_below : (order : Order) (n : ℕ) (bytes : List ℕ) → AreBytes bytes → fixed_number order n bytes < 256 ^ n
+fixed_below Little n bytes h = little_from-lt 0 n bytes h
+fixed_below Big n bytes h = big_from-lt 0 n bytes h
 
 pub fixed_again : (order : Order) (n v : ℕ) (rest : List ℕ) → v < 256 ^ n → fixed_number order n (fixed_bytes order n v ++ rest) ≡ v
 fixed_again Little n v rest fits = little_number-reads_back n v rest fits
@@ -44,20 +44,15 @@ length-fixed Big n v = length-bytes_high_first n v
 
 -- ---- lengths
 
-pub took : (i : Input) (n : ℕ) → n ≤ length i.bytes → Takes i (take n i.bytes) (behind n i)
-took i n len = record { bytes = sym (take-append-drop n i.bytes); at = ap (λ (m : ℕ). i.at + m) (omega (arith, length-take n i.bytes)); target = refl }
-
 long_found_at : (i new : Input) (u : UnitLength) → fixed_number i.target.order 4 i.bytes ≡ 0xffffffff → AreBytes i.bytes → long_length_at i ≡ Ok (u, new) → (b : List ℕ) × SpellsLength i.target.order u b × Takes i b new
-long_found_at i new u ones h e = elim (cases_lt (length i.bytes) 12) [
-  | inl short ↦ let k : fault {A = UnitLength × Input} Truncated i.at ≡ done (u, new) = rw (lt-ltb (length i.bytes) 12 short) at e in absurd cc
-  | inr long ↦
-      let n = fixed_number i.target.order 8 (drop 4 i.bytes) in
-      let front : fixed_bytes i.target.order 4 0xffffffff ≡ take 4 i.bytes = rw ones at (fixed_back_4 i.target.order i.bytes (omega arith) h) in
-      let back : fixed_bytes i.target.order 8 (fixed_number i.target.order 8 (drop 4 i.bytes)) ≡ take 8 (drop 4 i.bytes) = fixed_back_8 i.target.order (drop 4 i.bytes) (omega (arith, length-drop 4 i.bytes)) (drop-bytes 4 i.bytes h) in
-      let k : done (record { form = Dwarf64; length = n }, behind 12 i) ≡ done (u, new) = rw (le-ltb (length i.bytes) 12 long) at e in
-      subst (λ (p : UnitLength × Input). (b : List ℕ) × SpellsLength i.target.order p.0 b × Takes i b p.1) (ok_is (record { form = Dwarf64; length = n }, behind 12 i) (u, new) k)
-      (take 12 i.bytes, record { bytes = rw (front, back) (take-add 4 8 i.bytes); fits = fixed_below_8 i.target.order (drop 4 i.bytes) (drop-bytes 4 i.bytes h) }, took i 12 long)
-]
+long_found_at i new u ones h e =
+    let k = cond_not (nat_lt (length i.bytes) 12) _ _ (u, new) e in
+    let long = ltb-false (length i.bytes) 12 k.0 in
+    let n = fixed_number i.target.order 8 (drop 4 i.bytes) in
+    let front : fixed_bytes i.target.order 4 0xffffffff ≡ take 4 i.bytes = rw ones at (fixed_back_4 i.target.order i.bytes (omega arith) h) in
+    let back : fixed_bytes i.target.order 8 (fixed_number i.target.order 8 (drop 4 i.bytes)) ≡ take 8 (drop 4 i.bytes) = fixed_back_8 i.target.order (drop 4 i.bytes) (omega (arith, length-drop 4 i.bytes)) (drop-bytes 4 i.bytes h) in
+    subst (λ (p : UnitLength × Input). (b : List ℕ) × SpellsLength i.target.order p.0 b × Takes i b p.1) (ok_is (record { form = Dwarf64; length = n }, behind 12 i) (u, new) k.1)
+    (take 12 i.bytes, record { bytes = rw (front, back) (take-add 4 8 i.bytes); fits = fixed_below i.target.order 8 (drop 4 i.bytes) (drop-bytes 4 i.bytes h) }, took i 12 long)
 
 found_at : (i new : Input) (u : UnitLength) (n : ℕ) → n ≡ fixed_number i.target.order 4 i.bytes → 4 ≤ length i.bytes → AreBytes i.bytes → length_of n i ≡ Ok (u, new) → (b : List ℕ) × SpellsLength i.target.order u b × Takes i b new
 found_at i new u n n-is len h e = elim (cases_lt n 0xfffffff0) [
@@ -73,10 +68,9 @@ found_at i new u n n-is len h e = elim (cases_lt n 0xfffffff0) [
 
 pub unit_length_found : (i new : Input) (u : UnitLength) → AreBytes i.bytes → unit_length_at i ≡ Ok (u, new) → (b : List ℕ) × SpellsLength i.target.order u b × Takes i b new
 unfolding unit_length_at
-unit_length_found i new u h e = elim (cases_lt (length i.bytes) 4) [
-  | inl short ↦ let k : fault {A = UnitLength × Input} Truncated i.at ≡ done (u, new) = rw (lt-ltb (length i.bytes) 4 short) at e in absurd cc
-  | inr long ↦ found_at i new u (fixed_number i.target.order 4 i.bytes) refl long h (rw (le-ltb (length i.bytes) 4 long) at e)
-]
+unit_length_found i new u h e =
+    let k = cond_not (nat_lt (length i.bytes) 4) _ _ (u, new) e in
+    found_at i new u (fixed_number i.target.order 4 i.bytes) refl (ltb-false (length i.bytes) 4 k.0) h k.1
 
 length_again : (at : ℕ) (target : Target) (form : Form) (n : ℕ) (rest : List ℕ) → LengthFits form n → unit_length_at (record { at = at; bytes = length_bytes target.order form n ++ rest; target = target }) ≡ Ok (record { form = form; length = n }, record { at = at + length (length_bytes target.order form n); bytes = rest; target = target })
 unfolding unit_length_at
@@ -123,23 +117,17 @@ fixed_back order n bytes (inr (inl is)) len h = subst (λ (m : ℕ). fixed_bytes
 fixed_back order n bytes (inr (inr (inl is))) len h = subst (λ (m : ℕ). fixed_bytes order m (fixed_number order m bytes) ≡ take m bytes) (sym is) (fixed_back_4 order bytes (omega arith) h)
 fixed_back order n bytes (inr (inr (inr is))) len h = subst (λ (m : ℕ). fixed_bytes order m (fixed_number order m bytes) ≡ take m bytes) (sym is) (fixed_back_8 order bytes (omega arith) h)
 
-pub fixed_below : (order : Order) (n : ℕ) (bytes : List ℕ) → AreBytes bytes → fixed_number order n bytes < 256 ^ n
-fixed_below Little n bytes h = little_from-lt 0 n bytes h
-fixed_below Big n bytes h = big_from-lt 0 n bytes h
-
 -- the first n bytes spell their number
 pub is_fixed : (order : Order) (n : ℕ) (bytes : List ℕ) → IsWidth n → n ≤ length bytes → AreBytes bytes → Fixed order n (fixed_number order n bytes) (take n bytes)
 is_fixed order n bytes width len h = record { bytes = sym (fixed_back order n bytes width len h); fits = fixed_below order n bytes h }
 
 pub fixed_found : (n : ℕ) (i new : Input) (v : ℕ) → IsWidth n → AreBytes i.bytes → fixed_at n i ≡ Ok (v, new) → (b : List ℕ) × Fixed i.target.order n v b × Takes i b new
 unfolding fixed_at
-fixed_found n i new v w h e = elim (cases_lt (length i.bytes) n) [
-  | inl short ↦ let k : fault {A = ℕ × Input} Truncated i.at ≡ done (v, new) = rw (lt-ltb (length i.bytes) n short) at e in absurd cc
-  | inr long ↦
-      let k : done (fixed_number i.target.order n i.bytes, behind n i) ≡ done (v, new) = rw (le-ltb (length i.bytes) n long) at e in
-      subst (λ (p : ℕ × Input). (b : List ℕ) × Fixed i.target.order n p.0 b × Takes i b p.1) (ok_is (fixed_number i.target.order n i.bytes, behind n i) (v, new) k)
-      (take n i.bytes, is_fixed i.target.order n i.bytes w long h, took i n long)
-]
+fixed_found n i new v w h e =
+    let k = cond_not (nat_lt (length i.bytes) n) _ _ (v, new) e in
+    let long = ltb-false (length i.bytes) n k.0 in
+    subst (λ (p : ℕ × Input). (b : List ℕ) × Fixed i.target.order n p.0 b × Takes i b p.1) (ok_is (fixed_number i.target.order n i.bytes, behind n i) (v, new) k.1)
+    (take n i.bytes, is_fixed i.target.order n i.bytes w long h, took i n long)
 
 pub fixed_at_again : (n at : ℕ) (target : Target) (v : ℕ) (b rest : List ℕ) → Fixed target.order n v b → fixed_at n (record { at = at; bytes = b ++ rest; target = target }) ≡ Ok (v, record { at = at + length b; bytes = rest; target = target })
 unfolding fixed_at
@@ -185,10 +173,7 @@ byte_at_again at target v rest = rw (le-ltb (length (v ∷ rest)) 1 (omega arith
 
 pub byte_found : (i new : Input) (v : ℕ) → fixed_at 1 i ≡ Ok (v, new) → Takes i (v ∷ []) new
 unfolding fixed_at
-byte_found i new v e = elim (cases_lt (length i.bytes) 1) [
-  | inl short ↦ let k : fault {A = ℕ × Input} Truncated i.at ≡ done (v, new) = rw (lt-ltb (length i.bytes) 1 short) at e in absurd cc
-  | inr long ↦
-      let k : done (fixed_number i.target.order 1 i.bytes, behind 1 i) ≡ done (v, new) = rw (le-ltb (length i.bytes) 1 long) at e in
-      subst (λ (p : ℕ × Input). Takes i (p.0 ∷ []) p.1) (ok_is (fixed_number i.target.order 1 i.bytes, behind 1 i) (v, new) k)
-      (record { bytes = rw (one_byte i.target.order i.bytes) (front_byte i.bytes long); at = refl; target = refl })
-]
+byte_found i new v e =
+    let k = cond_not (nat_lt (length i.bytes) 1) _ _ (v, new) e in
+    subst (λ (p : ℕ × Input). Takes i (p.0 ∷ []) p.1) (ok_is (fixed_number i.target.order 1 i.bytes, behind 1 i) (v, new) k.1)
+    (record { bytes = rw (one_byte i.target.order i.bytes) (front_byte i.bytes (ltb-false (length i.bytes) 1 k.0)); at = refl; target = refl })

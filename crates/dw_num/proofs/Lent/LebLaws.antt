@@ -1,14 +1,14 @@
 -- Reading a LEB from the front of a list, and the spellings of a number.
-use Rattle.dw_num.proofs.Words.{◌≡◌, ℕ, suc, ◌+◌, ◌^◌, ◌<◌, ◌≤◌, List, [], ◌∷◌, ◌++◌, length, take, Option, Some, None, Result, Ok, Err, refl, sym, ap, subst, ◌∙◌, arith, inl, inr, IfOk, cases_lt, lt-ltb, le-ltb, drop_at, take-append-drop}
-use Rattle.dw_num.proofs.Words.{length-take, Target, Refusal, Input, AreBytes, Takes, behind, IsLeb, groups, Register, Uleb, leb_len, uleb_of, uleb_at, register_of, register_at, fault, Read, Reads, ◌>>=◌, further, NumberTooLarge}
-use Rattle.dw_num.proofs.Words.{RegisterTooLarge}
+use Rattle.dw_num.proofs.Words.{◌≡◌, ℕ, suc, ◌+◌, ◌^◌, ◌<◌, ◌≤◌, List, [], ◌∷◌, ◌++◌, length, take, Option, Some, None, Result, Ok, Err, refl, sym, ap, subst, ◌∙◌, arith, inl, inr, IfOk, cases_lt, lt-ltb, le-ltb, ltb-true, drop_at, take-append-drop}
+use Rattle.dw_num.proofs.Words.{length-take, Target, Refusal, Input, AreBytes, Takes, behind, IsLeb, groups, Register, Uleb, leb_len, uleb_of, uleb_at, register_of, register_at, Read, Reads, ◌>>=◌, further}
+use Rattle.dw_num.proofs.Words.{Bool, true, false, cond, nat_lt}
 use Rattle.std.proofs.lemmas.List.{take_at}
 
 IsLeb-cons : (x : ℕ) (bs : List ℕ) → 128 ≤ x → x < 256 → IsLeb bs → IsLeb (x ∷ bs)
 IsLeb-cons x [] big byte h = absurd h
 IsLeb-cons x (b ∷ bs) big byte h = (big, byte, h)
 
-further_some : (o : Option ℕ) (n : ℕ) → further 1 o ≡ Some n → (m : ℕ) × (o ≡ Some m) × (n ≡ suc m)
+pub further_some : (o : Option ℕ) (n : ℕ) → further 1 o ≡ Some n → (m : ℕ) × (o ≡ Some m) × (n ≡ suc m)
 further_some None n e = absurd cc
 further_some (Some m) n e = let k : 1 + m ≡ n = cc in (m, refl, omega arith)
 
@@ -50,19 +50,24 @@ done x = Ok x
 pub ok_is : {A : Type 0} (x y : A) → done x ≡ done y → x ≡ y
 ok_is x y e = cc
 
+pub cond_ok : {A : Type 0} (b : Bool) (x : Result A Refusal) (r : Refusal) (y : A) → cond b x (Err r) ≡ done y → (b ≡ true) × (x ≡ done y)
+cond_ok true x r y e = (refl, e)
+cond_ok false x r y e = absurd cc
+
+pub cond_not : {A : Type 0} (b : Bool) (x : Result A Refusal) (r : Refusal) (y : A) → cond b (Err r) x ≡ done y → (b ≡ false) × (x ≡ done y)
+cond_not true x r y e = absurd cc
+cond_not false x r y e = (refl, e)
+
+pub took : (i : Input) (n : ℕ) → n ≤ length i.bytes → Takes i (take n i.bytes) (behind n i)
+took i n len = record { bytes = sym (take-append-drop n i.bytes); at = ap (λ (m : ℕ). i.at + m) (omega (arith, length-take n i.bytes)); target = refl }
+
 found_at : (o : Option ℕ) (i new : Input) (v : ℕ) → AreBytes i.bytes → leb_len i.bytes ≡ o → uleb_of o i ≡ Ok (v, new) → (b : List ℕ) × Uleb v b × Takes i b new
 found_at None i new v are e h = absurd cc
-found_at (Some n) i new v are e h = elim (cases_lt (groups (take n i.bytes)) (2 ^ 64)) [
-  | inl fits ↦
-      let front = leb_len-front i.bytes n are e in
-      let k : done (groups (take n i.bytes), behind n i) ≡ done (v, new) = rw (lt-ltb (groups (take n i.bytes)) (2 ^ 64) fits) at h in
-      subst (λ (p : ℕ × Input). (b : List ℕ) × Uleb p.0 b × Takes i b p.1) (ok_is (groups (take n i.bytes), behind n i) (v, new) k) (
-        take n i.bytes,
-        record { shape = front.0; value = refl; fits = fits },
-        record { bytes = sym (take-append-drop n i.bytes); at = ap (λ (m : ℕ). i.at + m) (omega (arith, length-take n i.bytes, front.1)); target = refl },
-      )
-  | inr big ↦ let k : fault {A = ℕ × Input} NumberTooLarge i.at ≡ done (v, new) = rw (le-ltb (groups (take n i.bytes)) (2 ^ 64) big) at h in absurd cc
-]
+found_at (Some n) i new v are e h =
+    let front = leb_len-front i.bytes n are e in
+    let k = cond_ok (nat_lt (groups (take n i.bytes)) (2 ^ 64)) (done (groups (take n i.bytes), behind n i)) _ (v, new) h in
+    subst (λ (p : ℕ × Input). (b : List ℕ) × Uleb p.0 b × Takes i b p.1) (ok_is (groups (take n i.bytes), behind n i) (v, new) k.1)
+    (take n i.bytes, record { shape = front.0; value = refl; fits = ltb-true _ _ k.0 }, took i n front.1)
 
 pub uleb_found : (i new : Input) (v : ℕ) → AreBytes i.bytes → uleb_at i ≡ Ok (v, new) → (b : List ℕ) × Uleb v b × Takes i b new
 unfolding uleb_at
@@ -88,18 +93,14 @@ pub register_only : (i : Input) (r : ℕ) (b rest : List ℕ) → Register r b �
 register_only i r b rest u e =
     subst (λ (bs : List ℕ). register_at (record { at = i.at; bytes = bs; target = i.target }) ≡ Ok (r, record { at = i.at + length b; bytes = rest; target = i.target })) (sym e) (register_again i.at i.target r b rest u)
 
-bound : {A B : Type 0} (r : Result A Refusal) (f : A → Result B Refusal) (y : B) → r >>= f ≡ done y → (x : A) × (r ≡ done x) × (f x ≡ done y)
-bound (Ok x) f y e = (x, refl, e)
-bound (Err d) f y e = absurd cc
+pub bind_ok : {A B : Type 0} (r : Result A Refusal) (f : A → Result B Refusal) (y : B) → r >>= f ≡ done y → (x : A) × (r ≡ done x) × (f x ≡ done y)
+bind_ok (Ok x) f y e = (x, refl, e)
+bind_ok (Err d) f y e = absurd cc
 
 pub register_found : (i new : Input) (r : ℕ) → AreBytes i.bytes → register_at i ≡ Ok (r, new) → (b : List ℕ) × Register r b × Takes i b new
 unfolding register_at
 register_found i new r h e =
-    let p = bound (uleb_at i) (register_of i.at) (r, new) e in
+    let p = bind_ok (uleb_at i) (register_of i.at) (r, new) e in
     let q = uleb_found i p.0.1 p.0.0 h p.1 in
-    elim (cases_lt p.0.0 65536) [
-      | inl small ↦
-          let k : done p.0 ≡ done (r, new) = rw (lt-ltb p.0.0 65536 small) at p.2 in
-          subst (λ (z : ℕ × Input). (b : List ℕ) × Register z.0 b × Takes i b z.1) (ok_is p.0 (r, new) k) (q.0, (q.1, small), q.2)
-      | inr big ↦ let k : fault {A = ℕ × Input} RegisterTooLarge i.at ≡ done (r, new) = rw (le-ltb p.0.0 65536 big) at p.2 in absurd cc
-    ]
+    let k = cond_ok (nat_lt p.0.0 65536) (done p.0) _ (r, new) p.2 in
+    subst (λ (z : ℕ × Input). (b : List ℕ) × Register z.0 b × Takes i b z.1) (ok_is p.0 (r, new) k.1) (q.0, (q.1, ltb-true _ _ k.0), q.2)

@@ -1,23 +1,26 @@
 -- The shortest LEB128 spelling of a number, and that no other is as short.
-use Rattle.dw_num.proofs.Words.{◌≡◌, ℕ, zero, suc, ◌+◌, ◌*◌, ◌/◌, ◌%◌, ◌^◌, ◌<◌, ◌≤◌, Bool, true, false, leb, List, [], ◌∷◌, ◌++◌, length, refl, sym, ap, ◌∙◌, inl, inr, lit<, arith, ℤ, pos, negsuc, FitsSigned, w64, pow-succ'}
-use Rattle.dw_num.proofs.Words.{pow-le-pow_right, ints, cases_lt, lt-ltb, le-ltb, leb-true, leb-false, le-leb, lt-leb, IsLeb, groups_from, groups, is_negative, Uleb, Sleb, leb_of, turned_leb, shortest_uleb, shortest_sleb, turned, PutsUleb}
+use Rattle.dw_num.proofs.Words.{◌≡◌, ℕ, zero, suc, ◌+◌, if◌then◌else◌, nat_lt, ◌*◌, ◌/◌, ◌%◌, ◌^◌, ◌<◌, ◌≤◌, Bool, true, false, leb, List, [], ◌∷◌, ◌++◌, length, append-nil, append_assoc, refl, sym, ap, ◌∙◌, inl, inr, lit<, arith, ℤ, pos, negsuc, FitsSigned, w64, pow-succ'}
+use Rattle.dw_num.proofs.Words.{ints, cases_lt, lt-ltb, le-ltb, leb-true, leb-false, le-leb, lt-leb, IsLeb, groups, is_negative, Uleb, Sleb, leb_of, turned_leb, shortest_uleb, shortest_sleb, turned, PutsUleb}
 use Rattle.dw_num.proofs.Words.{PutsSleb, turned_from, as_signed}
-use Rattle.dw_num.proofs.Lent.Turned.{signed_groups-turned}
+use Rattle.dw_num.proofs.{LebLemmas.turned_from-false, Lent.Turned.signed_groups-turned}
 
 -- ---- sums from the first byte on
 
-groups_from-suc : (k : ℕ) (bytes : List ℕ) → groups_from (suc k) bytes ≡ 128 * groups_from k bytes
-groups_from-suc k [] = refl
-groups_from-suc k (b ∷ bytes) =
+turned_from-suc : (t : Bool) (k : ℕ) (bytes : List ℕ) → turned_from t (suc k) bytes ≡ 128 * turned_from t k bytes
+turned_from-suc t k [] = refl
+turned_from-suc t k (b ∷ bytes) =
     let p : 128 ^ suc k ≡ 128 * 128 ^ k = pow-succ' 128 k in
-    let q : b % 128 * 128 ^ suc k ≡ 128 * (b % 128 * 128 ^ k) = turn (b % 128) (128 ^ k) (128 ^ suc k) p in
-    omega (arith, groups_from-suc (suc k) bytes, q)
+    let q : turned t b * 128 ^ suc k ≡ 128 * (turned t b * 128 ^ k) = turn (turned t b) (128 ^ k) (128 ^ suc k) p in
+    omega (arith, turned_from-suc t (suc k) bytes, q)
   where
     turn : (x p q : ℕ) → q ≡ 128 * p → x * q ≡ 128 * (x * p)
     turn x p q e = rw e (omega arith)
 
+turned-cons : (t : Bool) (b : ℕ) (bytes : List ℕ) → turned_from t 0 (b ∷ bytes) ≡ turned t b + 128 * turned_from t 0 bytes
+turned-cons t b bytes = omega (arith, turned_from-suc t 0 bytes)
+
 pub groups-cons : (b : ℕ) (bytes : List ℕ) → groups (b ∷ bytes) ≡ b % 128 + 128 * groups bytes
-groups-cons b bytes = omega (arith, groups_from-suc 0 bytes)
+groups-cons b bytes = omega (arith, turned-cons false b bytes, turned_from-false 0 (b ∷ bytes), turned_from-false 0 bytes)
 
 -- a list of k bytes makes less than 128 ^ k
 pub groups_below : (bytes : List ℕ) → groups bytes < 128 ^ length bytes
@@ -45,66 +48,30 @@ leb_spells (suc n) v lt =
       | inr large ↦ rw (le-ltb v 128 large) (more v (leb_of n (v / 128)) (leb_spells n (v / 128) (let p : 128 ^ suc (suc n) ≡ 128 * 128 ^ suc n = pow-succ' 128 (suc n) in omega arith)))
     ]
 
--- a number with a LEB of k + 2 bytes is at least 128 ^ (k + 1)
-pub leb_least : (n v k : ℕ) → length (leb_of n v) ≡ suc (suc k) → 128 ^ suc k ≤ v
-leb_least zero v k e = absurd (omega arith)
-leb_least (suc n) v k e =
+-- a number below 128 ^ (k + 1) needs at most k + 1 bytes
+leb_most : (n v k : ℕ) → v < 128 ^ suc k → length (leb_of n v) ≤ suc k
+leb_most zero v k lt = omega arith
+leb_most (suc n) v zero lt = rw (lt-ltb v 128 (omega arith)) (omega arith)
+leb_most (suc n) v (suc k) lt =
+    let p : 128 ^ suc (suc k) ≡ 128 * 128 ^ suc k = pow-succ' 128 (suc k) in
     elim (cases_lt v 128) [
-      | inl small ↦ absurd (one_long (rw (lt-ltb v 128 small) at e))
-      | inr large ↦ longer k (rw (le-ltb v 128 large) at e) large (λ j le. leb_least n (v / 128) j le)
+      | inl small ↦ rw (lt-ltb v 128 small) (omega arith)
+      | inr large ↦ rw (le-ltb v 128 large) (let h = leb_most n (v / 128) k (omega arith) in omega arith)
     ]
-  where
-    one_long : 1 ≡ suc (suc k) → ⊥
-    one_long e = omega arith
-
-    longer : (k : ℕ) → suc (length (leb_of n (v / 128))) ≡ suc (suc k) → 128 ≤ v → ((j : ℕ) → length (leb_of n (v / 128)) ≡ suc (suc j) → 128 ^ suc j ≤ v / 128) → 128 ^ suc k ≤ v
-    longer zero e large rest = omega arith
-    longer (suc j) e large rest = let h = rest j (omega arith) in let p : 128 ^ suc (suc j) ≡ 128 * 128 ^ suc j = pow-succ' 128 (suc j) in omega arith
 
 -- every spelling is at least as long
-pub leb_shortest : (n v : ℕ) (other : List ℕ) → IsLeb other → v ≡ groups other → length (leb_of n v) ≤ length other
-leb_shortest n v other shape value = by_length (length (leb_of n v)) refl
-  where
-    not_empty : (other : List ℕ) → IsLeb other → 1 ≤ length other
-    not_empty [] h = absurd h
-    not_empty (b ∷ bytes) h = omega arith
+leb_shortest : (n v : ℕ) (other : List ℕ) → IsLeb other → v ≡ groups other → length (leb_of n v) ≤ length other
+leb_shortest n v [] shape value = absurd shape
+leb_shortest n v (b ∷ bytes) shape value = leb_most n v (length bytes) (rw value (groups_below (b ∷ bytes)))
 
-    by_length : (l : ℕ) → length (leb_of n v) ≡ l → l ≤ length other
-    by_length zero e = omega arith
-    by_length (suc zero) e = not_empty other shape
-    by_length (suc (suc k)) e =
-        elim (cases_lt (suc k) (length other)) [
-          | inl lt ↦ omega arith
-          | inr ge ↦ let low = leb_least n v k e in let high = groups_below other in
-              let mono : 128 ^ length other ≤ 128 ^ suc k = pow-le-pow_right (lit< tt) ge in absurd (omega arith)
-        ]
-
--- two LEBs of one length and one sum are one
-pub leb_same : (a b : List ℕ) → IsLeb a → IsLeb b → length a ≡ length b → groups a ≡ groups b → a ≡ b
-leb_same [] b ha hb l e = absurd ha
-leb_same (x ∷ xs) [] ha hb l e = absurd hb
-leb_same (x ∷ []) (y ∷ []) ha hb l e = let f = rw (groups-cons x [], groups-cons y []) at e in ap (λ (n : ℕ). n ∷ []) (omega arith)
-leb_same (x ∷ []) (y ∷ z ∷ ys) ha hb l e = absurd (omega arith)
-leb_same (x ∷ w ∷ xs) (y ∷ []) ha hb l e = absurd (omega arith)
-leb_same (x ∷ w ∷ xs) (y ∷ z ∷ ys) ha hb l e =
-    let f = rw (groups-cons x (w ∷ xs), groups-cons y (z ∷ ys)) at e in
-    let head : x ≡ y = omega arith in
-    let tail = leb_same (w ∷ xs) (z ∷ ys) ha.2 hb.2 (omega arith) (omega arith) in rw (head, tail) refl
+-- room for one group more changes nothing
+leb_enough : (n v : ℕ) → v < 128 ^ suc n → leb_of (suc n) v ≡ leb_of n v
+leb_enough zero v lt = rw (lt-ltb v 128 (omega arith)) refl
+leb_enough (suc n) v lt =
+    let p : 128 ^ suc (suc n) ≡ 128 * 128 ^ suc n = pow-succ' 128 (suc n) in
+    ap (λ (l : List ℕ). if nat_lt v 128 then v ∷ [] else (128 + v % 128) ∷ l) (leb_enough n (v / 128) (omega arith))
 
 -- ---- signed numbers
-
-turned_from-suc : (t : Bool) (k : ℕ) (bytes : List ℕ) → turned_from t (suc k) bytes ≡ 128 * turned_from t k bytes
-turned_from-suc t k [] = refl
-turned_from-suc t k (b ∷ bytes) =
-    let p : 128 ^ suc k ≡ 128 * 128 ^ k = pow-succ' 128 k in
-    let q : turned t b * 128 ^ suc k ≡ 128 * (turned t b * 128 ^ k) = turn (turned t b) (128 ^ k) (128 ^ suc k) p in
-    omega (arith, turned_from-suc t (suc k) bytes, q)
-  where
-    turn : (x p q : ℕ) → q ≡ 128 * p → x * q ≡ 128 * (x * p)
-    turn x p q e = rw e (omega arith)
-
-turned-cons : (t : Bool) (b : ℕ) (bytes : List ℕ) → turned_from t 0 (b ∷ bytes) ≡ turned t b + 128 * turned_from t 0 bytes
-turned-cons t b bytes = omega (arith, turned_from-suc t 0 bytes)
 
 turned_below : (t : Bool) (b : ℕ) → turned t b < 128
 turned_below true b = omega arith
@@ -151,22 +118,6 @@ turned_spells t (suc n) m lt =
       | inr large ↦ rw (le-ltb m 64 large) (more_turned t m (turned_leb t n (m / 128)) (turned_spells t n (m / 128) (let p : 128 ^ suc n ≡ 128 * 128 ^ n = pow-succ' 128 n in omega arith)))
     ]
 
--- a number that needs k + 2 bytes is at least 64 * 128 ^ k
-turned_least : (t : Bool) (n m k : ℕ) → length (turned_leb t n m) ≡ suc (suc k) → 64 * 128 ^ k ≤ m
-turned_least t zero m k e = absurd (omega arith)
-turned_least t (suc n) m k e =
-    elim (cases_lt m 64) [
-      | inl small ↦ absurd (one_long (rw (lt-ltb m 64 small) at e))
-      | inr large ↦ longer k (rw (le-ltb m 64 large) at e) large (λ j le. turned_least t n (m / 128) j le)
-    ]
-  where
-    one_long : 1 ≡ suc (suc k) → ⊥
-    one_long e = omega arith
-
-    longer : (k : ℕ) → suc (length (turned_leb t n (m / 128))) ≡ suc (suc k) → 64 ≤ m → ((j : ℕ) → length (turned_leb t n (m / 128)) ≡ suc (suc j) → 64 * 128 ^ j ≤ m / 128) → 64 * 128 ^ k ≤ m
-    longer zero e large rest = omega arith
-    longer (suc j) e large rest = let h = rest j (omega arith) in let p : 128 ^ suc j ≡ 128 * 128 ^ j = pow-succ' 128 j in omega arith
-
 -- the turned groups of k + 1 bytes make less than 64 * 128 ^ k, if they are turned as the sign says
 pub turned_within : (t : Bool) (bytes : List ℕ) (k : ℕ) → length bytes ≡ suc k → t ≡ is_negative bytes → turned_from t 0 bytes < 64 * 128 ^ k
 turned_within t [] k l e = absurd (omega arith)
@@ -180,23 +131,30 @@ turned_within t (b ∷ c ∷ bytes) zero l e = absurd (omega arith)
 turned_within t (b ∷ c ∷ bytes) (suc k) l e = rw (turned-cons t b (c ∷ bytes))
     (let h = turned_within t (c ∷ bytes) k (omega arith) e in let p : 128 ^ suc k ≡ 128 * 128 ^ k = pow-succ' 128 k in let m = turned_below t b in omega arith)
 
-turned_shortest : (t : Bool) (n m : ℕ) (other : List ℕ) → SpellsTurned t m other → length (turned_leb t n m) ≤ length other
-turned_shortest t n m other s = by_length (length (turned_leb t n m)) (length other) refl refl
-  where
-    not_empty : (other : List ℕ) → IsLeb other → 1 ≤ length other
-    not_empty [] h = absurd h
-    not_empty (b ∷ bytes) h = omega arith
+-- a signed number has as many groups as twice its magnitude, turned over or not
+turned_length : (t : Bool) (n k m : ℕ) → k / 2 ≡ m → length (leb_of n k) ≡ length (turned_leb t n m)
+turned_length t zero k m e = refl
+turned_length t (suc n) k m e = elim (cases_lt m 64) [
+  | inl small ↦ rw (lt-ltb m 64 small, lt-ltb k 128 (omega arith)) refl
+  | inr large ↦ rw (le-ltb m 64 large, le-ltb k 128 (omega arith)) (ap suc (turned_length t n (k / 128) (m / 128) (omega arith)))
+]
 
-    by_length : (l o : ℕ) → length (turned_leb t n m) ≡ l → length other ≡ o → l ≤ o
-    by_length zero o e f = omega arith
-    by_length (suc zero) o e f = omega (arith, not_empty other s.shape)
-    by_length (suc (suc k)) zero e f = absurd (omega (arith, not_empty other s.shape))
-    by_length (suc (suc k)) (suc j) e f =
-        elim (cases_lt k j) [
-          | inl lt ↦ omega arith
-          | inr ge ↦ let low = turned_least t n m k e in let high = turned_within t other j f s.sign in let is = s.sum in
-              let mono : 128 ^ j ≤ 128 ^ k = pow-le-pow_right (lit< tt) ge in absurd (omega arith)
-        ]
+turned_most : (t : Bool) (n m k : ℕ) → m < 64 * 128 ^ k → length (turned_leb t n m) ≤ suc k
+turned_most t n m k lt =
+    let p : 128 ^ suc k ≡ 128 * 128 ^ k = pow-succ' 128 k in
+    let same = turned_length t n (2 * m) m (omega arith) in
+    let most = leb_most n (2 * m) k (omega arith) in
+    omega arith
+
+turned_shortest : (t : Bool) (n m : ℕ) (other : List ℕ) → SpellsTurned t m other → length (turned_leb t n m) ≤ length other
+turned_shortest t n m [] s = absurd s.shape
+turned_shortest t n m (b ∷ bytes) s = turned_most t n m (length bytes) (let h = turned_within t (b ∷ bytes) (length bytes) refl s.sign in omega (arith, h, s.sum))
+
+turned_enough : (t : Bool) (n m : ℕ) → m < 64 * 128 ^ n → turned_leb t (suc n) m ≡ turned_leb t n m
+turned_enough t zero m lt = rw (lt-ltb m 64 (omega arith)) refl
+turned_enough t (suc n) m lt =
+    let p : 128 ^ suc n ≡ 128 * 128 ^ n = pow-succ' 128 n in
+    ap (λ (l : List ℕ). if nat_lt m 64 then turned t m ∷ [] else (128 + turned t m) ∷ l) (turned_enough t n (m / 128) (omega arith))
 
 turned_byte : (t : Bool) (x y : ℕ) → turned t x ≡ turned t y → x % 128 ≡ y % 128
 turned_byte true x y e = omega arith
@@ -218,6 +176,9 @@ turned_same t (x ∷ w ∷ xs) (y ∷ z ∷ ys) ha hb l e =
     let head : x ≡ y = omega arith in
     let tail = turned_same t (w ∷ xs) (z ∷ ys) ha.2 hb.2 (omega arith) (omega arith) in rw (head, tail) refl
 
+leb_same : (a b : List ℕ) → IsLeb a → IsLeb b → length a ≡ length b → groups a ≡ groups b → a ≡ b
+leb_same a b ha hb l e = turned_same false a b ha hb l (turned_from-false 0 a ∙ e ∙ sym (turned_from-false 0 b))
+
 -- the turned number of a spelling
 turned_of : (t : Bool) (m : ℕ) (b : List ℕ) → Sleb (as_signed t m) b → SpellsTurned t m b
 turned_of t m b s = by_sign t (is_negative b) refl (s.value ∙ signed_groups-turned b (is_negative b) refl)
@@ -228,7 +189,7 @@ turned_of t m b s = by_sign t (is_negative b) refl (s.value ∙ signed_groups-tu
     by_sign false true e f = absurd (let g : pos m ≡ negsuc (turned_from true 0 b) = f in cc)
     by_sign false false e f = record { shape = s.shape; sign = e; sum = let g : pos m ≡ pos (turned_from false 0 b) = f in cc }
 
-as_signed-fits : (t : Bool) (m : ℕ) → m < 2 ^ 63 → FitsSigned w64 (as_signed t m)
+pub as_signed-fits : (t : Bool) (m : ℕ) → m < 2 ^ 63 → FitsSigned w64 (as_signed t m)
 as_signed-fits true m h = omega (arith, ints)
 as_signed-fits false m h = omega (arith, ints)
 
@@ -282,80 +243,53 @@ shortest_sleb-only z b s le =
 
 pub shortest_uleb-most : (v k : ℕ) → v < 128 ^ suc k → length (shortest_uleb v) ≤ suc k
 unfolding shortest_uleb
-shortest_uleb-most v k lt = by_length (length (leb_of 9 v)) refl
-  where
-    by_length : (l : ℕ) → length (leb_of 9 v) ≡ l → length (leb_of 9 v) ≤ suc k
-    by_length zero e = omega arith
-    by_length (suc zero) e = omega arith
-    by_length (suc (suc j)) e = elim (cases_lt k (suc j)) [
-      | inl far ↦ let low = leb_least 9 v j e in let mono : 128 ^ suc k ≤ 128 ^ suc j = pow-le-pow_right (lit< tt) far in absurd (omega arith)
-      | inr near ↦ omega arith
-    ]
-
-turned_most : (t : Bool) (m k : ℕ) → m < 64 * 128 ^ k → length (turned_leb t 9 m) ≤ suc k
-turned_most t m k lt = by_length (length (turned_leb t 9 m)) refl
-  where
-    by_length : (l : ℕ) → length (turned_leb t 9 m) ≡ l → length (turned_leb t 9 m) ≤ suc k
-    by_length zero e = omega arith
-    by_length (suc zero) e = omega arith
-    by_length (suc (suc j)) e = elim (cases_lt j k) [
-      | inl near ↦ omega arith
-      | inr far ↦ let low = turned_least t 9 m j e in let mono : 128 ^ k ≤ 128 ^ j = pow-le-pow_right (lit< tt) far in absurd (omega arith)
-    ]
+shortest_uleb-most v k lt = leb_most 9 v k lt
 
 pub shortest_sleb-most : (m k : ℕ) → m < 64 * 128 ^ k → length (shortest_sleb (negsuc m)) ≤ suc k
 unfolding shortest_sleb
-shortest_sleb-most m k lt = turned_most true m k lt
+shortest_sleb-most m k lt = turned_most true 9 m k lt
 
 pub leb_some : (b : List ℕ) → IsLeb b → 1 ≤ length b
 leb_some [] h = absurd h
 leb_some (x ∷ b) h = omega arith
 
+-- the first byte, and the spelling of the rest of the number
+pub shortest_uleb-last : (v : ℕ) → v < 128 → shortest_uleb v ≡ v ∷ []
+unfolding shortest_uleb
+shortest_uleb-last v lt = rw (lt-ltb v 128 lt) refl
+
+pub shortest_uleb-next : (v : ℕ) → 128 ≤ v → v < 2 ^ 64 → shortest_uleb v ≡ (v % 128 + 128) ∷ shortest_uleb (v / 128)
+unfolding shortest_uleb
+shortest_uleb-next v big fits = rw (le-ltb v 128 big, leb_enough 8 (v / 128) (omega arith)) (ap (λ (b : ℕ). b ∷ leb_of 8 (v / 128)) (omega arith))
+
 pub shortest_uleb-one : (v : ℕ) → v < 128 → length (shortest_uleb v) ≡ 1
-unfolding shortest_uleb
-shortest_uleb-one v lt = rw (lt-ltb v 128 lt) refl
-
-shortest_uleb-long : (v : ℕ) → 128 ≤ v → v < 2 ^ 64 → 1 + length (shortest_uleb (v / 128)) ≤ length (shortest_uleb v)
-unfolding shortest_uleb
-shortest_uleb-long v big fits = rw (le-ltb v 128 big)
-    (let s = leb_spells 8 (v / 128) (omega arith) in omega (arith, leb_shortest 9 (v / 128) (leb_of 8 (v / 128)) s.0 (sym s.1)))
-
--- a longer one goes on with the rest of the number
-pub shortest_uleb-more : (v : ℕ) → 128 ≤ v → v < 2 ^ 64 → length (shortest_uleb v) ≡ 1 + length (shortest_uleb (v / 128))
-shortest_uleb-more v big fits =
-    let rest = shortest_uleb-spells (v / 128) (omega arith) in
-    let longer = more v (shortest_uleb (v / 128)) (rest.shape, sym rest.value) in
-    let most = shortest_uleb-least v ((128 + v % 128) ∷ shortest_uleb (v / 128)) (record { shape = longer.0; value = sym longer.1; fits = fits }) in
-    omega (arith, shortest_uleb-long v big fits)
+shortest_uleb-one v lt = rw (shortest_uleb-last v lt) refl
 
 pub shortest_uleb-ten : (v : ℕ) → v < 2 ^ 64 → length (shortest_uleb v) ≤ 10
 shortest_uleb-ten v fits = shortest_uleb-most v 9 (omega arith)
 
--- the number of a magnitude, turned over or not
-pub shortest_signed-one : (t : Bool) (m : ℕ) → m < 64 → length (shortest_sleb (as_signed t m)) ≡ 1
+pub shortest_signed-last : (t : Bool) (m byte : ℕ) → m < 64 → byte ≡ turned t m → shortest_sleb (as_signed t m) ≡ byte ∷ []
 unfolding shortest_sleb
-shortest_signed-one true m lt = rw (lt-ltb m 64 lt) refl
-shortest_signed-one false m lt = rw (lt-ltb m 64 lt) refl
+shortest_signed-last true m byte lt is = rw (lt-ltb m 64 lt, is) refl
+shortest_signed-last false m byte lt is = rw (lt-ltb m 64 lt, is) refl
 
-turned_leb-more : (t : Bool) (m : ℕ) → 64 ≤ m → m < 2 ^ 63 → length (turned_leb t 9 m) ≡ 1 + length (turned_leb t 9 (m / 128))
-turned_leb-more t m big fits =
-    let s8 = turned_spells t 8 (m / 128) (omega arith) in
-    let s9 = turned_spells t 9 (m / 128) (omega arith) in
-    let a = turned_shortest t 9 (m / 128) (turned_leb t 8 (m / 128)) s8 in
-    let b = turned_shortest t 8 (m / 128) (turned_leb t 9 (m / 128)) s9 in
-    rw (le-ltb m 64 big) (omega (arith, a, b))
-
-pub shortest_signed-more : (t : Bool) (m : ℕ) → 64 ≤ m → m < 2 ^ 63 → length (shortest_sleb (as_signed t m)) ≡ 1 + length (shortest_sleb (as_signed t (m / 128)))
+pub shortest_signed-next : (t : Bool) (m byte : ℕ) → 64 ≤ m → m < 2 ^ 63 → byte ≡ turned t (m % 128) + 128 → shortest_sleb (as_signed t m) ≡ byte ∷ shortest_sleb (as_signed t (m / 128))
 unfolding shortest_sleb
-shortest_signed-more true m big fits = turned_leb-more true m big fits
-shortest_signed-more false m big fits = turned_leb-more false m big fits
+shortest_signed-next true m byte big fits is = rw (le-ltb m 64 big, turned_enough true 8 (m / 128) (omega arith)) (ap (λ (b : ℕ). b ∷ turned_leb true 8 (m / 128)) (omega arith))
+shortest_signed-next false m byte big fits is = rw (le-ltb m 64 big, turned_enough false 8 (m / 128) (omega arith)) (ap (λ (b : ℕ). b ∷ turned_leb false 8 (m / 128)) (omega arith))
 
-pub shortest_signed-ten : (t : Bool) (m : ℕ) → m < 2 ^ 63 → length (shortest_sleb (as_signed t m)) ≤ 10
-unfolding shortest_sleb
-shortest_signed-ten true m fits = turned_most true m 9 (omega arith)
-shortest_signed-ten false m fits = turned_most false m 9 (omega arith)
+pub signed_length : (t : Bool) (m : ℕ) → length (shortest_uleb (2 * m)) ≡ length (shortest_sleb (as_signed t m))
+unfolding shortest_uleb shortest_sleb
+signed_length true m = turned_length true 9 (2 * m) m (omega arith)
+signed_length false m = turned_length false 9 (2 * m) m (omega arith)
 
--- what is appended as the shortest spelling is this one
+-- what is appended as the shortest spelling is this one, and the other way about
+pub appends_uleb : (v : ℕ) (old new : List ℕ) → v < 2 ^ 64 → new ≡ old ++ shortest_uleb v → PutsUleb v old new
+appends_uleb v old new fits e = record { spelling = shortest_uleb v; spells = shortest_uleb-spells v fits; shortest = shortest_uleb-least v; appended = e }
+
+pub appends_sleb : (z : ℤ) (old new : List ℕ) → FitsSigned w64 z → new ≡ old ++ shortest_sleb z → PutsSleb z old new
+appends_sleb z old new fits e = record { spelling = shortest_sleb z; spells = shortest_sleb-spells z fits; shortest = shortest_sleb-least z; appended = e }
+
 pub puts_uleb : (v : ℕ) (old new : List ℕ) → PutsUleb v old new → new ≡ old ++ shortest_uleb v
 puts_uleb v old new p = p.appended ∙ ap (λ (b : List ℕ). old ++ b)
     (shortest_uleb-only v p.spelling p.spells (p.shortest (shortest_uleb v) (shortest_uleb-spells v p.spells.fits)))
@@ -363,3 +297,20 @@ puts_uleb v old new p = p.appended ∙ ap (λ (b : List ℕ). old ++ b)
 pub puts_sleb : (z : ℤ) (old new : List ℕ) → PutsSleb z old new → new ≡ old ++ shortest_sleb z
 puts_sleb z old new p = p.appended ∙ ap (λ (b : List ℕ). old ++ b)
     (shortest_sleb-only z p.spelling p.spells (p.shortest (shortest_sleb z) (shortest_sleb-spells z p.spells.fits)))
+
+-- ---- a spelling that is appended byte by byte
+
+-- so much of all was appended, and this is left
+pub record IsGoing (all old new rest : List ℕ) : Type 0 where
+  pub front : List ℕ
+  pub appended : new ≡ old ++ front
+  pub whole : front ++ rest ≡ all
+
+pub starts : (all old : List ℕ) → IsGoing all old old all
+starts all old = record { front = []; appended = sym (append-nil old); whole = refl }
+
+pub goes : (all old new rest : List ℕ) (byte : ℕ) → IsGoing all old new (byte ∷ rest) → IsGoing all old (new ++ byte ∷ []) rest
+goes all old new rest byte w = record { front = w.front ++ byte ∷ []; appended = ap (λ (l : List ℕ). l ++ byte ∷ []) w.appended ∙ append_assoc old w.front (byte ∷ []); whole = append_assoc w.front (byte ∷ []) rest ∙ w.whole }
+
+pub ends : (all old new : List ℕ) (byte : ℕ) → IsGoing all old new (byte ∷ []) → new ++ byte ∷ [] ≡ old ++ all
+ends all old new byte w = ap (λ (l : List ℕ). l ++ byte ∷ []) w.appended ∙ append_assoc old w.front (byte ∷ []) ∙ ap (λ (l : List ℕ). old ++ l) w.whole

@@ -1,16 +1,16 @@
 -- A signed LEB is read as it is spelled.
-use Rattle.dw_num.proofs.Words.{◌≡◌, ℕ, ◌+◌, ◌^◌, List, ◌++◌, length, take, true, false, ℤ, pos, negsuc, Option, Some, None, Ok, refl, sym, ap, subst, arith, inl, inr, ◌⊎◌, FitsSigned, w64, cases_lt, lt-ltb, le-ltb, drop_at}
-use Rattle.dw_num.proofs.Words.{take-append-drop, length-take, Target, NumberTooLarge, Input, AreBytes, Takes, behind, signed_groups, Sleb, leb_len, sleb_of, sleb_at, fits_signed, fault}
+use Rattle.dw_num.proofs.Words.{◌≡◌, ℕ, ◌+◌, ◌^◌, List, ◌++◌, length, take, true, ℤ, pos, negsuc, Option, Some, None, Ok, refl, sym, subst, arith, FitsSigned, w64, lt-ltb, ltb-true, drop_at}
+use Rattle.dw_num.proofs.Words.{Target, Input, AreBytes, Takes, behind, signed_groups, Sleb, leb_len, sleb_of, sleb_at, fits_signed}
 use Rattle.std.proofs.lemmas.List.{take_at}
-use Rattle.dw_num.proofs.Lent.LebLaws.{leb_len-front, leb_len-spelled, done, ok_is}
+use Rattle.dw_num.proofs.Lent.LebLaws.{leb_len-front, leb_len-spelled, cond_ok, done, ok_is, took}
 
 fits_signed-true : (v : ℤ) → FitsSigned w64 v → fits_signed v ≡ true
 fits_signed-true (pos n) h = lt-ltb n (2 ^ 63) (omega (arith, h))
 fits_signed-true (negsuc n) h = lt-ltb n (2 ^ 63) (omega (arith, h))
 
-fits_signed-cases : (v : ℤ) → ((fits_signed v ≡ true) × FitsSigned w64 v) ⊎ (fits_signed v ≡ false)
-fits_signed-cases (pos n) = elim (cases_lt n (2 ^ 63)) [ inl lt ↦ inl (lt-ltb n (2 ^ 63) lt, omega (arith, lt)) | inr le ↦ inr (le-ltb n (2 ^ 63) le) ]
-fits_signed-cases (negsuc n) = elim (cases_lt n (2 ^ 63)) [ inl lt ↦ inl (lt-ltb n (2 ^ 63) lt, omega (arith, lt)) | inr le ↦ inr (le-ltb n (2 ^ 63) le) ]
+signed_fits : (v : ℤ) → fits_signed v ≡ true → FitsSigned w64 v
+signed_fits (pos n) h = let lt = ltb-true n (2 ^ 63) h in omega (arith, lt)
+signed_fits (negsuc n) h = let lt = ltb-true n (2 ^ 63) h in omega (arith, lt)
 
 pub sleb_again : (at : ℕ) (target : Target) (v : ℤ) (b rest : List ℕ) → Sleb v b → sleb_at (record { at = at; bytes = b ++ rest; target = target }) ≡ Ok (v, record { at = at + length b; bytes = rest; target = target })
 unfolding sleb_at
@@ -20,17 +20,12 @@ sleb_again at target v b rest u =
 
 found_at : (o : Option ℕ) (i new : Input) (v : ℤ) → AreBytes i.bytes → leb_len i.bytes ≡ o → sleb_of o i ≡ Ok (v, new) → (b : List ℕ) × Sleb v b × Takes i b new
 found_at None i new v are e h = absurd cc
-found_at (Some n) i new v are e h = elim (fits_signed-cases (signed_groups (take n i.bytes))) [
-  | inl fits ↦
-      let front = leb_len-front i.bytes n are e in
-      let k : done (signed_groups (take n i.bytes), behind n i) ≡ done (v, new) = rw (fits.0) at h in
-      subst (λ (p : ℤ × Input). (b : List ℕ) × Sleb p.0 b × Takes i b p.1) (ok_is (signed_groups (take n i.bytes), behind n i) (v, new) k) (
-        take n i.bytes,
-        record { shape = front.0; value = refl; fits = fits.1 },
-        record { bytes = sym (take-append-drop n i.bytes); at = ap (λ (m : ℕ). i.at + m) (omega (arith, length-take n i.bytes, front.1)); target = refl },
-      )
-  | inr big ↦ let k : fault {A = ℤ × Input} NumberTooLarge i.at ≡ done (v, new) = rw big at h in absurd cc
-]
+found_at (Some n) i new v are e h =
+    let front = leb_len-front i.bytes n are e in
+    let z = signed_groups (take n i.bytes) in
+    let k = cond_ok (fits_signed z) (done (z, behind n i)) _ (v, new) h in
+    subst (λ (p : ℤ × Input). (b : List ℕ) × Sleb p.0 b × Takes i b p.1) (ok_is (z, behind n i) (v, new) k.1)
+    (take n i.bytes, record { shape = front.0; value = refl; fits = signed_fits z k.0 }, took i n front.1)
 
 pub sleb_found : (i new : Input) (v : ℤ) → AreBytes i.bytes → sleb_at i ≡ Ok (v, new) → (b : List ℕ) × Sleb v b × Takes i b new
 unfolding sleb_at

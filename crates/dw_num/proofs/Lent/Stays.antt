@@ -1,9 +1,9 @@
 -- What is read ends where the input ends, and a fault has a place in the input or at its end.
-use Rattle.dw_num.proofs.Words.{◌≡◌, ℕ, suc, ◌+◌, ◌≤◌, Bool, true, false, List, [], ◌∷◌, length, take, Option, Some, None, Ok, Err, refl, ◌∙◌, arith, inl, inr, cond, nat_lt, ◌^◌, ◌==◌, cases_lt, cases_Bool, lt-ltb, le-ltb, length-drop}
-use Rattle.dw_num.proofs.Words.{Input, behind, fixed_number, groups, signed_groups, byte_count, Read, fixed_at, leb_len, uleb_of, uleb_at, sleb_of, sleb_at, address_at, long_length_at, length_of, unit_length_at, fits_signed, register_of}
-use Rattle.dw_num.proofs.Words.{register_at, ◌>>=◌, further}
+use Rattle.dw_num.proofs.Words.{◌≡◌, ℕ, ◌+◌, ◌≤◌, Bool, true, false, List, [], ◌∷◌, length, take, Option, Some, None, Ok, Err, refl, ◌∙◌, arith, inl, inr, cond, nat_lt, ◌^◌, ◌==◌, cases_lt, lt-ltb, le-ltb, length-drop}
+use Rattle.dw_num.proofs.Words.{Input, behind, fixed_number, groups, signed_groups, byte_count, Read, fixed_at, leb_len, uleb_of, uleb_at, sleb_of, sleb_at, address_at, unit_length_at, fits_signed, register_of}
+use Rattle.dw_num.proofs.Words.{register_at, ◌>>=◌, further, fault, Truncated, if◌then◌else◌}
 use Rattle.dw_num.specs.Front.{take_at}
-use Rattle.dw_num.proofs.Lent.LebLaws.{done}
+use Rattle.dw_num.proofs.Lent.LebLaws.{done, further_some}
 
 -- j begins in i or at its end, and both end at one place
 abbrev pub Inside : Input → Input → Type 0
@@ -31,12 +31,16 @@ either_stays false i x y h k = k
 behind_stays : (n : ℕ) (i : Input) → n ≤ length i.bytes → Inside i (behind n i)
 behind_stays n i h = (omega arith, omega (arith, length-drop n i.bytes))
 
+-- so many bytes are there, or the read is refused at their place
+there_stays : {X : Type 0} (n : ℕ) (i : Input) (read : Read X) → (n ≤ length i.bytes → Stays i read) → Stays i (if nat_lt (length i.bytes) n then fault Truncated i.at else read)
+there_stays n i read h = elim (cases_lt (length i.bytes) n) [
+  | inl short ↦ rw (lt-ltb (length i.bytes) n short) (omega arith, omega arith)
+  | inr long ↦ rw (le-ltb (length i.bytes) n long) (h long)
+]
+
 pub fixed_stays : (n : ℕ) (i : Input) → Stays i (fixed_at n i)
 unfolding fixed_at
-fixed_stays n i = elim (cases_lt (length i.bytes) n) [
-  | inl short ↦ rw (lt-ltb (length i.bytes) n short) (omega arith, omega arith)
-  | inr long ↦ rw (le-ltb (length i.bytes) n long) (behind_stays n i long)
-]
+fixed_stays n i = there_stays n i _ (behind_stays n i)
 
 pub address_stays : (i : Input) → Stays i (address_at i)
 unfolding address_at
@@ -44,14 +48,7 @@ address_stays i = fixed_stays (byte_count i.target.size) i
 
 pub take_stays : (n : ℕ) (i : Input) → Stays i (take_at n i)
 unfolding take_at
-take_stays n i = elim (cases_lt (length i.bytes) n) [
-  | inl short ↦ rw (lt-ltb (length i.bytes) n short) (omega arith, omega arith)
-  | inr long ↦ rw (le-ltb (length i.bytes) n long) (behind_stays n i long)
-]
-
-further_some : (o : Option ℕ) (n : ℕ) → further 1 o ≡ Some n → (m : ℕ) × (o ≡ Some m) × (n ≡ suc m)
-further_some None n e = absurd cc
-further_some (Some m) n e = let k : 1 + m ≡ n = cc in (m, refl, omega arith)
+take_stays n i = there_stays n i _ (behind_stays n i)
 
 leb_within : (bytes : List ℕ) (n : ℕ) → leb_len bytes ≡ Some n → n ≤ length bytes
 leb_within [] n e = absurd cc
@@ -80,28 +77,10 @@ sleb_stays i = of (leb_len i.bytes) refl
     of (Some n) e = either_stays (fits_signed (signed_groups (take n i.bytes))) i _ _ (behind_stays n i (leb_within i.bytes n e)) (omega arith, omega arith)
 
 pub register_stays : (i : Input) → Stays i (register_at i)
-unfolding register_at uleb_at
-register_stays i = of (leb_len i.bytes) refl
-  where
-    of : (o : Option ℕ) → leb_len i.bytes ≡ o → Stays i (uleb_of o i >>= register_of i.at)
-    of None e = (omega arith, omega arith)
-    of (Some n) e = elim (cases_Bool (nat_lt (groups (take n i.bytes)) (2 ^ 64))) [
-      | inl y ↦ rw y (either_stays (nat_lt (groups (take n i.bytes)) 65536) i _ _ (behind_stays n i (leb_within i.bytes n e)) (omega arith, omega arith))
-      | inr n ↦ rw n (omega arith, omega arith)
-    ]
+unfolding register_at
+register_stays i = stays-then i (uleb_at i) (register_of i.at) (uleb_stays i) (λ x e inside. either_stays (nat_lt x.0 65536) i _ _ inside (omega arith, omega arith))
 
 pub unit_length_stays : (i : Input) → Stays i (unit_length_at i)
 unfolding unit_length_at
-unit_length_stays i = elim (cases_lt (length i.bytes) 4) [
-  | inl short ↦ rw (lt-ltb (length i.bytes) 4 short) (omega arith, omega arith)
-  | inr long ↦ rw (le-ltb (length i.bytes) 4 long) (of (fixed_number i.target.order 4 i.bytes) long)
-]
-  where
-    long_of : Stays i (long_length_at i)
-    long_of = elim (cases_lt (length i.bytes) 12) [
-      | inl short ↦ rw (lt-ltb (length i.bytes) 12 short) (omega arith, omega arith)
-      | inr enough ↦ rw (le-ltb (length i.bytes) 12 enough) (behind_stays 12 i enough)
-    ]
-
-    of : (n : ℕ) → 4 ≤ length i.bytes → Stays i (length_of n i)
-    of n long = either_stays (nat_lt n 0xfffffff0) i _ _ (behind_stays 4 i long) (either_stays (n == 0xffffffff) i _ _ long_of (omega arith, omega arith))
+unit_length_stays i = there_stays 4 i _ (λ long. either_stays (nat_lt (fixed_number i.target.order 4 i.bytes) 0xfffffff0) i _ _ (behind_stays 4 i long)
+    (either_stays (fixed_number i.target.order 4 i.bytes == 0xffffffff) i _ _ (there_stays 12 i _ (behind_stays 12 i)) (omega arith, omega arith)))

@@ -1,9 +1,10 @@
 -- One read after another: what is read is spelled, and what is spelled is read.
-use Rattle.dw_num.proofs.Words.{◌≡◌, ℕ, ◌+◌, Bool, true, false, List, [], ◌∷◌, ◌++◌, length, take, Result, Ok, Err, refl, sym, ap, subst, ◌∙◌, append_assoc, arith, inl, inr, cond, cases_lt, le-ltb, lt-ltb, length-append, length-take}
-use Rattle.dw_num.proofs.Words.{drop_at, Target, Refusal, Input, Takes, behind, Read, fault, address_at, fixed_at, ◌>>=◌, byte_count, Address, Truncated}
+use Rattle.dw_num.proofs.Words.{◌≡◌, ℕ, ◌+◌, List, [], ◌∷◌, ◌++◌, length, take, refl, sym, ap, subst, ◌∙◌, append_assoc, arith, le-ltb, ltb-false, nat_lt, length-append, length-take}
+use Rattle.dw_num.proofs.Words.{drop_at, Target, Input, Takes, behind, Read, address_at, fixed_at, ◌>>=◌, byte_count, Address}
 use Rattle.std.proofs.lemmas.List.{take_at as taken_at}
 use Rattle.dw_num.specs.Front.{take_at}
-use Rattle.dw_num.proofs.Lent.{LebLaws.{done, ok_is}, FixedLaws.{byte_at_again, fixed_at_again, took}}
+pub use Rattle.dw_num.proofs.Lent.LebLaws.{bind_ok, cond_ok}
+use Rattle.dw_num.proofs.Lent.{LebLaws.{cond_not, done, ok_is, took}, FixedLaws.{byte_at_again, fixed_at_again}}
 
 -- two takes, one after the other, are one
 pub Takes-then : (i j k : Input) (x y : List ℕ) → Takes i x j → Takes j y k → Takes i (x ++ y) k
@@ -12,10 +13,6 @@ Takes-then i j k x y p q = record {
   at = q.at ∙ ap (λ (n : ℕ). n + length y) p.at ∙ omega (arith, length-append x y);
   target = q.target ∙ p.target;
 }
-
-pub bind_ok : {A B : Type 0} (r : Result A Refusal) (f : A → Result B Refusal) (y : B) → r >>= f ≡ done y → (x : A) × (r ≡ done x) × (f x ≡ done y)
-bind_ok (Ok x) f y e = (x, refl, e)
-bind_ok (Err d) f y e = absurd cc
 
 -- what b spells is read as x, wherever it stands and whatever follows
 abbrev pub Again : {X : Type 0} → Target → (Input → Read X) → X → List ℕ → Type 0
@@ -28,10 +25,6 @@ again-then target read next x y b c first second at rest =
     let place : (at + length b) + length c ≡ at + length (b ++ c) = omega (arith, length-append b c) in
     rw (append_assoc, one, two, place) refl
 
-pub cond_ok : {A : Type 0} (b : Bool) (x : Result A Refusal) (r : Refusal) (y : A) → cond b x (Err r) ≡ done y → (b ≡ true) × (x ≡ done y)
-cond_ok true x r y e = (refl, e)
-cond_ok false x r y e = absurd cc
-
 -- ---- bytes as they are
 
 pub take_again : (target : Target) (n : ℕ) (b : List ℕ) → length b ≡ n → Again target (take_at n) b b
@@ -40,13 +33,11 @@ take_again target n b len at rest = rw (le-ltb (length (b ++ rest)) n (omega (ar
 
 pub take_found : (n : ℕ) (i new : Input) (b : List ℕ) → take_at n i ≡ done (b, new) → Takes i b new × (length b ≡ n)
 unfolding take_at
-take_found n i new b e = elim (cases_lt (length i.bytes) n) [
-  | inl short ↦ let k : fault {A = List ℕ × Input} Truncated i.at ≡ done (b, new) = rw (lt-ltb (length i.bytes) n short) at e in absurd cc
-  | inr long ↦
-      let k : done (take n i.bytes, behind n i) ≡ done (b, new) = rw (le-ltb (length i.bytes) n long) at e in
-      subst (λ (p : List ℕ × Input). Takes i p.0 p.1 × (length p.0 ≡ n)) (ok_is (take n i.bytes, behind n i) (b, new) k)
-      (took i n long, omega (arith, length-take n i.bytes))
-]
+take_found n i new b e =
+    let k = cond_not (nat_lt (length i.bytes) n) _ _ (b, new) e in
+    let long = ltb-false (length i.bytes) n k.0 in
+    subst (λ (p : List ℕ × Input). Takes i p.0 p.1 × (length p.0 ≡ n)) (ok_is (take n i.bytes, behind n i) (b, new) k.1)
+    (took i n long, omega (arith, length-take n i.bytes))
 
 pub byte_again : (target : Target) (v : ℕ) → Again target (fixed_at 1) v (v ∷ [])
 byte_again target v at rest = byte_at_again at target v rest

@@ -1,26 +1,7 @@
 -- Sums of value bits that are turned over, and signed numbers.
-use Rattle.dw_num.proofs.Words.{◌≡◌, ℕ, suc, ◌+◌, ◌-◌, ◌*◌, ◌%◌, ◌^◌, ◌<◌, ◌≤◌, Bool, true, false, List, [], ◌∷◌, ◌++◌, length, get_or, take, refl, sym, ap, ◌∙◌, add-zero, zero-add, arith, pos, negsuc, ◌-ℤ◌, FitsSigned, w64, pow-suc, ints}
-use Rattle.dw_num.proofs.Words.{to_z, of_z, take_more, length-take, groups_from, groups, last_byte, is_negative, signed_groups, turned, turned_from, as_signed}
-use Rattle.dw_num.proofs.LebLemmas.{pow128}
-
-pub turned_from-append : (t : Bool) (k : ℕ) (xs ys : List ℕ) → turned_from t k (xs ++ ys) ≡ turned_from t k xs + turned_from t (k + length xs) ys
-turned_from-append t k [] ys = rw (add-zero, zero-add) refl
-turned_from-append t k (x ∷ xs) ys =
-    let e : k + suc (length xs) ≡ suc k + length xs = omega arith in
-    rw e (omega (arith, turned_from-append t (suc k) xs ys))
-
-pub turned-take : (t : Bool) (bytes : List ℕ) (i : ℕ) → i < length bytes → turned_from t 0 (take (i + 1) bytes) ≡ turned_from t 0 (take i bytes) + turned t (get_or bytes i 0) * 128 ^ i
-turned-take t bytes i h =
-    let x = get_or bytes i 0 in
-    let n : 0 + length (take i bytes) ≡ i = omega (arith, length-take i bytes) in
-    let e : turned_from t 0 (take i bytes ++ x ∷ []) ≡ turned_from t 0 (take i bytes) + (turned t x * 128 ^ i + 0) =
-    turned_from-append t 0 (take i bytes) (x ∷ []) ∙ ap (λ (p : ℕ). turned_from t 0 (take i bytes) + (turned t x * 128 ^ p + 0)) n in
-    rw (take_more bytes i 0 h) (omega (arith, e))
-
--- not turned over, it is the sum of the groups
-pub turned_from-false : (k : ℕ) (xs : List ℕ) → turned_from false k xs ≡ groups_from k xs
-turned_from-false k [] = refl
-turned_from-false k (x ∷ xs) = ap (λ (n : ℕ). x % 128 * 128 ^ k + n) (turned_from-false (suc k) xs)
+use Rattle.dw_num.proofs.Words.{◌≡◌, ℕ, suc, ◌+◌, ◌-◌, ◌*◌, ◌%◌, ◌^◌, ◌<◌, ◌≤◌, Bool, true, false, List, [], ◌∷◌, length, get_or, refl, sym, ap, add-zero, arith, pos, negsuc, ◌-ℤ◌, FitsSigned, w64, pow-suc, ints}
+use Rattle.dw_num.proofs.Words.{to_z, of_z, groups_from, groups, last_byte, is_negative, signed_groups, turned_from, as_signed}
+use Rattle.dw_num.proofs.LebLemmas.{pow128, turned_from-false}
 
 -- both sums together
 pub both_sums : (k : ℕ) (xs : List ℕ) → groups_from k xs + turned_from true k xs + 128 ^ k ≡ 128 ^ (k + length xs)

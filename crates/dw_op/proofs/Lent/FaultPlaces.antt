@@ -1,5 +1,5 @@
 -- The faults of a block have places in it or at its end.
-use Rattle.dw_op.proofs.Words.{ℕ, zero, suc, ◌≤◌, List, [], ◌∷◌, length, Option, Some, None, Ok, Err, sym, ap, subst, arith, inl, inr, nat_le, ◌&&◌, length-append, Refusal, Target, Input, byte_count, Read, fixed_at, take_at, uleb_at}
+use Rattle.dw_op.proofs.Words.{ℕ, zero, suc, ◌≤◌, List, [], ◌∷◌, length, Option, Some, None, Err, sym, ap, subst, arith, inl, inr, nat_le, ◌&&◌, length-append, Refusal, Target, Input, byte_count, Read, fixed_at, take_at, uleb_at}
 use Rattle.dw_op.proofs.Words.{address_at, ◌>>=◌, Profile, Step, Opcode, start, joined, BlockFault, Field, OpForm, opcode_of, allows, width_of, with_op, with_jump, operands_at, judged, after_code, step_at}
 use Rattle.dw_num.proofs.Lent.Stays.{Inside, Stays, inside_all, stays_in, stays-then, either_stays, fixed_stays, take_stays, uleb_stays, sleb_stays, register_stays}
 use Rattle.dw_op.proofs.{Signed.count_in, Lent.ReadingLaws.{branch_in, form_for, signed_in, sized_in, counted_in, value_at, then_value, step_of, operands_are}, OperandLaws.fault_stuck}
@@ -16,11 +16,8 @@ value_stays fields.address i = fixed_stays (byte_count i.target.size) i
 value_stays fields.unsigned i = uleb_stays i
 value_stays fields.signed i = sleb_stays i
 value_stays fields.register i = register_stays i
-value_stays fields.size i = of (fixed_at 1 i) (fixed_stays 1 i)
-  where
-    of : (read : Read ℕ) → Stays i read → Stays i (read >>= sized_in (byte_count i.target.size) i.at)
-    of (Ok x) h = either_stays (nat_le 1 x.0 && nat_le x.0 (byte_count i.target.size)) i _ _ h (omega arith, omega arith)
-    of (Err r) h = h
+value_stays fields.size i = stays-then i (fixed_at 1 i) (sized_in (byte_count i.target.size) i.at) (fixed_stays 1 i)
+    (λ x e inside. either_stays (nat_le 1 x.0 && nat_le x.0 (byte_count i.target.size)) i _ _ inside (omega arith, omega arith))
 value_stays fields.block i = next_stays i (uleb_at i) counted_in (uleb_stays i) (λ x. take_stays x.0 x.1)
 
 form_stays : (form : OpForm) (i : Input) → Stays i (step_of form i)
@@ -35,15 +32,11 @@ operands_stay opcode i = subst (Stays i) (sym (operands_are opcode i)) (form_sta
 
 step_stays : (profile : Profile) (i : Input) → Stays i (step_at profile i)
 unfolding step_at
-step_stays profile i = of (fixed_at 1 i) (fixed_stays 1 i)
+step_stays profile i = stays-then i (fixed_at 1 i) (after_code profile i.at) (fixed_stays 1 i) (λ x e inside. known (opcode_of x.0) x.1 inside)
   where
     known : (o : Option Opcode) (j : Input) → Inside i j → Stays i (judged profile i.at o j)
     known None j e = (omega arith, omega arith)
     known (Some opcode) j e = either_stays (allows profile opcode) i _ _ (stays_in i j (operands_at opcode j) e (operands_stay opcode j)) (omega arith, omega arith)
-
-    of : (read : Read ℕ) → Stays i read → Stays i (read >>= after_code profile i.at)
-    of (Ok x) h = known (opcode_of x.0) x.1 h
-    of (Err r) h = h
 
 start_within : (parts : List (List ℕ)) (k : ℕ) → start parts k ≤ length (joined parts)
 start_within parts zero = omega arith

@@ -1,5 +1,5 @@
 -- Reading an operation from the front of a block, as the code does it: DWARF 5, 7.7.1. Faults.antt says which fault that gives without it.
-use Rattle.std.specs.Prelude.{ℕ, ◌-◌, ◌%◌, List, [], ◌∷◌, Option, Some, None, Ok, nat_lt, nat_le, ◌&&◌, if◌then◌else◌, Bool, true, false, ℤ, pos, negsuc}
+use Rattle.std.specs.Prelude.{ℕ, ◌-◌, ◌*◌, ◌%◌, List, [], ◌∷◌, Option, Some, None, Ok, nat_lt, nat_le, ◌&&◌, if◌then◌else◌, Bool, true, false, ℤ, pos, negsuc}
 use Rattle.dw_num.specs.declared.refusal.Code.TheVariants.{UnknownOperation, NotInFrame, BadDerefSize}
 use Rattle.dw_num.specs.declared.target.Order.{Order}
 use Rattle.dw_num.specs.Target.{address_limit, byte_count}
@@ -85,7 +85,7 @@ allows Location opcode = true
 abbrev pub with_op : {X : Type 0} → (X → Op) → X × Input → Read Step
 with_op make x = Ok (steps.Plain (make x.0), x.1)
 
--- how many bytes, the first number with a sign bit, and the last number
+-- how many bytes, and the first number with a sign bit
 abbrev pub width_of : ByteCount → ℕ
 width_of One = 1
 width_of Two = 2
@@ -98,15 +98,9 @@ half_of Two = 0x8000
 half_of Four = 0x80000000
 half_of Eight = 0x8000000000000000
 
-abbrev pub top_of : ByteCount → ℕ
-top_of One = 0xff
-top_of Two = 0xffff
-top_of Four = 0xffffffff
-top_of Eight = 0xffffffffffffffff
-
 -- two's complement
 abbrev pub signed_of : ByteCount → ℕ → ℤ
-signed_of count number = if nat_lt number (half_of count) then pos number else negsuc (top_of count - number)
+signed_of count number = if nat_lt number (half_of count) then pos number else negsuc (2 * half_of count - 1 - number)
 
 abbrev pub with_jump : Branch → Order → List ℕ × Input → Read Step
 with_jump branch order b = Ok (steps.Jump branch (fixed_number order 2 b.0), b.1)
@@ -117,6 +111,9 @@ after_register r = sleb_at r.1 >>= with_op (Breg r.0)
 -- from 1 byte to an address's
 abbrev pub size_in : ℕ → ℕ → ℕ × Input → Read Step
 size_in most at k = if nat_le 1 k.0 && nat_le k.0 most then with_op DerefSize k else fault BadDerefSize at
+
+abbrev pub deref_size_at : Input → Read Step
+deref_size_at i = fixed_at 1 i >>= size_in (byte_count i.target.size) i.at
 
 abbrev pub after_size : ℕ × Input → Read Step
 after_size size = uleb_at size.1 >>= with_op (BitPiece size.0)
@@ -140,7 +137,7 @@ operands_at opcodes.LongReg i = register_at i >>= with_op Reg
 operands_at opcodes.LongBreg i = register_at i >>= after_register
 operands_at opcodes.Fbreg i = sleb_at i >>= with_op Fbreg
 operands_at opcodes.Piece i = uleb_at i >>= with_op Piece
-operands_at opcodes.DerefSize i = fixed_at 1 i >>= size_in (byte_count i.target.size) i.at
+operands_at opcodes.DerefSize i = deref_size_at i
 operands_at opcodes.BitPiece i = uleb_at i >>= after_size
 operands_at opcodes.Implicit i = uleb_at i >>= after_length
 

@@ -1,6 +1,6 @@
-use Rattle.dw_num.proofs.Words.{Ok, Err, refl, ◌∙◌, sym, arith, Input, Read, shortest_uleb, shortest_sleb}
+use Rattle.dw_num.proofs.Words.{Ok, Err, refl, ◌∙◌, sym, arith, Input, Read}
 use Rattle.dw_num.specs.Laws.{IsRest, StaysIn, ReadsStay, OneUleb, OneSleb, ShortestUleb, ShortestSleb}
-use Rattle.dw_num.proofs.Lent.Shortest.{puts_uleb, puts_sleb, shortest_uleb-spells, shortest_uleb-least, shortest_sleb-spells, shortest_sleb-least}
+use Rattle.dw_num.proofs.Lent.Shortest.{appends_uleb, appends_sleb, puts_uleb, puts_sleb}
 use Rattle.dw_num.proofs.Lent.Stays.{Stays, take_stays, fixed_stays, address_stays, unit_length_stays, uleb_stays, sleb_stays, register_stays}
 use Rattle.dw_num.proofs.laws.number_laws.Goals as goal
 
@@ -30,10 +30,10 @@ one_sleb : OneSleb
 one_sleb v old one other p q = puts_sleb v old one p ∙ sym (puts_sleb v old other q)
 
 shortest : ShortestUleb
-shortest v old fits = record { spelling = shortest_uleb v; spells = shortest_uleb-spells v fits; shortest = shortest_uleb-least v; appended = refl }
+shortest v old fits = appends_uleb v old _ fits refl
 
 shortest_signed : ShortestSleb
-shortest_signed v old fits = record { spelling = shortest_sleb v; spells = shortest_sleb-spells v fits; shortest = shortest_sleb-least v; appended = refl }
+shortest_signed v old fits = appends_sleb v old _ fits refl
 
 pub returns : goal.returns
 returns c = record { within = reads_stay; unsigned = one_uleb; signed = one_sleb; shortest = shortest; shortest_signed = shortest_signed }

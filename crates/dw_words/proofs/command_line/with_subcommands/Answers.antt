@@ -1,8 +1,11 @@
-use Rattle.dw_words.proofs.Words.{get_or, take, App, with_subcommand, program, Name, subcommand_named, with_subcommands}
+use Rattle.clap.specs.declared.builder.command.Command.{Command}
+use Rattle.dw_words.proofs.Words.{◌∙◌, ◌||◌, Bool, ap₂, get_or, take, AddsSubcommand, App, IsCommand, with_subcommand, program, Name, subcommand_named, with_subcommands}
 use Rattle.std.proofs.lemmas.List.Sums.{fold_more}
 use Rattle.dw_words.specs.declared.request.Name.TheVariants.{At}
-use Rattle.dw_words.proofs.Commands.{listed}
 use Rattle.dw_words.proofs.command_line.with_subcommands.Goals as goal
+
+listed : (a b : App) (old sub new : Command) → IsCommand a old → IsCommand b sub → AddsSubcommand old sub new → IsCommand (with_subcommand a b.top) new
+listed a b old sub new h k adds = (adds.shape k.1 ∙ ap₂ (λ (x y : App). with_subcommand x y.top) h.0 k.0, adds.globals ∙ ap₂ (λ (c d : Bool). c || d) h.1 k.1)
 
 pub loop-name-preserved : goal.loop-name-preserved
 loop-name-preserved c =
