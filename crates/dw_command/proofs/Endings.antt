@@ -60,11 +60,6 @@ pub finished : (old mid new : Output) (text : List ℕ) (r : Result (Unit {0}) F
 finished old mid new text (Ok a) same put h = (h.0, h.1 ∙ same, h.2, subst (λ (t : List ℕ). Appends old.put new.put t) (append-nil text) (Appends-trans old.put mid.put new.put text [] put h.3))
 finished old mid new text (Err e) same put h = subst (λ (n : ℕ). Unprinted n new.failures e) same h
 
--- printed is what equals it
-pub prints_same : {A : Type 0} (old new : Output) (text text' : List ℕ) (a b : A) (r : Result A Failure) → a ≡ b → text ≡ text' → Prints old new text a r → Prints old new text' b r
-prints_same {A} old new text text' a b (Ok c) is same h = (h.0 ∙ is, h.1, h.2, subst (λ (t : List ℕ). Appends old.put new.put t) same h.3)
-prints_same {A} old new text text' a b (Err e) is same h = h
-
 -- the entries of a section that was checked are counted
 pub counted : (target : Target) (s : List ℕ) (table : Section) (counts : EntryCounts) → table ≡ record { target = target; bytes = s }
     → ((ps : List Piece) → Pieces table.target table.bytes ps → AreCounts ps counts) → Accepted target s → HasCounts target s counts

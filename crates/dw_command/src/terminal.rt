@@ -14,18 +14,11 @@ fn is_order(byte: u8) -> bool
     byte.is_ascii_control() && byte != b'\n'
 }
 
-// The first byte that a terminal takes for an order.
-fn first_order(bytes: &[u8]) -> Option<usize>
-    ensures { result ≡ position is_order bytes.now }
-{
-    bytes.iter().position(|byte| is_order(*byte))
-}
-
-// How many bytes come before it.
+// How many bytes come before the first that a terminal takes for an order.
 fn plain_len(bytes: &[u8]) -> usize
     ensures { result ≡ position_or_len is_order bytes.now }
 {
-    match first_order(bytes) {
+    match bytes.iter().position(|byte| is_order(*byte)) {
         Some(len) => len,
         None => bytes.len(),
     }

@@ -4,14 +4,12 @@ ghost use Rattle.std.specs.Prelude.{◌≡◌, map};
 ghost use Rattle.dw_library.specs.CallerFrame.{policy_of, column_of, status_of, fault_in, fault_of_kind, fault_of_read, fault_of_register, told_fault, told_frame, no_frame, no_fault};
 ghost use Rattle.dw_library.specs.Registers.{told_register, AreTold};
 
-use crate::answer::OUT_OF_MEMORY;
+use crate::answer::{NO_FDE, OUT_OF_MEMORY};
 use crate::registers::{Register, put_registers};
 use crate::windows::Window;
 use dw_eval::{Kind, Policy};
 use dw_unwind::{Column, Frame as CallerFrame, UnwindError};
 
-/// No FDE covers the address.
-const NO_FDE: u32 = 5;
 /// An expression has no value; the fault says why, and in which column.
 pub(crate) const NO_VALUE: u32 = 6;
 /// A byte of a saved register is in no window.

@@ -13,10 +13,10 @@ ghost use Rattle.dw_library.specs.Changes.{AreAllChanges, AreWritten, Fits, Tell
 ghost use Rattle.dw_library.specs.Inner.Changes.{IsLow};
 
 use crate::answer::{
-    BAD_ARGUMENT, OK, OUT_OF_MEMORY, REFUSED, Refused, Section, TOO_SHORT, not_refused, target_of,
-    told,
+    BAD_ARGUMENT, NO_FDE, OK, OUT_OF_MEMORY, Refused, Section, TOO_SHORT, not_refused, refuse,
+    target_of,
 };
-use crate::index::{NO_FDE, Row, Rule, put_rules, told_row};
+use crate::index::{Row, Rule, put_rules, told_row};
 use dw_cfa::Row as CfaRow;
 use dw_num::ReadError;
 use dw_section::{Changes, Fde, FdeRef, Ranged, Table, check};
@@ -206,10 +206,7 @@ pub extern "C" fn dwframe_changes(
     };
     match check(alloc, section.bytes, target) {
         Ok(table) => put_covering(&table, address, changes, rules, needed),
-        Err(ReadError::Refused(refusal)) => {
-            *refused = told(1, refusal);
-            REFUSED
-        }
+        Err(ReadError::Refused(refusal)) => refuse(refused, 1, refusal),
         Err(ReadError::OutOfMemory) => OUT_OF_MEMORY,
     }
 }

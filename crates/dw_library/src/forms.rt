@@ -1,15 +1,11 @@
 //! Normal forms, and whether two sections say the same.
 
-ghost use Rattle.std.specs.Prelude.{◌≡◌, ◌≤◌, ℕ, List, length, IfOk, IfErr, OnErr};
-ghost use Rattle.dw_num.specs.Refusals.{Refuses};
-ghost use Rattle.dw_canon.specs.Normal.{IsNormalForm};
-ghost use Rattle.dw_normal.specs.Answers.{NormalFault};
+ghost use Rattle.std.specs.Prelude.{◌≡◌};
 ghost use Rattle.dw_library.specs.Answers.{target_of};
 ghost use Rattle.dw_library.specs.Forms.{IsCompared, IsNormalised, IsPlaced, section_of, target_of_both};
 
 use crate::answer::{
-    BAD_ARGUMENT, OK, OUT_OF_MEMORY, REFUSED, Refused, Section, TOO_SHORT, not_refused, target_of,
-    told,
+    BAD_ARGUMENT, OK, OUT_OF_MEMORY, Refused, Section, TOO_SHORT, not_refused, refuse, target_of,
 };
 use dw_normal::{SameError, Which, normalise, same};
 use dw_num::{ReadError, Target};
@@ -29,23 +25,6 @@ fn put_bytes(bytes: &[u8], out: &mut [u8]) -> u32
     OK
 }
 
-// Writes a section's normal form to the front of a buffer, where it fits, and its length.
-fn put_normal(
-    alloc: Global,
-    bytes: &[u8],
-    target: Target,
-    out: &mut [u8],
-    needed: &mut usize,
-) -> Result<u32, ReadError>
-    ensures placed { IfOk result (λ status. (n : List ℕ) × IsNormalForm target bytes.now n × (length n ≤ 2147483647) × (needed.new ≡ length n) × IsPlaced n out.old status out.new) }
-    ensures first { IfErr result (Refuses (NormalFault target 2147483647 bytes.now)) }
-    ensures kept { OnErr result ((out.new ≡ out.old) × (needed.new ≡ needed.old)) }
-{
-    let normal = normalise(alloc, bytes, target, LIMIT)?;
-    *needed = normal.len();
-    Ok(put_bytes(&normal, out))
-}
-
 /// Writes the normal form of a section to the front of `out`, and its length to `needed`. Where `out` is shorter it answers
 /// `TOO_SHORT` with that length, and `out` stays; it stays also where the section is refused.
 #[unsafe(no_mangle)]
@@ -63,12 +42,12 @@ pub extern "C" fn dwframe_normalise(
     let Some(target) = target_of(section.address_size, section.byte_order) else {
         return BAD_ARGUMENT;
     };
-    match put_normal(alloc, section.bytes, target, out, needed) {
-        Ok(status) => status,
-        Err(ReadError::Refused(refusal)) => {
-            *refused = told(1, refusal);
-            REFUSED
+    match normalise(alloc, section.bytes, target, LIMIT) {
+        Ok(normal) => {
+            *needed = normal.len();
+            put_bytes(&normal, out)
         }
+        Err(ReadError::Refused(refusal)) => refuse(refused, 1, refusal),
         Err(ReadError::OutOfMemory) => OUT_OF_MEMORY,
     }
 }
@@ -116,10 +95,7 @@ pub extern "C" fn dwframe_same(
             *alike = u32::from(same);
             OK
         }
-        Err(SameError::Refused(which, refusal)) => {
-            *refused = told(section_of(which), refusal);
-            REFUSED
-        }
+        Err(SameError::Refused(which, refusal)) => refuse(refused, section_of(which), refusal),
         Err(SameError::OutOfMemory) => OUT_OF_MEMORY,
     }
 }

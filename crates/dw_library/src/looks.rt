@@ -8,8 +8,7 @@ ghost use Rattle.dw_library.specs.Looks.{AreLooks, IsLook, Look, TellsLooks, Tol
 ghost use Rattle.dw_library.specs.Inner.Looks.{IsLeft, status_of};
 
 use crate::answer::{
-    BAD_ARGUMENT, OK, OUT_OF_MEMORY, REFUSED, Refused, Section, TOO_SHORT, not_refused, target_of,
-    told,
+    BAD_ARGUMENT, OK, OUT_OF_MEMORY, Refused, Section, TOO_SHORT, not_refused, refuse, target_of,
 };
 use crate::index::{Row, Rule, no_row, put_rules, told_row};
 use dw_num::{ReadError, Target};
@@ -157,10 +156,7 @@ pub extern "C" fn dwframe_rows_at(
     }
     match check(alloc, section.bytes, target) {
         Ok(table) => status_of(put_looks(&table, addresses, rows, rules, done)),
-        Err(ReadError::Refused(refusal)) => {
-            *refused = told(1, refusal);
-            REFUSED
-        }
+        Err(ReadError::Refused(refusal)) => refuse(refused, 1, refusal),
         Err(ReadError::OutOfMemory) => OUT_OF_MEMORY,
     }
 }

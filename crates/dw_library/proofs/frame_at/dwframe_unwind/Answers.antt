@@ -12,6 +12,6 @@ pub returns-in-Err-Refused : goal.returns-in-Err-Refused
 returns-in-Err-Refused c =
     let a = c.args in
     let is_target : target_of a.section.now.address_size a.section.now.byte_order ≡ Some c.in-Some.target = sym c.target_of.ensures ∙ c.in-Some.is in
-    let is_told = rw c.in-Err-Refused.refusal-is at c.told.ensures in
+    let is_told = rw c.in-Err-Refused.refusal-is at c.refuse.ensures.told in
     rw (is_target, sym c.policy_of.ensures) (refused_is c.in-Some.target c.policy_of.result a.section.now.bytes.now a.stop.now (held_in a.held.now) a.out.now _ c.in-Err-Refused.refusal
-    c.if-is_none.ensures (rw c.in-Err-Refused.field-0-is at c.in-Err-Refused.ensures.first) (rw (is_told, c.no_frame.ensures, c.no_fault.ensures) refl))
+    c.if-is_none.ensures (rw c.in-Err-Refused.field-0-is at c.in-Err-Refused.ensures.first) (rw (is_told, c.refuse.ensures.status, c.no_frame.ensures, c.no_fault.ensures) refl))

@@ -7,6 +7,5 @@ returns-in-Err-Unwind-clause-own c =
     let a = c.args in
     let is_target : target_of a.section.now.address_size a.section.now.byte_order ≡ Some c.in-Some.target = sym c.target_of.ensures ∙ c.in-Some.is in
     let is_policy : policy_of a.stop.now.unset ≡ Some c.in-Some-policy_of.default = sym c.policy_of.ensures ∙ c.in-Some-policy_of.is in
-    let kept = c.in-Err-Unwind.ensures.kept in
     rw (is_target, is_policy) (λ t. own_fails c.in-Some.target c.in-Some-policy_of.default a.section.now.bytes.now a.stop.now (held_in a.held.now) a.out.now _ c.in-Err-Unwind.error
-    (rw (c.status_of.ensures, c.told_fault.ensures, c.not_refused.ensures, kept.0, kept.1, c.no_frame.ensures) refl) (rw c.in-Err-Unwind.field-0-is at (c.in-Err-Unwind.ensures.own t)))
+    (rw (c.status_of.ensures, c.told_fault.ensures, c.not_refused.ensures, c.no_frame.ensures) refl) (rw c.in-Err-Unwind.field-0-is at (c.in-Err-Unwind.ensures.own t)))
