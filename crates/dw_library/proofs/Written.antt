@@ -5,14 +5,14 @@ use Rattle.dw_library.proofs.Words.{IsAmong, Fde, Rule, Room, over, IsLook, Look
 use Rattle.std.proofs.lemmas.Slice.Zip.{AllZip-long}
 use Rattle.dw_library.specs.declared.index.Row.{Row}
 
-pub over_length : (rules old : List Rule) → length (over rules old) ≡ length old
+pub over_length : {X : Type 0} (items old : List X) → length (over items old) ≡ length old
 over_length [] old = refl
-over_length (rule ∷ rules) [] = refl
-over_length (rule ∷ rules) (x ∷ old) = ap suc (over_length rules old)
+over_length (item ∷ items) [] = refl
+over_length (item ∷ items) (x ∷ old) = ap suc (over_length items old)
 
-over_empty : (rules : List Rule) → over rules [] ≡ []
+over_empty : {X : Type 0} (items : List X) → over items [] ≡ []
 over_empty [] = refl
-over_empty (rule ∷ rules) = refl
+over_empty (item ∷ items) = refl
 
 -- more rules behind some that fit, and behind some that do not
 over_fits : (before own old : List Rule) → length before ≤ length old → take (length before) (over before old) ++ over own (drop (length before) (over before old)) ≡ over (before ++ own) old
@@ -20,11 +20,11 @@ over_fits [] own old le = refl
 over_fits (rule ∷ before) own [] le = absurd (omega arith)
 over_fits (rule ∷ before) own (x ∷ old) le = ap (λ (l : List Rule). rule ∷ l) (over_fits before own old (omega arith))
 
-over_full : (before own old : List Rule) → length old ≤ length before → over before old ≡ over (before ++ own) old
+pub over_full : {X : Type 0} (before own old : List X) → length old ≤ length before → over before old ≡ over (before ++ own) old
 over_full [] own [] le = sym (over_empty own)
 over_full [] own (x ∷ old) le = absurd (omega arith)
-over_full (rule ∷ before) own [] le = refl
-over_full (rule ∷ before) own (x ∷ old) le = ap (λ (l : List Rule). rule ∷ l) (over_full before own old (omega arith))
+over_full (item ∷ before) own [] le = refl
+over_full (item ∷ before) own (x ∷ old) le = ap (λ l. item ∷ l) (over_full before own old (omega arith))
 
 pub left_within : (size : ℕ) (before : List Rule) (room : Room) → IsLeft size before room → room.place ≤ size
 left_within size before room (inl fits) = omega (arith, fits.1, fits.2)

@@ -1,7 +1,7 @@
 //! What is given and told of a frame of the caller.
 
 ghost use Rattle.std.specs.Prelude.{◌≡◌, map};
-ghost use Rattle.dw_library.specs.CallerFrame.{policy_of, column_of, status_of, fault_in, fault_of_kind, fault_of_read, fault_of_register, told_fault, told_frame, no_frame, no_fault};
+ghost use Rattle.dw_library.specs.CallerFrame.{policy_of, column_of, status_of, fault_of_kind, fault_of_read, fault_of_register, told_fault, told_frame, no_frame, no_fault};
 ghost use Rattle.dw_library.specs.Registers.{told_register, AreTold};
 
 use crate::answer::{NO_FDE, OUT_OF_MEMORY};
@@ -103,12 +103,6 @@ pub(crate) fn status_of(error: UnwindError) -> u32
     }
 }
 
-fn fault_in(column: Column) -> Fault
-    ensures { result ≡ fault_in column }
-{
-    fault_of_register(column, 0, 0, 0)
-}
-
 pub(crate) fn no_fault() -> Fault
     ensures { result ≡ no_fault }
 {
@@ -184,7 +178,7 @@ pub(crate) fn told_fault(error: UnwindError) -> Fault
             len,
         } => fault_of_read(column, 0, 0, address, len),
         UnwindError::NoRegister { column, register } => fault_of_register(column, 0, 0, register),
-        UnwindError::Device { column } => fault_in(column),
+        UnwindError::Device { column } => fault_of_register(column, 0, 0, 0),
         UnwindError::NoFde | UnwindError::OutOfMemory => no_fault(),
     }
 }

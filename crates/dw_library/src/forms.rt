@@ -65,10 +65,7 @@ fn section_of(which: Which) -> u32
 fn target_of_both(first: &Section<'_>, second: &Section<'_>) -> Option<Target>
     ensures { result ≡ target_of_both first.now.address_size first.now.byte_order second.now.address_size second.now.byte_order }
 {
-    if first.address_size != second.address_size {
-        return None;
-    }
-    if first.byte_order != second.byte_order {
+    if first.address_size != second.address_size || first.byte_order != second.byte_order {
         return None;
     }
     target_of(first.address_size, first.byte_order)

@@ -1,18 +1,11 @@
 //! The frame of the caller, by an index that the caller keeps, or by one that is made.
 
-ghost use Rattle.std.specs.Prelude.{◌≡◌, ◌⊎◌, map, OnErr, Ok, Err, MatchResult};
+ghost use Rattle.std.specs.Prelude.{Ok, MatchResult};
 ghost use Rattle.dw_section.specs.Ranges.{IsTable};
-ghost use Rattle.dw_unwind.specs.declared.by_index.UnwindAtError.TheVariants as TheUnwindAtError;
-ghost use Rattle.dw_unwind.specs.declared.frame.Frame.{Frame as TheCallerFrame};
-ghost use Rattle.dw_unwind.specs.declared.frame.UnwindError.TheVariants as TheUnwindError;
-ghost use Rattle.dw_unwind.specs.Unwound.{Unwound, stopped};
-ghost use Rattle.dw_unwind.specs.UnwoundAt.{UnwoundAt};
 ghost use Rattle.dw_library.specs.Answers.{target_of};
-ghost use Rattle.dw_library.specs.CallerFrame.{IsFrame, IsUnwound, Told, held_in, policy_of, told_frame};
+ghost use Rattle.dw_library.specs.CallerFrame.{IsFrame, IsUnwound, Told, held_in, policy_of};
 ghost use Rattle.dw_library.specs.FrameAt.{IsAnyUnwound, IsFrameAt, IsOwnUnwound};
-ghost use Rattle.dw_library.specs.Inner.FrameAt.{IsOwn, Why, WhyOwn};
-ghost use Rattle.dw_library.specs.Registers.{told_register, AreTold};
-ghost use Rattle.dw_library.specs.Windows.{byte_among};
+ghost use Rattle.dw_library.specs.Inner.FrameAt.{Why, WhyOwn};
 
 use crate::answer::{
     BAD_ARGUMENT, BAD_INDEX, OUT_OF_MEMORY, Refused, Section, not_refused, refuse, target_of,

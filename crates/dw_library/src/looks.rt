@@ -11,7 +11,7 @@ use crate::answer::{
     BAD_ARGUMENT, OK, OUT_OF_MEMORY, Refused, Section, TOO_SHORT, not_refused, refuse, target_of,
 };
 use crate::index::{Row, Rule, no_row, put_rules, told_row};
-use dw_num::{ReadError, Target};
+use dw_num::ReadError;
 use dw_section::{Lookups, Table, check};
 use std::alloc::{AllocError, Global};
 
