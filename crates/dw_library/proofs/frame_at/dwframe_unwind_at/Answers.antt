@@ -2,8 +2,8 @@ use Rattle.dw_library.proofs.Words.{◌≡◌, Some, refl, sym, ◌∙◌, targe
 use Rattle.dw_library.proofs.FramesAt.{own_fails}
 use Rattle.dw_library.proofs.frame_at.dwframe_unwind_at.Goals as goal
 
-pub returns-in-Err-Unwind-clause-own : goal.returns-in-Err-Unwind-clause-own
-returns-in-Err-Unwind-clause-own c =
+pub returns-clause-own : goal.returns-clause-own
+returns-clause-own c =
     let a = c.args in
     let is_target : target_of a.section.now.address_size a.section.now.byte_order ≡ Some c.in-Some.target = sym c.target_of.ensures ∙ c.in-Some.is in
     let is_policy : policy_of a.stop.now.unset ≡ Some c.in-Some-policy_of.default = sym c.policy_of.ensures ∙ c.in-Some-policy_of.is in
