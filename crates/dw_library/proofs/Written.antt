@@ -1,8 +1,9 @@
 -- Rows of many addresses, and their rules one after another over a buffer.
 use Rattle.dw_library.proofs.Words.{◌≡◌, ℕ, suc, ◌+◌, ◌-◌, ◌<◌, ◌≤◌, List, [], ◌∷◌, ◌++◌, length, take, drop, map, get_or, slice_set, refl, sym, ap, subst, ◌∙◌, arith, true, inl, inr, Option, Some, AllZip, append_snoc, drop-cons}
 use Rattle.dw_library.proofs.Words.{set-append_seam, take-length, take-suc, append-nil, drop_all, flat_map_more, length-drop, length-map, length-take-le, map_push, take_all, same_Some, mid_of, post_of, put_mid, Target, FindsFde, Covers}
-use Rattle.dw_library.proofs.Words.{IsAmong, Fde, Rule, Room, over, IsLook, Look, rules_in, IsLeft}
+use Rattle.dw_library.proofs.Words.{Bool, false, None, IsAmong, LooksUp, NoneCovers, RulesAt, Rules, Fde, Rule, Room, over, IsLook, Look, rules_in, IsLeft}
 use Rattle.std.proofs.lemmas.Slice.Zip.{AllZip-long}
+use Rattle.dw_section.specs.Table.{Section}
 use Rattle.dw_library.specs.declared.index.Row.{Row}
 
 pub over_length : {X : Type 0} (items old : List X) → length (over items old) ≡ length old
@@ -54,11 +55,25 @@ written_left before own buffer now part room left is le same =
     let all : part ≡ over own (drop room.place now) = same ∙ ap (λ (l : List Rule). over own l) (rest_of room.place now le) in
     ap (λ (l : List Rule). take room.place now ++ (part ++ l)) none ∙ ap (λ (l : List Rule). take room.place now ++ l) (append-nil part ∙ all) ∙ over_left before own buffer now room left is
 
--- the FDE that a look-up lends is listed, and covers the address
-pub lent_listed : (fs : List Fde) (a : ℕ) (lent : Option Fde) (fde : Fde) → FindsFde fs a true lent → lent ≡ Some fde → IsAmong fde fs × Covers a fde
-lent_listed fs a lent fde (found, is, listed, covers) same =
-    let one : found ≡ fde = same_Some found fde (sym is ∙ same) in
-    (subst (λ (f : Fde). IsAmong f fs) one listed, subst (Covers a) one covers)
+-- what the row and the FDE of a look-up say
+module _ (s : Section) (fs : List Fde) (a : ℕ) where
+  pub none_covers : (b : Bool) (row : Option Rules) → LooksUp s fs a b row → row ≡ None → NoneCovers a fs
+  none_covers false row looks none = looks.0
+  none_covers true row looks none = absurd (let both = sym looks.1 ∙ none in cc)
+
+  pub rules_there : (b : Bool) (row : Option Rules) (rules : Rules) → LooksUp s fs a b row → row ≡ Some rules → RulesAt s.target s.bytes a rules
+  rules_there false row rules looks is = absurd (let both = sym looks.1 ∙ is in cc)
+  rules_there true row rules looks is = subst (RulesAt s.target s.bytes a) (same_Some looks.0 rules (sym looks.1 ∙ is)) looks.2
+
+  pub has_fde : (b : Bool) (row : Option Rules) (rules : Rules) (lent : Option Fde) → LooksUp s fs a b row → FindsFde fs a b lent → row ≡ Some rules → lent ≡ None → ⊥
+  has_fde false row rules lent looks finds is none = let both = sym looks.1 ∙ is in absurd cc
+  has_fde true row rules lent looks finds is none = let both = sym finds.1 ∙ none in absurd cc
+
+  pub lent_listed : (b : Bool) (lent : Option Fde) (fde : Fde) → FindsFde fs a b lent → lent ≡ Some fde → IsAmong fde fs × Covers a fde
+  lent_listed false lent fde none same = absurd (let both = sym none ∙ same in cc)
+  lent_listed true lent fde (found, is, listed, covers) same =
+      let one : found ≡ fde = same_Some found fde (sym is ∙ same) in
+      (subst (λ (f : Fde). IsAmong f fs) one listed, subst (Covers a) one covers)
 
 zip_more : {X Y : Type 0} (R : X → Y → Type 0) (xs : List X) (ys : List Y) (x : X) (y : Y) → AllZip R xs ys → R x y → AllZip R (xs ++ x ∷ []) (ys ++ y ∷ [])
 zip_more R [] [] x y all r = (r, tt)

@@ -66,22 +66,10 @@ fn fde_in(entry: &Ranged) -> Fde
 fn put_at(out: &mut [Change], place: usize, change: Change)
     ensures inside { place < length out.old → out.new ≡ slice_set out.old place change }
     ensures outside { length out.old ≤ place → out.new ≡ out.old }
-    ensures few { length out.old < 2 ^ 64 }
 {
     if place < out.len() {
         out[place] = change;
     }
-}
-
-// Where the next rule goes in a buffer of this size, behind so many.
-fn place_behind(count: usize, size: usize) -> usize
-    ensures place { result ≡ min count size }
-    ensures few { size < 2 ^ 64 }
-{
-    if count < size {
-        return count;
-    }
-    size
 }
 
 // How many changes and rules there are with one change more, which has so many rules.
@@ -106,7 +94,7 @@ fn put_change(
 ) -> Totals
     ensures { (done : List (ℕ × Rules)) (changes : List TheChange) (buffer : List TheRule) → AreWritten (fde_in entry.now) done changes buffer out.old rules.old before → AreWritten (fde_in entry.now) (done ++ (address, row.now) ∷ []) changes buffer out.new rules.new result }
 {
-    let place = place_behind(before.rules, rules.len());
+    let place = before.rules.min(rules.len());
     let count = put_rules(row, &mut rules[place..]);
     let row = told_row(fde_in(entry), entry.range, row, count);
     put_at(out, before.changes, Change { address, row });

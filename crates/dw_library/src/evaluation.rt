@@ -50,10 +50,7 @@ pub struct Context {
 fn known_if(has: u8, value: u64) -> Option<u64>
     ensures { result ≡ known_if has value }
 {
-    if has == 0 {
-        return None;
-    }
-    Some(value)
+    (has != 0).then_some(value)
 }
 
 // The value over what a machine held.

@@ -54,14 +54,12 @@ fn put_look(
     ensures section { lookups.new.section ≡ table.now }
 {
     table.accepted();
-    if !lookups.find(address)? {
+    lookups.find(address)?;
+    let Some(specified) = lookups.row() else {
         *row = no_row();
         return Ok(0);
-    }
-    let Some(found) = lookups.fde() else {
-        unreachable!();
     };
-    let Some(specified) = lookups.row() else {
+    let Some(found) = lookups.fde() else {
         unreachable!();
     };
     let count = put_rules(specified, rules);

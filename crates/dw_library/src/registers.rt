@@ -48,19 +48,12 @@ pub(crate) fn give_all(registers: &mut Registers, given: &[Register]) -> Result<
 fn told_register(entry: (u16, Option<u64>)) -> Register
     ensures { result ≡ told_register entry }
 {
-    match entry {
-        (number, Some(value)) => Register {
-            number,
-            known: 1,
-            reserved: 0,
-            value,
-        },
-        (number, None) => Register {
-            number,
-            known: 0,
-            reserved: 0,
-            value: 0,
-        },
+    let (number, value) = entry;
+    Register {
+        number,
+        known: u16::from(value.is_some()),
+        reserved: 0,
+        value: value.unwrap_or(0),
     }
 }
 
