@@ -8,9 +8,9 @@ ghost use Rattle.dw_library.specs.Evaluation.{IsEvaluated, Told, ValueOf, known_
 
 use crate::answer::{BAD_ARGUMENT, OK, OUT_OF_MEMORY, Refused, not_refused, refuse, target_of};
 use crate::caller::{Fault, Held, NO_VALUE, fault_of_kind, no_fault};
-use crate::registers::give_all;
+use crate::registers::given_registers;
 use crate::windows::Windows;
-use dw_eval::{Env, EvalError, Registers, evaluate};
+use dw_eval::{Env, EvalError, evaluate};
 use dw_num::ReadError;
 use dw_op::{OpList, Profile, decode};
 use dw_unwind::Column;
@@ -62,11 +62,9 @@ fn value_of(
 ) -> Result<u64, EvalError>
     ensures { (result ≡ Err OutOfMemory) ⊎ ValueOf list.now.target list.now.ops context.now (held_in held.now) result }
 {
-    let mut registers = Registers::new(alloc);
-    match give_all(&mut registers, held.registers) {
-        Ok(()) => {}
-        Err(_) => return Err(EvalError::OutOfMemory),
-    }
+    let Ok(registers) = given_registers(alloc, held.registers) else {
+        return Err(EvalError::OutOfMemory);
+    };
     let mut memory = Windows {
         windows: held.windows,
         bytes: held.memory,

@@ -13,10 +13,10 @@ use crate::answer::{
 use crate::caller::{
     Fault, Frame, Held, Stop, no_fault, no_frame, policy_of, put_frame, status_of, told_fault,
 };
-use crate::registers::{Register, give_all};
+use crate::registers::{Register, given_registers};
 use crate::windows::Windows;
 use dw_cfa::RowRoom;
-use dw_eval::{Policy, Registers};
+use dw_eval::Policy;
 use dw_num::{ReadError, Target};
 use dw_section::{Ranged, check};
 use dw_unwind::{Frame as CallerFrame, FrameRoom, UnwindAtError, UnwindError, unwind_at};
@@ -36,11 +36,9 @@ fn frame_at<'r>(
     ensures any { MatchResult result (λ f. IsFrameAt target default bytes.now index.now stop.now (held_in held.now) (Ok f)) (Why target default bytes.now index.now stop.now (held_in held.now)) }
     ensures own { IsTable target bytes.now index.now → MatchResult result (λ f. IsFrame target default bytes.now stop.now (held_in held.now) (Ok f)) (WhyOwn target default bytes.now stop.now (held_in held.now)) }
 {
-    let mut registers = Registers::new(alloc);
-    match give_all(&mut registers, held.registers) {
-        Ok(()) => {}
-        Err(_) => return Err(UnwindAtError::Unwind(UnwindError::OutOfMemory)),
-    }
+    let Ok(registers) = given_registers(alloc, held.registers) else {
+        return Err(UnwindAtError::Unwind(UnwindError::OutOfMemory));
+    };
     let mut memory = Windows {
         windows: held.windows,
         bytes: held.memory,

@@ -193,31 +193,16 @@ pub(crate) fn no_row() -> Row
     }
 }
 
-fn cfa_kind_of(rule: &CfaRule<'_>) -> u32
-    ensures { result ≡ cfa_kind_of rule.now }
+// The kind of a rule of the CFA, and the register and the offset that it names.
+fn told_cfa(rule: &CfaRule<'_>) -> (u32, u16, i64)
+    ensures kind { result.0 ≡ cfa_kind_of rule.now }
+    ensures register { result.1 ≡ cfa_register_of rule.now }
+    ensures offset { result.2 ≡ cfa_offset_of rule.now }
 {
     match rule {
-        CfaRule::Unset => 0,
-        CfaRule::Register { .. } => 1,
-        CfaRule::Expression(_) => 2,
-    }
-}
-
-fn cfa_register_of(rule: &CfaRule<'_>) -> u16
-    ensures { result ≡ cfa_register_of rule.now }
-{
-    match rule {
-        CfaRule::Register { register, .. } => *register,
-        _ => 0,
-    }
-}
-
-fn cfa_offset_of(rule: &CfaRule<'_>) -> i64
-    ensures { result ≡ cfa_offset_of rule.now }
-{
-    match rule {
-        CfaRule::Register { offset, .. } => *offset,
-        _ => 0,
+        CfaRule::Unset => (0, 0, 0),
+        CfaRule::Register { register, offset } => (1, *register, *offset),
+        CfaRule::Expression(_) => (2, 0, 0),
     }
 }
 
@@ -229,14 +214,14 @@ pub(crate) fn told_row(fde: Fde, range: u64, rules: &CfaRow<'_>, count: usize) -
     ensures told { IsTold (record { fde = fde; row = rules.now }) result }
     ensures exact { result ≡ row_of fde rules.now }
 {
-    let cfa = rules.cfa_rule();
+    let (cfa_kind, cfa_register, cfa_offset) = told_cfa(rules.cfa_rule());
     Row {
         begin: fde.begin,
         range,
-        cfa_offset: cfa_offset_of(cfa),
+        cfa_offset,
         count,
-        cfa_kind: cfa_kind_of(cfa),
-        cfa_register: cfa_register_of(cfa),
+        cfa_kind,
+        cfa_register,
         return_register: fde.return_register,
     }
 }

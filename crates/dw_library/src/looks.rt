@@ -28,15 +28,9 @@ fn behind(room: Room, count: usize, size: usize) -> Room
     ensures { (before own : List TheRule) → IsLeft size before room → count ≡ length own → IsLeft size (before ++ own) result }
 {
     let left = size - room.place;
-    if count <= left {
-        return Room {
-            place: room.place + count,
-            short: room.short,
-        };
-    }
     Room {
-        place: size,
-        short: true,
+        place: room.place + count.min(left),
+        short: room.short || left < count,
     }
 }
 
