@@ -62,10 +62,7 @@ fn by_index(answer: Result<Frame<'_>, UnwindError>) -> Result<Frame<'_>, UnwindA
 fn is_set(row: &Row<'_>) -> bool
     ensures { MatchBool result (row.now.cfa ≡ Unset → ⊥) (row.now.cfa ≡ Unset) }
 {
-    match row.cfa_rule() {
-        CfaRule::Unset => false,
-        _ => true,
-    }
+    !matches!(row.cfa_rule(), CfaRule::Unset)
 }
 
 /// The return address register of the FDE that covers an address by an index; `room` lends the rules there then.
