@@ -14,11 +14,18 @@ fn is_order(byte: u8) -> bool
     byte.is_ascii_control() && byte != b'\n'
 }
 
-// How many bytes come before the first that a terminal takes for an order.
+// The first byte that a terminal takes for an order.
+fn first_order(bytes: &[u8]) -> Option<usize>
+    ensures { result ≡ position is_order bytes.now }
+{
+    bytes.iter().position(|byte| is_order(*byte))
+}
+
+// How many bytes come before it.
 fn plain_len(bytes: &[u8]) -> usize
     ensures { result ≡ position_or_len is_order bytes.now }
 {
-    match bytes.iter().position(|byte| is_order(*byte)) {
+    match first_order(bytes) {
         Some(len) => len,
         None => bytes.len(),
     }

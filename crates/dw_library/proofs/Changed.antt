@@ -26,7 +26,7 @@ pushed {X} before x old now new count is few counted inside outside =
       | inl le ↦ outside (omega (arith, le.1, same, few, counted)) ∙ is ∙ over_full before (x ∷ []) old le.1
       | inr lt ↦
           let at : count ≡ length before = omega (arith, lt.1, same, few, counted) in
-          inside (omega (arith, lt.1, same, at)) ∙ ap (λ (l : List X). slice_set l count x) is ∙ ap (λ (k : ℕ). slice_set (over before old) k x) at ∙ push_fits before x old lt.1
+          inside (omega (arith, lt.1, same, at)) ∙ rw (is, at) (push_fits before x old lt.1)
     ]
 
 -- where the next rules go

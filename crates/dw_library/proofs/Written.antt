@@ -38,22 +38,16 @@ rest_of place now le = take_all (length now - place) (drop place now) (omega (ar
 -- rules written to what is left of a buffer
 over_left : (before own buffer now : List Rule) (room : Room) → IsLeft (length now) before room → now ≡ over before buffer → take room.place now ++ over own (drop room.place now) ≡ over (before ++ own) buffer
 over_left before own buffer now room (inl fits) is =
-    let le : length before ≤ length buffer = omega (arith, fits.2, ap (λ (l : List Rule). length l) is, over_length before buffer) in
-    let behind = subst (λ (l : List Rule). take (length before) l ++ over own (drop (length before) l) ≡ over (before ++ own) buffer) (sym is) (over_fits before own buffer le) in
-    subst (λ (k : ℕ). take k now ++ over own (drop k now) ≡ over (before ++ own) buffer) (sym fits.1) behind
+    rw (fits.1, is) (over_fits before own buffer (omega (arith, fits.2, ap (λ (l : List Rule). length l) is, over_length before buffer)))
 over_left before own buffer now room (inr full) is =
     let le : length buffer ≤ length before = omega (arith, full.2, ap (λ (l : List Rule). length l) is, over_length before buffer) in
-    let none : over own (drop (length now) now) ≡ [] = ap (λ (l : List Rule). over own l) (drop_all (length now) now (omega arith)) ∙ over_empty own in
-    let all : take (length now) now ++ over own (drop (length now) now) ≡ now =
-    ap (λ (l : List Rule). l ++ over own (drop (length now) now)) (take-length now) ∙ ap (λ (l : List Rule). now ++ l) none ∙ append-nil now in
-    subst (λ (k : ℕ). take k now ++ over own (drop k now) ≡ over (before ++ own) buffer) (sym full.1) (all ∙ is ∙ over_full before own buffer le)
+    rw (full.1, take-length now, drop_all (length now) now (omega arith), over_empty own, append-nil now) (is ∙ over_full before own buffer le)
 
 pub written_left : (before own buffer now part : List Rule) (room : Room) → IsLeft (length now) before room → now ≡ over before buffer → room.place ≤ length now
     → part ≡ over own (mid_of room.place (length now - room.place) now) → put_mid room.place (length now - room.place) now part ≡ over (before ++ own) buffer
 written_left before own buffer now part room left is le same =
     let none : post_of room.place (length now - room.place) now ≡ [] = drop_all (length now - room.place) (drop room.place now) (omega (arith, length-drop room.place now)) in
-    let all : part ≡ over own (drop room.place now) = same ∙ ap (λ (l : List Rule). over own l) (rest_of room.place now le) in
-    ap (λ (l : List Rule). take room.place now ++ (part ++ l)) none ∙ ap (λ (l : List Rule). take room.place now ++ l) (append-nil part ∙ all) ∙ over_left before own buffer now room left is
+    rw (none, append-nil part, same, rest_of room.place now le) (over_left before own buffer now room left is)
 
 -- what the row and the FDE of a look-up say
 module _ (s : Section) (fs : List Fde) (a : ℕ) where

@@ -72,17 +72,6 @@ fn put_at(out: &mut [Change], place: usize, change: Change)
     }
 }
 
-// How many changes and rules there are with one change more, which has so many rules.
-fn with_change(before: Totals, count: usize) -> Totals
-    ensures changes { result.changes ≡ min (before.changes + 1) (2 ^ 64 - 1) }
-    ensures rules { result.rules ≡ min (before.rules + count) (2 ^ 64 - 1) }
-{
-    Totals {
-        changes: before.changes.saturating_add(1),
-        rules: before.rules.saturating_add(count),
-    }
-}
-
 // Writes a change and its rules behind those before, as far as they fit, and says how many there are then.
 fn put_change(
     row: &CfaRow<'_>,
@@ -98,7 +87,10 @@ fn put_change(
     let count = put_rules(row, &mut rules[place..]);
     let row = told_row(fde_in(entry), entry.range, row, count);
     put_at(out, before.changes, Change { address, row });
-    with_change(before, count)
+    Totals {
+        changes: before.changes.saturating_add(1),
+        rules: before.rules.saturating_add(count),
+    }
 }
 
 // Writes the changes that are still to come.

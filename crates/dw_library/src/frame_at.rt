@@ -132,9 +132,9 @@ pub extern "C" fn dwframe_unwind(
     let Some(target) = target_of(section.address_size, section.byte_order) else {
         return BAD_ARGUMENT;
     };
-    if policy_of(stop.unset).is_none() {
+    let Some(_) = policy_of(stop.unset) else {
         return BAD_ARGUMENT;
-    }
+    };
     match check(alloc, section.bytes, target) {
         Ok(table) => dwframe_unwind_at(
             alloc,
