@@ -1,7 +1,7 @@
 //! What calls answer: statuses, refusals and counts, as `include/dwframe.h` declares them.
 
-ghost use Rattle.std.specs.Prelude.{◌≡◌};
-ghost use Rattle.dw_library.specs.Answers.{target_of, told, not_refused, refused as the_refused};
+ghost use Rattle.std.specs.Prelude.{◌≡◌, ◌⊎◌, ◌<◌, ◌≤◌, ◌++◌, drop, length};
+ghost use Rattle.dw_library.specs.Answers.{target_of, told, not_refused, ok, refused as the_refused, too_short};
 
 use dw_num::{Order, Refusal, Size, Target};
 
@@ -98,4 +98,15 @@ pub(crate) fn target_of(address_size: u32, byte_order: u32) -> Option<Target>
         }),
         _ => None,
     }
+}
+
+/// Writes items to the front of a buffer, where they fit.
+pub(crate) fn put_front<T: Copy>(items: &[T], out: &mut [T]) -> u32
+    ensures { ((result ≡ ok) × (length items.now ≤ length out.old) × (out.new ≡ items.now ++ drop (length items.now) out.old)) ⊎ ((result ≡ too_short) × (length out.old < length items.now) × (out.new ≡ out.old)) }
+{
+    if out.len() < items.len() {
+        return TOO_SHORT;
+    }
+    out[..items.len()].copy_from_slice(items);
+    OK
 }

@@ -1,6 +1,6 @@
 //! The rows of an FDE, one after another.
 
-ghost use Rattle.std.specs.Prelude.{◌≡◌, ◌+◌, ◌-◌, ◌<◌, ◌≤◌, ◌^◌, ◌++◌, ℕ, List, [], ◌∷◌, length, min, slice_index_or, slice_set, IfOk, OnErr};
+ghost use Rattle.std.specs.Prelude.{◌≡◌, ◌+◌, ◌-◌, ◌<◌, ◌≤◌, ◌++◌, ℕ, List, [], ◌∷◌, length, min, slice_index_or, slice_set, IfOk, OnErr};
 ghost use Rattle.std.specs.List.{AllByRecursion};
 ghost use Rattle.dw_cfa.specs.Rows.{Rules};
 ghost use Rattle.dw_section.specs.Meaning.{AreFdes};
@@ -43,14 +43,10 @@ pub struct Totals {
     pub rules: usize,
 }
 
-fn no_totals() -> Totals
-    ensures { result ≡ no_totals }
-{
-    Totals {
-        changes: 0,
-        rules: 0,
-    }
-}
+const NO_TOTALS: Totals = Totals {
+    changes: 0,
+    rules: 0,
+};
 
 fn fde_in(entry: &Ranged) -> Fde
     ensures { result ≡ fde_in entry.now }
@@ -103,7 +99,7 @@ fn put_changes(
     requires low { AllByRecursion IsLow changes.old.to_come }
     ensures { IfOk result (λ totals. AreWritten (fde_in entry.now) changes.old.to_come out.old rules.old out.new rules.new totals) }
 {
-    let mut totals = no_totals();
+    let mut totals = NO_TOTALS;
     'told: while let Some(address) = changes.advance()? {
         let Some(row) = changes.row() else {
             unreachable!();
@@ -179,7 +175,7 @@ pub extern "C" fn dwframe_changes(
 ) -> u32
     ensures { let told : Told = record { status = result; changes = changes.new; rules = rules.new; needed = needed.new } in AreAllChanges (target_of section.now.address_size section.now.byte_order) section.now.bytes.now address changes.old rules.old told refused.new }
 {
-    *needed = no_totals();
+    *needed = NO_TOTALS;
     *refused = not_refused();
     let Some(target) = target_of(section.address_size, section.byte_order) else {
         return BAD_ARGUMENT;

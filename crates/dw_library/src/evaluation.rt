@@ -7,7 +7,7 @@ ghost use Rattle.dw_library.specs.CallerFrame.{held_in};
 ghost use Rattle.dw_library.specs.Evaluation.{IsEvaluated, Told, ValueOf, known_if};
 
 use crate::answer::{BAD_ARGUMENT, OK, OUT_OF_MEMORY, Refused, not_refused, refuse, target_of};
-use crate::caller::{Fault, Held, NO_VALUE, fault_of_kind, no_fault};
+use crate::caller::{Fault, Held, NO_FAULT, NO_VALUE, fault_of_kind};
 use crate::registers::given_registers;
 use crate::windows::Windows;
 use dw_eval::{Env, EvalError, evaluate};
@@ -96,7 +96,7 @@ pub extern "C" fn dwframe_evaluate(
 {
     *value = 0;
     *refused = not_refused();
-    *fault = no_fault();
+    *fault = NO_FAULT;
     let Some(target) = target_of(context.address_size, context.byte_order) else {
         return BAD_ARGUMENT;
     };

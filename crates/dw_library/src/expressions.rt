@@ -99,11 +99,7 @@ fn gather(alloc: Global, row: &Row<'_>) -> Result<Gathered, AllocError>
     Ok(all)
 }
 
-fn no_blocks() -> Blocks
-    ensures { result ≡ no_blocks }
-{
-    Blocks { count: 0, len: 0 }
-}
+const NO_BLOCKS: Blocks = Blocks { count: 0, len: 0 };
 
 // Writes blocks and bytes to the fronts of two buffers, where both fit.
 fn put(all: &Gathered, bytes: &mut [u8], blocks: &mut [Block]) -> u32
@@ -157,7 +153,7 @@ pub extern "C" fn dwframe_expressions_at(
     // By any other they are those of the FDE that stands where an entry that covers the address leads, or none.
     ensures any { let old : Buffers = record { blocks = blocks.old; bytes = expressions.old } in let told : Told = record { status = result; buffers = record { blocks = blocks.new; bytes = expressions.new }; all = all.new } in AreAnyExpressions (target_of section.now.address_size section.now.byte_order) section.now.bytes.now index.now address old told refused.new }
 {
-    *all = no_blocks();
+    *all = NO_BLOCKS;
     *refused = not_refused();
     let Some(target) = target_of(section.address_size, section.byte_order) else {
         return BAD_ARGUMENT;

@@ -2,10 +2,10 @@
 
 ghost use Rattle.std.specs.Prelude.{◌≡◌};
 ghost use Rattle.dw_library.specs.Answers.{target_of};
-ghost use Rattle.dw_library.specs.Forms.{IsCompared, IsNormalised, IsPlaced, section_of, target_of_both};
+ghost use Rattle.dw_library.specs.Forms.{IsCompared, IsNormalised, section_of, target_of_both};
 
 use crate::answer::{
-    BAD_ARGUMENT, OK, OUT_OF_MEMORY, Refused, Section, TOO_SHORT, not_refused, refuse, target_of,
+    BAD_ARGUMENT, OK, OUT_OF_MEMORY, Refused, Section, not_refused, put_front, refuse, target_of,
 };
 use dw_normal::{SameError, Which, normalise, same};
 use dw_num::{ReadError, Target};
@@ -13,17 +13,6 @@ use std::alloc::Global;
 
 // The most bytes of a normal form.
 const LIMIT: u64 = 2_147_483_647;
-
-// Writes bytes to the front of a buffer, where they fit.
-fn put_bytes(bytes: &[u8], out: &mut [u8]) -> u32
-    ensures { IsPlaced bytes.now out.old result out.new }
-{
-    if out.len() < bytes.len() {
-        return TOO_SHORT;
-    }
-    out[..bytes.len()].copy_from_slice(bytes);
-    OK
-}
 
 /// Writes the normal form of a section to the front of `out`, and its length to `needed`. Where `out` is shorter it answers
 /// `TOO_SHORT` with that length, and `out` stays; it stays also where the section is refused.
@@ -45,7 +34,7 @@ pub extern "C" fn dwframe_normalise(
     match normalise(alloc, section.bytes, target, LIMIT) {
         Ok(normal) => {
             *needed = normal.len();
-            put_bytes(&normal, out)
+            put_front(&normal, out)
         }
         Err(ReadError::Refused(refusal)) => refuse(refused, 1, refusal),
         Err(ReadError::OutOfMemory) => OUT_OF_MEMORY,

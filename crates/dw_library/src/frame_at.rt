@@ -11,7 +11,7 @@ use crate::answer::{
     BAD_ARGUMENT, BAD_INDEX, OUT_OF_MEMORY, Refused, Section, not_refused, refuse, target_of,
 };
 use crate::caller::{
-    Fault, Frame, Held, Stop, no_fault, no_frame, policy_of, put_frame, status_of, told_fault,
+    Fault, Frame, Held, NO_FAULT, NO_FRAME, Stop, policy_of, put_frame, status_of, told_fault,
 };
 use crate::registers::{Register, given_registers};
 use crate::windows::Windows;
@@ -81,9 +81,9 @@ pub extern "C" fn dwframe_unwind_at(
     // By any other it tells the frame by the FDE that stands where the index leads, or why there is none.
     ensures any { let told : Told = record { status = result; registers = out.new; frame = frame.new; refusal = refused.new; fault = fault.new } in IsAnyUnwound (target_of section.now.address_size section.now.byte_order) (policy_of stop.now.unset) section.now.bytes.now index.now stop.now (held_in held.now) out.old told }
 {
-    *frame = no_frame();
+    *frame = NO_FRAME;
     *refused = not_refused();
-    *fault = no_fault();
+    *fault = NO_FAULT;
     let Some(target) = target_of(section.address_size, section.byte_order) else {
         return BAD_ARGUMENT;
     };
@@ -126,9 +126,9 @@ pub extern "C" fn dwframe_unwind(
 ) -> u32
     ensures { let told : Told = record { status = result; registers = out.new; frame = frame.new; refusal = refused.new; fault = fault.new } in IsUnwound (target_of section.now.address_size section.now.byte_order) (policy_of stop.now.unset) section.now.bytes.now stop.now (held_in held.now) out.old told }
 {
-    *frame = no_frame();
+    *frame = NO_FRAME;
     *refused = not_refused();
-    *fault = no_fault();
+    *fault = NO_FAULT;
     let Some(target) = target_of(section.address_size, section.byte_order) else {
         return BAD_ARGUMENT;
     };

@@ -6,11 +6,11 @@ ghost use Rattle.dw_section.specs.StandingFde.{LookUpFault, Misleads, RefusesAs}
 ghost use Rattle.dw_section.specs.Ranges.{IsTable};
 ghost use Rattle.dw_section.specs.declared.standing_fde.LookUpError.TheVariants as TheLookUpError;
 ghost use Rattle.dw_library.specs.Answers.{target_of};
-ghost use Rattle.dw_library.specs.Index.{AreEntries, HasSize, IsAnyRow, IsIndexed, IsRow, IsTold, TellsFde, TellsRow, TellsRules, Told, cfa_kind_of, cfa_offset_of, cfa_register_of, no_row, over, row_of, rule_of};
+ghost use Rattle.dw_library.specs.Index.{HasSize, IsAnyRow, IsIndexed, IsRow, IsTold, TellsFde, TellsRow, TellsRules, Told, cfa_kind_of, cfa_offset_of, cfa_register_of, no_row, over, row_of, rule_of};
 
 use crate::answer::{
     BAD_ARGUMENT, BAD_INDEX, NO_FDE, OK, OUT_OF_MEMORY, Refused, Section, TOO_SHORT, not_refused,
-    refuse, target_of,
+    put_front, refuse, target_of,
 };
 use dw_cfa::{CfaRule, RegRule, Row as CfaRow, RowRoom};
 use dw_num::{ReadError, Target};
@@ -54,17 +54,6 @@ pub struct Row {
     pub cfa_register: u16,
     /// `return_address_register` of the CIE.
     pub return_register: u16,
-}
-
-// Writes entries to the front of a buffer, where they fit.
-fn put_entries(index: &[Ranged], out: &mut [Ranged]) -> u32
-    ensures { AreEntries index.now out.old result out.new }
-{
-    if out.len() < index.len() {
-        return TOO_SHORT;
-    }
-    out[..index.len()].copy_from_slice(index);
-    OK
 }
 
 /// How many entries the index of a section has.
@@ -113,7 +102,7 @@ pub extern "C" fn dwframe_index(
         Ok(table) => {
             let index = table.index();
             *written = index.len();
-            put_entries(index, out)
+            put_front(index, out)
         }
         Err(ReadError::Refused(refusal)) => refuse(refused, 1, refusal),
         Err(ReadError::OutOfMemory) => OUT_OF_MEMORY,
