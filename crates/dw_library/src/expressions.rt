@@ -40,6 +40,8 @@ pub struct Blocks {
     pub len: usize,
 }
 
+const NO_BLOCKS: Blocks = Blocks { count: 0, len: 0 };
+
 // Least blocks one after another, and where each stands.
 #[derive(Drop)]
 struct Gathered {
@@ -99,8 +101,6 @@ fn gather(alloc: Global, row: &Row<'_>) -> Result<Gathered, AllocError>
     Ok(all)
 }
 
-const NO_BLOCKS: Blocks = Blocks { count: 0, len: 0 };
-
 // Writes blocks and bytes to the fronts of two buffers, where both fit.
 fn put(all: &Gathered, bytes: &mut [u8], blocks: &mut [Block]) -> u32
     ensures { ArePut all.now.blocks.items all.now.bytes.items (record { blocks = blocks.old; bytes = bytes.old }) result (record { blocks = blocks.new; bytes = bytes.new }) }
@@ -114,7 +114,7 @@ fn put(all: &Gathered, bytes: &mut [u8], blocks: &mut [Block]) -> u32
 }
 
 // Writes the expressions of a row.
-fn put_row(
+fn put_blocks(
     alloc: Global,
     row: &Row<'_>,
     bytes: &mut [u8],
@@ -160,7 +160,7 @@ pub extern "C" fn dwframe_expressions_at(
     };
     let mut room = RowRoom::new(alloc);
     match look_up(section.bytes, target, index, address, &mut room) {
-        Ok(Some(_)) => put_row(alloc, room.row(), expressions, blocks, all),
+        Ok(Some(_)) => put_blocks(alloc, room.row(), expressions, blocks, all),
         Ok(None) => NO_FDE,
         Err(LookUpError::Refused(refusal)) => refuse(refused, 1, refusal),
         Err(LookUpError::BadIndex) => BAD_INDEX,
