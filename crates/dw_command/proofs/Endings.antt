@@ -1,6 +1,6 @@
 -- Runs that end: a load of later files, and what a call that writes becomes.
 use Rattle.dw_command.proofs.Words.{◌≡◌, ◌∙◌, ◌⊎◌, ℕ, List, [], length, Option, Some, None, option_map, Result, Ok, Err, refl, inl, inr, subst, sym, Appends, Appends-trans, Keeps-refl, append-nil, MatchResult, Text, Target, Op, Location}
-use Rattle.dw_command.proofs.Words.{BlockFault, IsBlock, Section, Accepted, RowStarts, LoadError, Failure, Evaluation, Lookup, Unwinding, lines_in, At, at_text, Asks, AtEnds, Before, Checks, Costs, CostsBehind, EvalEnds, Frames, HasCounts}
+use Rattle.dw_command.proofs.Words.{BlockFault, IsBlock, Section, Accepted, LoadError, Failure, Evaluation, Lookup, Unwinding, lines_in, At, at_text, Asks, AtEnds, Before, Checks, Costs, CostsBehind, EvalEnds, Frames, HasCounts}
 use Rattle.dw_command.proofs.Words.{Loads, LoadsDump, LoadsText, Normalises, OverFile, Parses, Prints, PrintsOf, Tells, AndThen, UnwindEnds, Unprinted, Values, costs_text, Output, frame_text, lines, value_text}
 use Rattle.std.specs.Result.{result_map_both}
 use Rattle.dw_num.specs.{declared.error.ReadError.ReadError, Refusals.Refuses}
@@ -60,11 +60,6 @@ pub finished : (old mid new : Output) (text : List ℕ) (r : Result (Unit {0}) F
 finished old mid new text (Ok a) same put h = (h.0, h.1 ∙ same, h.2, subst (λ (t : List ℕ). Appends old.put new.put t) (append-nil text) (Appends-trans old.put mid.put new.put text [] put h.3))
 finished old mid new text (Err e) same put h = subst (λ (n : ℕ). Unprinted n new.failures e) same h
 
--- printed is what equals it
-pub prints_same : {A : Type 0} (old new : Output) (text text' : List ℕ) (a b : A) (r : Result A Failure) → a ≡ b → text ≡ text' → Prints old new text a r → Prints old new text' b r
-prints_same {A} old new text text' a b (Ok c) is same h = (h.0 ∙ is, h.1, h.2, subst (λ (t : List ℕ). Appends old.put new.put t) same h.3)
-prints_same {A} old new text text' a b (Err e) is same h = h
-
 -- the entries of a section that was checked are counted
 pub counted : (target : Target) (s : List ℕ) (table : Section) (counts : EntryCounts) → table ≡ record { target = target; bytes = s }
     → ((ps : List Piece) → Pieces table.target table.bytes ps → AreCounts ps counts) → Accepted target s → HasCounts target s counts
@@ -88,10 +83,6 @@ pub evaluated : (t u : Target) (ops : List Op) (start : Option ℕ) (dump : Dump
 evaluated t u ops start dump steps e is (inl h) = inl cc
 evaluated t u ops start dump steps e is (inr h) =
     inr (subst (λ (t : Target). Evaluates ops (stopped t dump.registers (byte_in dump.memory)) (first_stack t.size start) steps (Err e)) is h)
-
-pub values_at : (t u : Target) (ops : List Op) (start : Option ℕ) (dump : Dump) (steps : ℕ) (r : Result ℕ Failure) → u ≡ t
-    → Values u ops start dump steps r → Values t ops start dump steps r
-values_at t u ops start dump steps r is h = subst (λ (t : Target). Values t ops start dump steps r) is h
 
 -- behind a text and a block that is decoded
 pub behind_block : (gives : Text → Result (List ℕ) LoadError → Type 0) (old new : Output) (target : Target) (e : Evaluation)
@@ -129,11 +120,6 @@ pub behind_files : (gives : Text → Result (List ℕ) LoadError → Type 0) (ol
 behind_files gives old new target u s s' text text' r same loads same' loads' ends =
     inl (s', lent gives u.path.now s s' same loads, inl (text', dump_lent gives u.dump.now text text' same' loads', ends))
 
--- over the section that was checked
-pub frames_at : (target : Target) (s : List ℕ) (table : Section) (dump : Dump) (policy : Policy) (steps : ℕ) (r : Result Frame Failure)
-    → table ≡ record { target = target; bytes = s } → Frames table.target table.bytes dump policy steps r → Frames target s dump policy steps r
-frames_at target s table dump policy steps r is h = subst (λ (t : Section). Frames t.target t.bytes dump policy steps r) is h
-
 -- ---- look-ups
 
 -- behind a section and the lines of standard input
@@ -144,11 +130,6 @@ pub behind_lines : (gives : Text → Result (List ℕ) LoadError → Type 0) (ol
     → AtEnds gives old new target l r
 behind_lines gives old new target l s s' text text' r same loads same' loads' ends =
     inl (s', lent gives l.path.now s s' same loads, inl (text', subst (λ (t : List ℕ). LoadsText gives (lines_in l.addresses.items) (Ok t)) (sym same') loads', ends))
-
--- over the section that was checked
-pub tells_at : (old new : Output) (target : Target) (s : List ℕ) (table : Section) (asked : List ℕ) (r : Result (Unit {0}) Failure) → table ≡ record { target = target; bytes = s }
-    → PrintsOf {A = List At} {B = Unit {0}} old new (Tells table.target table.bytes asked) (lines at_text) tt r → PrintsOf {A = List At} {B = Unit {0}} old new (Tells target s asked) (lines at_text) tt r
-tells_at old new target s table asked r is h = subst (λ (t : Section). PrintsOf {A = List At} {B = Unit {0}} old new (Tells t.target t.bytes asked) (lines at_text) tt r) is h
 
 -- ---- costs
 
@@ -164,7 +145,3 @@ behind_length gives old new target path s one two r first second loads within en
         → Before old new (Costs target two) (λ cost. Prints {A = Unit {0}} old new (costs_text (length two) cost) tt) r
     costs short r (inl (cost, counts, prints)) = inl (cost, inl (within.0, (short, within.2), counts), prints)
     costs short r (inr (e, counts, is, kept)) = inr (e, inl (within.0, (short, within.2), counts), is, kept)
-
--- the rows of a section that was checked are counted
-pub starts_at : (target : Target) (s : List ℕ) (table : Section) (n : ℕ) → table ≡ record { target = target; bytes = s } → RowStarts table.target table.bytes n → RowStarts target s n
-starts_at target s table n is h = subst (λ (t : Section). RowStarts t.target t.bytes n) is h

@@ -126,7 +126,3 @@ all_counted t s b ok starts (Ok n) started small counted =
     let found = members_exist t s b ok in
     let few = changes_few t s b ok found.0 found.1 starts started in
     record { members = found.0; are = found.1; sum = omega (arith, counted found.0 found.1, few, small) }
-
-pub counts_at : (target : Target) (s : List ℕ) (table : Section) (n : ℕ) → table ≡ record { target = target; bytes = s }
-    → ChangeCount table.target table.bytes n → ChangeCount target s n
-counts_at target s table n is h = subst (λ (x : Section). ChangeCount x.target x.bytes n) is h

@@ -21,10 +21,7 @@ pub struct Place(Column);
 
 impl fmt::Display for Place {
     fn fmt<W: fmt::Write>(&self, f: &mut fmt::Formatter<W>) -> fmt::Result {
-        match self.0 {
-            Column::Cfa => write!(f, "cfa"),
-            Column::Register(register) => write!(f, "r{register}"),
-        }
+        write!(f, "{}", self.0)
     }
 }
 

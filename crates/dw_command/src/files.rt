@@ -5,11 +5,10 @@ ghost use Rattle.std.specs.IoError.{error_kind};
 ghost use Rattle.dw_command.specs.declared.files.LoadError.{LoadError as TheLoadError};
 
 use std::alloc::Global;
-use std::error::Error;
-use std::fmt;
 use std::fs::{File, OpenFile};
 use std::io::{self, ErrorKind, Input, Read};
 use std::rt::Files;
+use thiserror::Error;
 
 /// How many bytes a section or a dump may have.
 pub const LIMIT: u64 = 2_147_483_647;
@@ -18,24 +17,15 @@ pub const LIMIT: u64 = 2_147_483_647;
 pub const STDIN: &str = "-";
 
 /// Why a file has no bytes.
-#[derive(Clone, Copy, Debug, PartialEq, Eq)]
+#[derive(Clone, Copy, Debug, PartialEq, Eq, Error)]
 pub enum LoadError {
     /// The file cannot be opened or read.
+    #[error("the file cannot be read")]
     CannotRead,
     /// A request for memory was refused.
+    #[error("out of memory")]
     OutOfMemory,
 }
-
-impl fmt::Display for LoadError {
-    fn fmt<W: fmt::Write>(&self, f: &mut fmt::Formatter<W>) -> fmt::Result {
-        match self {
-            LoadError::CannotRead => write!(f, "the file cannot be read"),
-            LoadError::OutOfMemory => write!(f, "out of memory"),
-        }
-    }
-}
-
-impl Error for LoadError {}
 
 /// Files by their paths.
 pub trait Load {

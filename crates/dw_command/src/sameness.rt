@@ -1,7 +1,7 @@
 //! `dwframe same`: whether two sections say the same.
 
 ghost use Rattle.dw_command.specs.Texts.{sameness_text};
-ghost use Rattle.std.specs.Prelude.{◌≡◌, ◌<◌, ◌≤◌, ◌-◌, ◌^◌, if◌then◌else◌, length, IfOk};
+ghost use Rattle.std.specs.Prelude.{◌<◌, ◌≤◌, ◌-◌, ◌^◌, if◌then◌else◌, IfOk};
 ghost use Rattle.dw_command.specs.Answers.{Prints, SameEnds};
 ghost use Rattle.dw_command.specs.Inner.Output.{output_of};
 
@@ -14,32 +14,20 @@ use dw_num::Target;
 use std::alloc::Global;
 use std::io::Write;
 
-fn put_verdict<W: Write>(
-    out: &mut Listing<W>,
-    text: &[u8],
-    status: u8,
-) -> Result<u8, Failure<'static>>
+// Puts the answer, and answers the exit status.
+fn put_verdict<W: Write>(out: &mut Listing<W>, is_same: bool) -> Result<u8, Failure<'static>>
     requires room { out.old.failures < 2 ^ 64 - 1 }
-    requires short { length text.now ≤ 10 }
-    ensures { Prints (output_of W.contents out.old) (output_of W.contents out.new) text.now status result }
+    ensures { Prints (output_of W.contents out.old) (output_of W.contents out.new) (sameness_text is_same) (if is_same then 0 else 1) result }
 {
     out.make_room()?;
-    out.text(text);
-    out.finish()?;
-    Ok(status)
-}
-
-// The text of an answer, and its exit status.
-fn verdict(is_same: bool) -> (&'static [u8], u8)
-    ensures short { length result.0.now ≤ 10 }
-    ensures text { result.0.now ≡ sameness_text is_same }
-    ensures status { result.1 ≡ (if is_same then 0 else 1) }
-{
     if is_same {
-        (b"same\n".as_slice(), 0)
-    } else {
-        (b"different\n".as_slice(), 1)
+        out.text(b"same\n");
+        out.finish()?;
+        return Ok(0);
     }
+    out.text(b"different\n");
+    out.finish()?;
+    Ok(1)
 }
 
 /// Prints whether the sections in two files say the same, and answers the exit status: 0 where they do, 1 where not. Both
@@ -59,6 +47,5 @@ pub fn run_same<'a, L: Load, W: Write>(
     let first = load_file(files, path)?;
     let second = load_file(files, other)?;
     let is_same = same(alloc, &first, &second, target)?;
-    let (text, status) = verdict(is_same);
-    put_verdict(out, text, status)
+    put_verdict(out, is_same)
 }

@@ -7,37 +7,26 @@ use Rattle.dw_cfa.specs.declared.instr.Instr.{Instr}
 use Rattle.dw_section.specs.Changes.{AreChanges, Changing, ChangesBehind, GivesAddress}
 use Rattle.dw_section.proofs.Lent.{FdeLookup.listed_are, Sections.begin_low}
 use Rattle.dw_library.specs.{declared.changes.Totals.Totals, Changes.rules_in}
-use Rattle.dw_library.proofs.Written.{written_left}
+use Rattle.dw_library.proofs.Written.{over_full, over_length, written_left}
 
 -- ---- one more
 
--- an item behind some that fit, and behind some that do not
+-- an item behind some that fit
 push_fits : {X : Type 0} (before : List X) (x : X) (old : List X) → length before < length old → slice_set (over before old) (length before) x ≡ over (before ++ x ∷ []) old
 push_fits [] x [] lt = absurd (omega arith)
 push_fits [] x (y ∷ old) lt = refl
 push_fits (z ∷ before) x [] lt = absurd (omega arith)
 push_fits (z ∷ before) x (y ∷ old) lt = ap (λ l. z ∷ l) (push_fits before x old (omega arith))
 
-push_full : {X : Type 0} (before : List X) (x : X) (old : List X) → length old ≤ length before → over before old ≡ over (before ++ x ∷ []) old
-push_full [] x [] le = refl
-push_full [] x (y ∷ old) le = absurd (omega arith)
-push_full (z ∷ before) x [] le = refl
-push_full (z ∷ before) x (y ∷ old) le = ap (λ l. z ∷ l) (push_full before x old (omega arith))
-
-pub long : {X : Type 0} (items old : List X) → length (over items old) ≡ length old
-long [] old = refl
-long (z ∷ items) [] = refl
-long (z ∷ items) (y ∷ old) = ap suc (long items old)
-
 pushed : {X : Type 0} (before : List X) (x : X) (old now new : List X) (count : ℕ) → now ≡ over before old → length now < 2 ^ 64 → count ≡ min (length before) (2 ^ 64 - 1)
     → (count < length now → new ≡ slice_set now count x) → (length now ≤ count → new ≡ now) → new ≡ over (before ++ x ∷ []) old
 pushed {X} before x old now new count is few counted inside outside =
-    let same : length now ≡ length old = ap (λ (l : List X). length l) is ∙ long before old in
+    let same : length now ≡ length old = ap (λ (l : List X). length l) is ∙ over_length before old in
     elim (leb_tells (length old) (length before)) [
-      | inl le ↦ outside (omega (arith, le.1, same, few, counted)) ∙ is ∙ push_full before x old le.1
+      | inl le ↦ outside (omega (arith, le.1, same, few, counted)) ∙ is ∙ over_full before (x ∷ []) old le.1
       | inr lt ↦
           let at : count ≡ length before = omega (arith, lt.1, same, few, counted) in
-          inside (omega (arith, lt.1, same, at)) ∙ ap (λ (l : List X). slice_set l count x) is ∙ ap (λ (k : ℕ). slice_set (over before old) k x) at ∙ push_fits before x old lt.1
+          inside (omega (arith, lt.1, same, at)) ∙ rw (is, at) (push_fits before x old lt.1)
     ]
 
 -- where the next rules go

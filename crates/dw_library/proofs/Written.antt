@@ -1,18 +1,19 @@
 -- Rows of many addresses, and their rules one after another over a buffer.
 use Rattle.dw_library.proofs.Words.{◌≡◌, ℕ, suc, ◌+◌, ◌-◌, ◌<◌, ◌≤◌, List, [], ◌∷◌, ◌++◌, length, take, drop, map, get_or, slice_set, refl, sym, ap, subst, ◌∙◌, arith, true, inl, inr, Option, Some, AllZip, append_snoc, drop-cons}
 use Rattle.dw_library.proofs.Words.{set-append_seam, take-length, take-suc, append-nil, drop_all, flat_map_more, length-drop, length-map, length-take-le, map_push, take_all, same_Some, mid_of, post_of, put_mid, Target, FindsFde, Covers}
-use Rattle.dw_library.proofs.Words.{IsAmong, Fde, Rule, Room, over, IsLook, Look, rules_in, IsLeft}
+use Rattle.dw_library.proofs.Words.{Bool, false, None, IsAmong, LooksUp, NoneCovers, RulesAt, Rules, Fde, Rule, Room, over, IsLook, Look, rules_in, IsLeft}
 use Rattle.std.proofs.lemmas.Slice.Zip.{AllZip-long}
+use Rattle.dw_section.specs.Table.{Section}
 use Rattle.dw_library.specs.declared.index.Row.{Row}
 
-pub over_length : (rules old : List Rule) → length (over rules old) ≡ length old
+pub over_length : {X : Type 0} (items old : List X) → length (over items old) ≡ length old
 over_length [] old = refl
-over_length (rule ∷ rules) [] = refl
-over_length (rule ∷ rules) (x ∷ old) = ap suc (over_length rules old)
+over_length (item ∷ items) [] = refl
+over_length (item ∷ items) (x ∷ old) = ap suc (over_length items old)
 
-over_empty : (rules : List Rule) → over rules [] ≡ []
+over_empty : {X : Type 0} (items : List X) → over items [] ≡ []
 over_empty [] = refl
-over_empty (rule ∷ rules) = refl
+over_empty (item ∷ items) = refl
 
 -- more rules behind some that fit, and behind some that do not
 over_fits : (before own old : List Rule) → length before ≤ length old → take (length before) (over before old) ++ over own (drop (length before) (over before old)) ≡ over (before ++ own) old
@@ -20,11 +21,11 @@ over_fits [] own old le = refl
 over_fits (rule ∷ before) own [] le = absurd (omega arith)
 over_fits (rule ∷ before) own (x ∷ old) le = ap (λ (l : List Rule). rule ∷ l) (over_fits before own old (omega arith))
 
-over_full : (before own old : List Rule) → length old ≤ length before → over before old ≡ over (before ++ own) old
+pub over_full : {X : Type 0} (before own old : List X) → length old ≤ length before → over before old ≡ over (before ++ own) old
 over_full [] own [] le = sym (over_empty own)
 over_full [] own (x ∷ old) le = absurd (omega arith)
-over_full (rule ∷ before) own [] le = refl
-over_full (rule ∷ before) own (x ∷ old) le = ap (λ (l : List Rule). rule ∷ l) (over_full before own old (omega arith))
+over_full (item ∷ before) own [] le = refl
+over_full (item ∷ before) own (x ∷ old) le = ap (λ l. item ∷ l) (over_full before own old (omega arith))
 
 pub left_within : (size : ℕ) (before : List Rule) (room : Room) → IsLeft size before room → room.place ≤ size
 left_within size before room (inl fits) = omega (arith, fits.1, fits.2)
@@ -37,28 +38,36 @@ rest_of place now le = take_all (length now - place) (drop place now) (omega (ar
 -- rules written to what is left of a buffer
 over_left : (before own buffer now : List Rule) (room : Room) → IsLeft (length now) before room → now ≡ over before buffer → take room.place now ++ over own (drop room.place now) ≡ over (before ++ own) buffer
 over_left before own buffer now room (inl fits) is =
-    let le : length before ≤ length buffer = omega (arith, fits.2, ap (λ (l : List Rule). length l) is, over_length before buffer) in
-    let behind = subst (λ (l : List Rule). take (length before) l ++ over own (drop (length before) l) ≡ over (before ++ own) buffer) (sym is) (over_fits before own buffer le) in
-    subst (λ (k : ℕ). take k now ++ over own (drop k now) ≡ over (before ++ own) buffer) (sym fits.1) behind
+    rw (fits.1, is) (over_fits before own buffer (omega (arith, fits.2, ap (λ (l : List Rule). length l) is, over_length before buffer)))
 over_left before own buffer now room (inr full) is =
     let le : length buffer ≤ length before = omega (arith, full.2, ap (λ (l : List Rule). length l) is, over_length before buffer) in
-    let none : over own (drop (length now) now) ≡ [] = ap (λ (l : List Rule). over own l) (drop_all (length now) now (omega arith)) ∙ over_empty own in
-    let all : take (length now) now ++ over own (drop (length now) now) ≡ now =
-    ap (λ (l : List Rule). l ++ over own (drop (length now) now)) (take-length now) ∙ ap (λ (l : List Rule). now ++ l) none ∙ append-nil now in
-    subst (λ (k : ℕ). take k now ++ over own (drop k now) ≡ over (before ++ own) buffer) (sym full.1) (all ∙ is ∙ over_full before own buffer le)
+    rw (full.1, take-length now, drop_all (length now) now (omega arith), over_empty own, append-nil now) (is ∙ over_full before own buffer le)
 
 pub written_left : (before own buffer now part : List Rule) (room : Room) → IsLeft (length now) before room → now ≡ over before buffer → room.place ≤ length now
     → part ≡ over own (mid_of room.place (length now - room.place) now) → put_mid room.place (length now - room.place) now part ≡ over (before ++ own) buffer
 written_left before own buffer now part room left is le same =
     let none : post_of room.place (length now - room.place) now ≡ [] = drop_all (length now - room.place) (drop room.place now) (omega (arith, length-drop room.place now)) in
-    let all : part ≡ over own (drop room.place now) = same ∙ ap (λ (l : List Rule). over own l) (rest_of room.place now le) in
-    ap (λ (l : List Rule). take room.place now ++ (part ++ l)) none ∙ ap (λ (l : List Rule). take room.place now ++ l) (append-nil part ∙ all) ∙ over_left before own buffer now room left is
+    rw (none, append-nil part, same, rest_of room.place now le) (over_left before own buffer now room left is)
 
--- the FDE that a look-up lends is listed, and covers the address
-pub lent_listed : (fs : List Fde) (a : ℕ) (lent : Option Fde) (fde : Fde) → FindsFde fs a true lent → lent ≡ Some fde → IsAmong fde fs × Covers a fde
-lent_listed fs a lent fde (found, is, listed, covers) same =
-    let one : found ≡ fde = same_Some found fde (sym is ∙ same) in
-    (subst (λ (f : Fde). IsAmong f fs) one listed, subst (Covers a) one covers)
+-- what the row and the FDE of a look-up say
+module _ (s : Section) (fs : List Fde) (a : ℕ) where
+  pub none_covers : (b : Bool) (row : Option Rules) → LooksUp s fs a b row → row ≡ None → NoneCovers a fs
+  none_covers false row looks none = looks.0
+  none_covers true row looks none = absurd (let both = sym looks.1 ∙ none in cc)
+
+  pub rules_there : (b : Bool) (row : Option Rules) (rules : Rules) → LooksUp s fs a b row → row ≡ Some rules → RulesAt s.target s.bytes a rules
+  rules_there false row rules looks is = absurd (let both = sym looks.1 ∙ is in cc)
+  rules_there true row rules looks is = subst (RulesAt s.target s.bytes a) (same_Some looks.0 rules (sym looks.1 ∙ is)) looks.2
+
+  pub has_fde : (b : Bool) (row : Option Rules) (rules : Rules) (lent : Option Fde) → LooksUp s fs a b row → FindsFde fs a b lent → row ≡ Some rules → lent ≡ None → ⊥
+  has_fde false row rules lent looks finds is none = let both = sym looks.1 ∙ is in absurd cc
+  has_fde true row rules lent looks finds is none = let both = sym finds.1 ∙ none in absurd cc
+
+  pub lent_listed : (b : Bool) (lent : Option Fde) (fde : Fde) → FindsFde fs a b lent → lent ≡ Some fde → IsAmong fde fs × Covers a fde
+  lent_listed false lent fde none same = absurd (let both = sym none ∙ same in cc)
+  lent_listed true lent fde (found, is, listed, covers) same =
+      let one : found ≡ fde = same_Some found fde (sym is ∙ same) in
+      (subst (λ (f : Fde). IsAmong f fs) one listed, subst (Covers a) one covers)
 
 zip_more : {X Y : Type 0} (R : X → Y → Type 0) (xs : List X) (ys : List Y) (x : X) (y : Y) → AllZip R xs ys → R x y → AllZip R (xs ++ x ∷ []) (ys ++ y ∷ [])
 zip_more R [] [] x y all r = (r, tt)

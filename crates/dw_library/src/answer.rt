@@ -1,20 +1,24 @@
 //! What calls answer: statuses, refusals and counts, as `include/dwframe.h` declares them.
 
-ghost use Rattle.std.specs.Prelude.{◌≡◌};
-ghost use Rattle.dw_library.specs.Answers.{target_of, told, not_refused};
+ghost use Rattle.std.specs.Prelude.{◌≡◌, ◌⊎◌, ◌<◌, ◌≤◌, ◌++◌, drop, length};
+ghost use Rattle.dw_library.specs.Answers.{target_of, told, not_refused, ok, refused as the_refused, too_short};
 
 use dw_num::{Order, Refusal, Size, Target};
 
 /// The call has its answer.
 pub(crate) const OK: u32 = 0;
 /// The section is refused; the refusal says why, and where.
-pub(crate) const REFUSED: u32 = 1;
+const REFUSED: u32 = 1;
 /// A request for memory was refused.
 pub(crate) const OUT_OF_MEMORY: u32 = 2;
 /// The address size is not 4 or 8, or the byte order, or what unset registers are taken as, is not 0 or 1.
 pub(crate) const BAD_ARGUMENT: u32 = 3;
 /// The room that was lent is too short; the call says how much it needs.
 pub(crate) const TOO_SHORT: u32 = 4;
+/// No FDE, or no entry of the index, covers the address.
+pub(crate) const NO_FDE: u32 = 5;
+/// The index is not the one of these bytes.
+pub(crate) const BAD_INDEX: u32 = 10;
 
 /// A section, and how its numbers are read.
 #[repr(C)]
@@ -61,14 +65,17 @@ pub(crate) fn not_refused() -> Refused
     }
 }
 
-pub(crate) fn told(section: u32, refusal: Refusal) -> Refused
-    ensures { result ≡ told section refusal }
+/// The status of a section that is refused, and its refusal.
+pub(crate) fn refuse(refused: &mut Refused, section: u32, refusal: Refusal) -> u32
+    ensures status { result ≡ the_refused }
+    ensures told { refused.new ≡ told section refusal }
 {
-    Refused {
+    *refused = Refused {
         code: u32::from(refusal.code.number()),
         section,
         at: refusal.at as usize,
-    }
+    };
+    REFUSED
 }
 
 /// The machine with this address size, 4 or 8, and this byte order, 0 for little-endian and 1 for big-endian.
@@ -91,4 +98,15 @@ pub(crate) fn target_of(address_size: u32, byte_order: u32) -> Option<Target>
         }),
         _ => None,
     }
+}
+
+/// Writes items to the front of a buffer, where they fit.
+pub(crate) fn put_front<T: Copy>(items: &[T], out: &mut [T]) -> u32
+    ensures { ((result ≡ ok) × (length items.now ≤ length out.old) × (out.new ≡ items.now ++ drop (length items.now) out.old)) ⊎ ((result ≡ too_short) × (length out.old < length items.now) × (out.new ≡ out.old)) }
+{
+    if out.len() < items.len() {
+        return TOO_SHORT;
+    }
+    out[..items.len()].copy_from_slice(items);
+    OK
 }

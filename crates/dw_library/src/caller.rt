@@ -1,17 +1,15 @@
 //! What is given and told of a frame of the caller.
 
 ghost use Rattle.std.specs.Prelude.{◌≡◌, map};
-ghost use Rattle.dw_library.specs.CallerFrame.{policy_of, column_of, status_of, fault_in, fault_of_kind, fault_of_read, fault_of_register, told_fault, told_frame, no_frame, no_fault};
+ghost use Rattle.dw_library.specs.CallerFrame.{policy_of, column_of, status_of, fault_of_kind, fault_of_read, fault_of_register, told_fault, told_frame};
 ghost use Rattle.dw_library.specs.Registers.{told_register, AreTold};
 
-use crate::answer::OUT_OF_MEMORY;
+use crate::answer::{NO_FDE, OUT_OF_MEMORY};
 use crate::registers::{Register, put_registers};
 use crate::windows::Window;
 use dw_eval::{Kind, Policy};
 use dw_unwind::{Column, Frame as CallerFrame, UnwindError};
 
-/// No FDE covers the address.
-const NO_FDE: u32 = 5;
 /// An expression has no value; the fault says why, and in which column.
 pub(crate) const NO_VALUE: u32 = 6;
 /// A byte of a saved register is in no window.
@@ -105,24 +103,15 @@ pub(crate) fn status_of(error: UnwindError) -> u32
     }
 }
 
-fn fault_in(column: Column) -> Fault
-    ensures { result ≡ fault_in column }
-{
-    fault_of_register(column, 0, 0, 0)
-}
-
-pub(crate) fn no_fault() -> Fault
-    ensures { result ≡ no_fault }
-{
-    Fault {
-        column: 0,
-        kind: 0,
-        wanted: 0,
-        index: 0,
-        address: 0,
-        len: 0,
-    }
-}
+/// Nothing is wrong.
+pub(crate) const NO_FAULT: Fault = Fault {
+    column: 0,
+    kind: 0,
+    wanted: 0,
+    index: 0,
+    address: 0,
+    len: 0,
+};
 
 fn fault_of_read(column: Column, kind: u16, index: usize, address: u64, len: usize) -> Fault
     ensures { result ≡ fault_of_read column kind index address len }
@@ -160,16 +149,13 @@ pub(crate) fn fault_of_kind(kind: Kind, index: usize, column: Column) -> Fault
     }
 }
 
-pub(crate) fn no_frame() -> Frame
-    ensures { result ≡ no_frame }
-{
-    Frame {
-        cfa: 0,
-        count: 0,
-        return_register: 0,
-        reserved: [0; 3],
-    }
-}
+/// There is no frame.
+pub(crate) const NO_FRAME: Frame = Frame {
+    cfa: 0,
+    count: 0,
+    return_register: 0,
+    reserved: [0; 3],
+};
 
 pub(crate) fn told_fault(error: UnwindError) -> Fault
     ensures { result ≡ told_fault error }
@@ -186,8 +172,8 @@ pub(crate) fn told_fault(error: UnwindError) -> Fault
             len,
         } => fault_of_read(column, 0, 0, address, len),
         UnwindError::NoRegister { column, register } => fault_of_register(column, 0, 0, register),
-        UnwindError::Device { column } => fault_in(column),
-        UnwindError::NoFde | UnwindError::OutOfMemory => no_fault(),
+        UnwindError::Device { column } => fault_of_register(column, 0, 0, 0),
+        UnwindError::NoFde | UnwindError::OutOfMemory => NO_FAULT,
     }
 }
 

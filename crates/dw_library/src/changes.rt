@@ -1,6 +1,6 @@
 //! The rows of an FDE, one after another.
 
-ghost use Rattle.std.specs.Prelude.{◌≡◌, ◌+◌, ◌-◌, ◌<◌, ◌≤◌, ◌^◌, ◌++◌, ℕ, List, [], ◌∷◌, length, min, slice_index_or, slice_set, IfOk, OnErr};
+ghost use Rattle.std.specs.Prelude.{◌≡◌, ◌+◌, ◌-◌, ◌<◌, ◌≤◌, ◌++◌, ℕ, List, [], ◌∷◌, length, min, slice_index_or, slice_set, IfOk, OnErr};
 ghost use Rattle.std.specs.List.{AllByRecursion};
 ghost use Rattle.dw_cfa.specs.Rows.{Rules};
 ghost use Rattle.dw_section.specs.Meaning.{AreFdes};
@@ -13,10 +13,10 @@ ghost use Rattle.dw_library.specs.Changes.{AreAllChanges, AreWritten, Fits, Tell
 ghost use Rattle.dw_library.specs.Inner.Changes.{IsLow};
 
 use crate::answer::{
-    BAD_ARGUMENT, OK, OUT_OF_MEMORY, REFUSED, Refused, Section, TOO_SHORT, not_refused, target_of,
-    told,
+    BAD_ARGUMENT, NO_FDE, OK, OUT_OF_MEMORY, Refused, Section, TOO_SHORT, not_refused, refuse,
+    target_of,
 };
-use crate::index::{NO_FDE, Row, Rule, put_rules, told_row};
+use crate::index::{Row, Rule, put_rules, told_row};
 use dw_cfa::Row as CfaRow;
 use dw_num::ReadError;
 use dw_section::{Changes, Fde, FdeRef, Ranged, Table, check};
@@ -43,14 +43,10 @@ pub struct Totals {
     pub rules: usize,
 }
 
-fn no_totals() -> Totals
-    ensures { result ≡ no_totals }
-{
-    Totals {
-        changes: 0,
-        rules: 0,
-    }
-}
+const NO_TOTALS: Totals = Totals {
+    changes: 0,
+    rules: 0,
+};
 
 fn fde_in(entry: &Ranged) -> Fde
     ensures { result ≡ fde_in entry.now }
@@ -66,32 +62,9 @@ fn fde_in(entry: &Ranged) -> Fde
 fn put_at(out: &mut [Change], place: usize, change: Change)
     ensures inside { place < length out.old → out.new ≡ slice_set out.old place change }
     ensures outside { length out.old ≤ place → out.new ≡ out.old }
-    ensures few { length out.old < 2 ^ 64 }
 {
     if place < out.len() {
         out[place] = change;
-    }
-}
-
-// Where the next rule goes in a buffer of this size, behind so many.
-fn place_behind(count: usize, size: usize) -> usize
-    ensures place { result ≡ min count size }
-    ensures few { size < 2 ^ 64 }
-{
-    if count < size {
-        return count;
-    }
-    size
-}
-
-// How many changes and rules there are with one change more, which has so many rules.
-fn with_change(before: Totals, count: usize) -> Totals
-    ensures changes { result.changes ≡ min (before.changes + 1) (2 ^ 64 - 1) }
-    ensures rules { result.rules ≡ min (before.rules + count) (2 ^ 64 - 1) }
-{
-    Totals {
-        changes: before.changes.saturating_add(1),
-        rules: before.rules.saturating_add(count),
     }
 }
 
@@ -106,11 +79,14 @@ fn put_change(
 ) -> Totals
     ensures { (done : List (ℕ × Rules)) (changes : List TheChange) (buffer : List TheRule) → AreWritten (fde_in entry.now) done changes buffer out.old rules.old before → AreWritten (fde_in entry.now) (done ++ (address, row.now) ∷ []) changes buffer out.new rules.new result }
 {
-    let place = place_behind(before.rules, rules.len());
+    let place = before.rules.min(rules.len());
     let count = put_rules(row, &mut rules[place..]);
     let row = told_row(fde_in(entry), entry.range, row, count);
     put_at(out, before.changes, Change { address, row });
-    with_change(before, count)
+    Totals {
+        changes: before.changes.saturating_add(1),
+        rules: before.rules.saturating_add(count),
+    }
 }
 
 // Writes the changes that are still to come.
@@ -123,7 +99,7 @@ fn put_changes(
     requires low { AllByRecursion IsLow changes.old.to_come }
     ensures { IfOk result (λ totals. AreWritten (fde_in entry.now) changes.old.to_come out.old rules.old out.new rules.new totals) }
 {
-    let mut totals = no_totals();
+    let mut totals = NO_TOTALS;
     'told: while let Some(address) = changes.advance()? {
         let Some(row) = changes.row() else {
             unreachable!();
@@ -199,17 +175,14 @@ pub extern "C" fn dwframe_changes(
 ) -> u32
     ensures { let told : Told = record { status = result; changes = changes.new; rules = rules.new; needed = needed.new } in AreAllChanges (target_of section.now.address_size section.now.byte_order) section.now.bytes.now address changes.old rules.old told refused.new }
 {
-    *needed = no_totals();
+    *needed = NO_TOTALS;
     *refused = not_refused();
     let Some(target) = target_of(section.address_size, section.byte_order) else {
         return BAD_ARGUMENT;
     };
     match check(alloc, section.bytes, target) {
         Ok(table) => put_covering(&table, address, changes, rules, needed),
-        Err(ReadError::Refused(refusal)) => {
-            *refused = told(1, refusal);
-            REFUSED
-        }
+        Err(ReadError::Refused(refusal)) => refuse(refused, 1, refusal),
         Err(ReadError::OutOfMemory) => OUT_OF_MEMORY,
     }
 }

@@ -4,16 +4,13 @@ ghost use Rattle.std.specs.Prelude.{◌≡◌, ◌⊎◌, Err};
 ghost use Rattle.dw_eval.specs.declared.error.EvalError.TheVariants.{OutOfMemory};
 ghost use Rattle.dw_library.specs.Answers.{target_of};
 ghost use Rattle.dw_library.specs.CallerFrame.{held_in};
-ghost use Rattle.dw_library.specs.Evaluation.{EvaluatesOf, IsEvaluated, Told, ValueOf, known_if};
-ghost use Rattle.dw_library.specs.Windows.{byte_among};
+ghost use Rattle.dw_library.specs.Evaluation.{IsEvaluated, Told, ValueOf, known_if};
 
-use crate::answer::{
-    BAD_ARGUMENT, OK, OUT_OF_MEMORY, REFUSED, Refused, not_refused, target_of, told,
-};
-use crate::caller::{Fault, Held, NO_VALUE, fault_of_kind, no_fault};
-use crate::registers::give_all;
+use crate::answer::{BAD_ARGUMENT, OK, OUT_OF_MEMORY, Refused, not_refused, refuse, target_of};
+use crate::caller::{Fault, Held, NO_FAULT, NO_VALUE, fault_of_kind};
+use crate::registers::given_registers;
 use crate::windows::Windows;
-use dw_eval::{Env, EvalError, Registers, evaluate};
+use dw_eval::{Env, EvalError, evaluate};
 use dw_num::ReadError;
 use dw_op::{OpList, Profile, decode};
 use dw_unwind::Column;
@@ -53,31 +50,7 @@ pub struct Context {
 fn known_if(has: u8, value: u64) -> Option<u64>
     ensures { result ≡ known_if has value }
 {
-    if has == 0 {
-        return None;
-    }
-    Some(value)
-}
-
-// The value over registers and memory.
-fn value_in(
-    alloc: Global,
-    list: &OpList<'_>,
-    context: &Context,
-    registers: &Registers,
-    memory: &mut Windows<'_>,
-) -> Result<u64, EvalError>
-    ensures { (result ≡ Err OutOfMemory) ⊎ EvaluatesOf list.now.target list.now.ops context.now registers.now (byte_among memory.old.bytes.now memory.old.windows.now) result }
-{
-    let env = Env {
-        target: list.target(),
-        registers,
-        frame_base: known_if(context.has_frame_base, context.frame_base),
-        cfa: known_if(context.has_cfa, context.cfa),
-        object: known_if(context.has_object, context.object),
-    };
-    let start = known_if(context.has_start, context.start);
-    evaluate(alloc, list, start, &env, memory, context.steps)
+    (has != 0).then_some(value)
 }
 
 // The value over what a machine held.
@@ -89,16 +62,22 @@ fn value_of(
 ) -> Result<u64, EvalError>
     ensures { (result ≡ Err OutOfMemory) ⊎ ValueOf list.now.target list.now.ops context.now (held_in held.now) result }
 {
-    let mut registers = Registers::new(alloc);
-    match give_all(&mut registers, held.registers) {
-        Ok(()) => {}
-        Err(_) => return Err(EvalError::OutOfMemory),
-    }
+    let Ok(registers) = given_registers(alloc, held.registers) else {
+        return Err(EvalError::OutOfMemory);
+    };
     let mut memory = Windows {
         windows: held.windows,
         bytes: held.memory,
     };
-    value_in(alloc, list, context, &registers, &mut memory)
+    let env = Env {
+        target: list.target(),
+        registers: &registers,
+        frame_base: known_if(context.has_frame_base, context.frame_base),
+        cfa: known_if(context.has_cfa, context.cfa),
+        object: known_if(context.has_object, context.object),
+    };
+    let start = known_if(context.has_start, context.start);
+    evaluate(alloc, list, start, &env, &mut memory, context.steps)
 }
 
 /// The value of an expression by itself (2.5), whose block is read for a location description's operations: what is on top of the
@@ -117,7 +96,7 @@ pub extern "C" fn dwframe_evaluate(
 {
     *value = 0;
     *refused = not_refused();
-    *fault = no_fault();
+    *fault = NO_FAULT;
     let Some(target) = target_of(context.address_size, context.byte_order) else {
         return BAD_ARGUMENT;
     };
@@ -133,10 +112,7 @@ pub extern "C" fn dwframe_evaluate(
             }
             Err(EvalError::OutOfMemory) => OUT_OF_MEMORY,
         },
-        Err(ReadError::Refused(refusal)) => {
-            *refused = told(1, refusal);
-            REFUSED
-        }
+        Err(ReadError::Refused(refusal)) => refuse(refused, 1, refusal),
         Err(ReadError::OutOfMemory) => OUT_OF_MEMORY,
     }
 }

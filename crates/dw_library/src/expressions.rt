@@ -1,22 +1,16 @@
 //! The expressions of a row, in buffers that the caller lends.
 
-ghost use Rattle.std.specs.Prelude.{◌≡◌, [], ◌∷◌, IfOk, IfErr, OnOk, OnErr, MatchResult};
-ghost use Rattle.dw_op.specs.Faults.{IsWithin};
-ghost use Rattle.dw_section.specs.StandingFde.{LookUpFault, Misleads, RefusesAs};
-ghost use Rattle.dw_section.specs.Ranges.{IsTable};
-ghost use Rattle.dw_section.specs.declared.standing_fde.LookUpError.TheVariants as TheLookUpError;
-ghost use Rattle.dw_library.specs.Answers.{target_of};
-ghost use Rattle.dw_library.specs.Expressions.{AreAnyExpressions, AreBlocks, AreExpressions, ArePut, Buffers, TellsAt, TellsStanding, Told, expressions_of, in_cfa, in_rule, no_blocks};
+ghost use Rattle.std.specs.Prelude.{◌≡◌, ◌⊎◌, [], ◌∷◌, IfOk, OnOk};
+ghost use Rattle.dw_library.specs.Answers.{out_of_memory, target_of};
+ghost use Rattle.dw_library.specs.Expressions.{AreAnyExpressions, AreBlocks, AreExpressions, ArePut, Buffers, TellsBlocks, Told, expressions_of, in_cfa, in_rule, no_blocks, says};
 ghost use Rattle.dw_library.specs.Inner.Expressions.{Adds};
 
 use crate::answer::{
-    BAD_ARGUMENT, OK, OUT_OF_MEMORY, REFUSED, Refused, Section, TOO_SHORT, not_refused, target_of,
-    told,
+    BAD_ARGUMENT, BAD_INDEX, NO_FDE, OK, OUT_OF_MEMORY, Refused, Section, TOO_SHORT, not_refused,
+    refuse, target_of,
 };
 use crate::caller::COLUMN_CFA;
-use crate::index::{BAD_INDEX, NO_FDE};
 use dw_cfa::{CfaRule, RegRule, Row, RowRoom};
-use dw_num::Target;
 use dw_op::ExprRef;
 use dw_section::{LookUpError, Ranged, look_up};
 use std::alloc::{AllocError, Global};
@@ -45,6 +39,8 @@ pub struct Blocks {
     /// How many bytes.
     pub len: usize,
 }
+
+const NO_BLOCKS: Blocks = Blocks { count: 0, len: 0 };
 
 // Least blocks one after another, and where each stands.
 #[derive(Drop)]
@@ -105,12 +101,6 @@ fn gather(alloc: Global, row: &Row<'_>) -> Result<Gathered, AllocError>
     Ok(all)
 }
 
-fn no_blocks() -> Blocks
-    ensures { result ≡ no_blocks }
-{
-    Blocks { count: 0, len: 0 }
-}
-
 // Writes blocks and bytes to the fronts of two buffers, where both fit.
 fn put(all: &Gathered, bytes: &mut [u8], blocks: &mut [Block]) -> u32
     ensures { ArePut all.now.blocks.items all.now.bytes.items (record { blocks = blocks.old; bytes = bytes.old }) result (record { blocks = blocks.new; bytes = bytes.new }) }
@@ -123,36 +113,25 @@ fn put(all: &Gathered, bytes: &mut [u8], blocks: &mut [Block]) -> u32
     OK
 }
 
-// Writes the expressions of the row of an address, or answers why there is none.
-fn put_expressions(
+// Writes the expressions of a row.
+fn put_blocks(
     alloc: Global,
-    section: &[u8],
-    target: Target,
-    index: &[Ranged],
-    address: u64,
+    row: &Row<'_>,
     bytes: &mut [u8],
     blocks: &mut [Block],
     all: &mut Blocks,
-) -> Result<u32, LookUpError>
-    ensures own { IsTable target section.now index.now → all.old ≡ no_blocks → MatchResult result (λ status. TellsAt target section.now address (record { blocks = blocks.old; bytes = bytes.old }) (record { status = status; buffers = record { blocks = blocks.new; bytes = bytes.new }; all = all.new })) (λ e. e ≡ TheLookUpError.OutOfMemory) }
-    ensures any { all.old ≡ no_blocks → IfOk result (λ status. TellsStanding target section.now index.now address (record { blocks = blocks.old; bytes = bytes.old }) (record { status = status; buffers = record { blocks = blocks.new; bytes = bytes.new }; all = all.new })) }
-    ensures bad { IfErr result (λ e. e ≡ TheLookUpError.BadIndex → Misleads target section.now index.now address) }
-    ensures within { IfErr result (RefusesAs (IsWithin section.now)) }
-    ensures refused { IfErr result (RefusesAs (LookUpFault target section.now index.now address)) }
-    ensures kept { OnErr result ((blocks.new ≡ blocks.old) × (bytes.new ≡ bytes.old) × (all.new ≡ all.old)) }
+) -> u32
+    requires none { all.old ≡ no_blocks }
+    ensures { let old : Buffers = record { blocks = blocks.old; bytes = bytes.old } in let told : Told = record { status = result; buffers = record { blocks = blocks.new; bytes = bytes.new }; all = all.new } in TellsBlocks row.now old told ⊎ (told ≡ says out_of_memory old) }
 {
-    let mut room = RowRoom::new(alloc);
-    let Some(_) = look_up(section, target, index, address, &mut room)? else {
-        return Ok(NO_FDE);
-    };
-    let Ok(gathered) = gather(alloc, room.row()) else {
-        return Err(LookUpError::OutOfMemory);
+    let Ok(gathered) = gather(alloc, row) else {
+        return OUT_OF_MEMORY;
     };
     *all = Blocks {
         count: gathered.blocks.len(),
         len: gathered.bytes.len(),
     };
-    Ok(put(&gathered, bytes, blocks))
+    put(&gathered, bytes, blocks)
 }
 
 /// The expressions of the row at an address, by an index: that of the CFA, and then those of the registers, ascending. Each is
@@ -174,26 +153,16 @@ pub extern "C" fn dwframe_expressions_at(
     // By any other they are those of the FDE that stands where an entry that covers the address leads, or none.
     ensures any { let old : Buffers = record { blocks = blocks.old; bytes = expressions.old } in let told : Told = record { status = result; buffers = record { blocks = blocks.new; bytes = expressions.new }; all = all.new } in AreAnyExpressions (target_of section.now.address_size section.now.byte_order) section.now.bytes.now index.now address old told refused.new }
 {
-    *all = no_blocks();
+    *all = NO_BLOCKS;
     *refused = not_refused();
     let Some(target) = target_of(section.address_size, section.byte_order) else {
         return BAD_ARGUMENT;
     };
-    match put_expressions(
-        alloc,
-        section.bytes,
-        target,
-        index,
-        address,
-        expressions,
-        blocks,
-        all,
-    ) {
-        Ok(status) => status,
-        Err(LookUpError::Refused(refusal)) => {
-            *refused = told(1, refusal);
-            REFUSED
-        }
+    let mut room = RowRoom::new(alloc);
+    match look_up(section.bytes, target, index, address, &mut room) {
+        Ok(Some(_)) => put_blocks(alloc, room.row(), expressions, blocks, all),
+        Ok(None) => NO_FDE,
+        Err(LookUpError::Refused(refusal)) => refuse(refused, 1, refusal),
         Err(LookUpError::BadIndex) => BAD_INDEX,
         Err(LookUpError::OutOfMemory) => OUT_OF_MEMORY,
     }

@@ -1,15 +1,11 @@
 //! Normal forms, and whether two sections say the same.
 
-ghost use Rattle.std.specs.Prelude.{◌≡◌, ◌≤◌, ℕ, List, length, IfOk, IfErr, OnErr};
-ghost use Rattle.dw_num.specs.Refusals.{Refuses};
-ghost use Rattle.dw_canon.specs.Normal.{IsNormalForm};
-ghost use Rattle.dw_normal.specs.Answers.{NormalFault};
+ghost use Rattle.std.specs.Prelude.{◌≡◌};
 ghost use Rattle.dw_library.specs.Answers.{target_of};
-ghost use Rattle.dw_library.specs.Forms.{IsCompared, IsNormalised, IsPlaced, section_of, target_of_both};
+ghost use Rattle.dw_library.specs.Forms.{IsCompared, IsNormalised, section_of, target_of_both};
 
 use crate::answer::{
-    BAD_ARGUMENT, OK, OUT_OF_MEMORY, REFUSED, Refused, Section, TOO_SHORT, not_refused, target_of,
-    told,
+    BAD_ARGUMENT, OK, OUT_OF_MEMORY, Refused, Section, not_refused, put_front, refuse, target_of,
 };
 use dw_normal::{SameError, Which, normalise, same};
 use dw_num::{ReadError, Target};
@@ -17,34 +13,6 @@ use std::alloc::Global;
 
 // The most bytes of a normal form.
 const LIMIT: u64 = 2_147_483_647;
-
-// Writes bytes to the front of a buffer, where they fit.
-fn put_bytes(bytes: &[u8], out: &mut [u8]) -> u32
-    ensures { IsPlaced bytes.now out.old result out.new }
-{
-    if out.len() < bytes.len() {
-        return TOO_SHORT;
-    }
-    out[..bytes.len()].copy_from_slice(bytes);
-    OK
-}
-
-// Writes a section's normal form to the front of a buffer, where it fits, and its length.
-fn put_normal(
-    alloc: Global,
-    bytes: &[u8],
-    target: Target,
-    out: &mut [u8],
-    needed: &mut usize,
-) -> Result<u32, ReadError>
-    ensures placed { IfOk result (λ status. (n : List ℕ) × IsNormalForm target bytes.now n × (length n ≤ 2147483647) × (needed.new ≡ length n) × IsPlaced n out.old status out.new) }
-    ensures first { IfErr result (Refuses (NormalFault target 2147483647 bytes.now)) }
-    ensures kept { OnErr result ((out.new ≡ out.old) × (needed.new ≡ needed.old)) }
-{
-    let normal = normalise(alloc, bytes, target, LIMIT)?;
-    *needed = normal.len();
-    Ok(put_bytes(&normal, out))
-}
 
 /// Writes the normal form of a section to the front of `out`, and its length to `needed`. Where `out` is shorter it answers
 /// `TOO_SHORT` with that length, and `out` stays; it stays also where the section is refused.
@@ -63,12 +31,12 @@ pub extern "C" fn dwframe_normalise(
     let Some(target) = target_of(section.address_size, section.byte_order) else {
         return BAD_ARGUMENT;
     };
-    match put_normal(alloc, section.bytes, target, out, needed) {
-        Ok(status) => status,
-        Err(ReadError::Refused(refusal)) => {
-            *refused = told(1, refusal);
-            REFUSED
+    match normalise(alloc, section.bytes, target, LIMIT) {
+        Ok(normal) => {
+            *needed = normal.len();
+            put_front(&normal, out)
         }
+        Err(ReadError::Refused(refusal)) => refuse(refused, 1, refusal),
         Err(ReadError::OutOfMemory) => OUT_OF_MEMORY,
     }
 }
@@ -86,10 +54,7 @@ fn section_of(which: Which) -> u32
 fn target_of_both(first: &Section<'_>, second: &Section<'_>) -> Option<Target>
     ensures { result ≡ target_of_both first.now.address_size first.now.byte_order second.now.address_size second.now.byte_order }
 {
-    if first.address_size != second.address_size {
-        return None;
-    }
-    if first.byte_order != second.byte_order {
+    if first.address_size != second.address_size || first.byte_order != second.byte_order {
         return None;
     }
     target_of(first.address_size, first.byte_order)
@@ -116,10 +81,7 @@ pub extern "C" fn dwframe_same(
             *alike = u32::from(same);
             OK
         }
-        Err(SameError::Refused(which, refusal)) => {
-            *refused = told(section_of(which), refusal);
-            REFUSED
-        }
+        Err(SameError::Refused(which, refusal)) => refuse(refused, section_of(which), refusal),
         Err(SameError::OutOfMemory) => OUT_OF_MEMORY,
     }
 }

@@ -1,29 +1,21 @@
 //! Look-ups by an index that the caller keeps.
 
-ghost use Rattle.std.specs.Prelude.{◌≡◌, ◌+◌, ◌<◌, ◌≤◌, List, IfOk, IfErr, OnErr, MatchResult, length, map, slice_set};
-ghost use Rattle.dw_num.specs.Refusals.{Refuses};
-ghost use Rattle.dw_section.specs.Accepted.{CheckFault};
+ghost use Rattle.std.specs.Prelude.{◌≡◌, ◌+◌, ◌<◌, ◌≤◌, IfOk, IfErr, OnErr, MatchResult, length, map, slice_set};
 ghost use Rattle.dw_op.specs.Faults.{IsWithin};
 ghost use Rattle.dw_section.specs.StandingFde.{LookUpFault, Misleads, RefusesAs};
 ghost use Rattle.dw_section.specs.Ranges.{IsTable};
-ghost use Rattle.dw_section.specs.declared.fde_range.Ranged.{Ranged as TheRanged};
 ghost use Rattle.dw_section.specs.declared.standing_fde.LookUpError.TheVariants as TheLookUpError;
 ghost use Rattle.dw_library.specs.Answers.{target_of};
-ghost use Rattle.dw_library.specs.Index.{AreEntries, HasSize, IsAnyRow, IsIndexed, IsRow, IsTold, TellsFde, TellsRow, TellsRules, Told, cfa_kind_of, cfa_offset_of, cfa_register_of, no_row, over, row_of, rule_of};
+ghost use Rattle.dw_library.specs.Index.{HasSize, IsAnyRow, IsIndexed, IsRow, IsTold, TellsFde, TellsRow, TellsRules, Told, cfa_kind_of, cfa_offset_of, cfa_register_of, no_row, over, row_of, rule_of};
 
 use crate::answer::{
-    BAD_ARGUMENT, OK, OUT_OF_MEMORY, REFUSED, Refused, Section, TOO_SHORT, not_refused, target_of,
-    told,
+    BAD_ARGUMENT, BAD_INDEX, NO_FDE, OK, OUT_OF_MEMORY, Refused, Section, TOO_SHORT, not_refused,
+    put_front, refuse, target_of,
 };
 use dw_cfa::{CfaRule, RegRule, Row as CfaRow, RowRoom};
 use dw_num::{ReadError, Target};
 use dw_section::{Fde, LookUpError, Ranged, StandingFde, check, look_up};
 use std::alloc::Global;
-
-/// No entry of the index covers the address.
-pub(crate) const NO_FDE: u32 = 5;
-/// The index is not the one of these bytes.
-pub(crate) const BAD_INDEX: u32 = 10;
 
 /// The rule of a register (6.4.2.3): its number, the kind, and the other register or the offset that the kind names.
 #[repr(C)]
@@ -64,35 +56,6 @@ pub struct Row {
     pub return_register: u16,
 }
 
-// Writes entries to the front of a buffer, where they fit.
-fn put_entries(index: &[Ranged], out: &mut [Ranged]) -> u32
-    ensures { AreEntries index.now out.old result out.new }
-{
-    if out.len() < index.len() {
-        return TOO_SHORT;
-    }
-    out[..index.len()].copy_from_slice(index);
-    OK
-}
-
-// Writes a section's index to the front of a buffer, where it fits, and how many entries it has.
-fn put_index(
-    alloc: Global,
-    bytes: &[u8],
-    target: Target,
-    out: &mut [Ranged],
-    written: &mut usize,
-) -> Result<u32, ReadError>
-    ensures placed { IfOk result (λ status. (index : List TheRanged) × IsTable target bytes.now index × (written.new ≡ length index) × AreEntries index out.old status out.new) }
-    ensures first { IfErr result (Refuses (CheckFault target bytes.now)) }
-    ensures kept { OnErr result ((out.new ≡ out.old) × (written.new ≡ written.old)) }
-{
-    let table = check(alloc, bytes, target)?;
-    let index = table.index();
-    *written = index.len();
-    Ok(put_entries(index, out))
-}
-
 /// How many entries the index of a section has.
 #[unsafe(no_mangle)]
 pub extern "C" fn dwframe_index_size(
@@ -108,26 +71,14 @@ pub extern "C" fn dwframe_index_size(
     let Some(target) = target_of(section.address_size, section.byte_order) else {
         return BAD_ARGUMENT;
     };
-    match size_of(alloc, section.bytes, target) {
-        Ok(found) => {
-            *size = found;
+    match check(alloc, section.bytes, target) {
+        Ok(table) => {
+            *size = table.index().len();
             OK
         }
-        Err(ReadError::Refused(refusal)) => {
-            *refused = told(1, refusal);
-            REFUSED
-        }
+        Err(ReadError::Refused(refusal)) => refuse(refused, 1, refusal),
         Err(ReadError::OutOfMemory) => OUT_OF_MEMORY,
     }
-}
-
-// How many entries the index of a section has.
-fn size_of(alloc: Global, bytes: &[u8], target: Target) -> Result<usize, ReadError>
-    ensures size { IfOk result (λ size. (index : List TheRanged) × IsTable target bytes.now index × (size ≡ length index)) }
-    ensures first { IfErr result (Refuses (CheckFault target bytes.now)) }
-{
-    let table = check(alloc, bytes, target)?;
-    Ok(table.index().len())
 }
 
 /// Writes the index of a section to the front of `out`, and how many entries it has to `written`. Where `out` is shorter it
@@ -147,12 +98,13 @@ pub extern "C" fn dwframe_index(
     let Some(target) = target_of(section.address_size, section.byte_order) else {
         return BAD_ARGUMENT;
     };
-    match put_index(alloc, section.bytes, target, out, written) {
-        Ok(status) => status,
-        Err(ReadError::Refused(refusal)) => {
-            *refused = told(1, refusal);
-            REFUSED
+    match check(alloc, section.bytes, target) {
+        Ok(table) => {
+            let index = table.index();
+            *written = index.len();
+            put_front(index, out)
         }
+        Err(ReadError::Refused(refusal)) => refuse(refused, 1, refusal),
         Err(ReadError::OutOfMemory) => OUT_OF_MEMORY,
     }
 }
@@ -234,31 +186,16 @@ pub(crate) fn no_row() -> Row
     }
 }
 
-fn cfa_kind_of(rule: &CfaRule<'_>) -> u32
-    ensures { result ≡ cfa_kind_of rule.now }
+// The kind of a rule of the CFA, and the register and the offset that it names.
+fn told_cfa(rule: &CfaRule<'_>) -> (u32, u16, i64)
+    ensures kind { result.0 ≡ cfa_kind_of rule.now }
+    ensures register { result.1 ≡ cfa_register_of rule.now }
+    ensures offset { result.2 ≡ cfa_offset_of rule.now }
 {
     match rule {
-        CfaRule::Unset => 0,
-        CfaRule::Register { .. } => 1,
-        CfaRule::Expression(_) => 2,
-    }
-}
-
-fn cfa_register_of(rule: &CfaRule<'_>) -> u16
-    ensures { result ≡ cfa_register_of rule.now }
-{
-    match rule {
-        CfaRule::Register { register, .. } => *register,
-        _ => 0,
-    }
-}
-
-fn cfa_offset_of(rule: &CfaRule<'_>) -> i64
-    ensures { result ≡ cfa_offset_of rule.now }
-{
-    match rule {
-        CfaRule::Register { offset, .. } => *offset,
-        _ => 0,
+        CfaRule::Unset => (0, 0, 0),
+        CfaRule::Register { register, offset } => (1, *register, *offset),
+        CfaRule::Expression(_) => (2, 0, 0),
     }
 }
 
@@ -270,14 +207,14 @@ pub(crate) fn told_row(fde: Fde, range: u64, rules: &CfaRow<'_>, count: usize) -
     ensures told { IsTold (record { fde = fde; row = rules.now }) result }
     ensures exact { result ≡ row_of fde rules.now }
 {
-    let cfa = rules.cfa_rule();
+    let (cfa_kind, cfa_register, cfa_offset) = told_cfa(rules.cfa_rule());
     Row {
         begin: fde.begin,
         range,
-        cfa_offset: cfa_offset_of(cfa),
+        cfa_offset,
         count,
-        cfa_kind: cfa_kind_of(cfa),
-        cfa_register: cfa_register_of(cfa),
+        cfa_kind,
+        cfa_register,
         return_register: fde.return_register,
     }
 }
@@ -339,10 +276,7 @@ pub extern "C" fn dwframe_row_at(
     };
     match put_row(alloc, section.bytes, target, index, address, rules, row) {
         Ok(status) => status,
-        Err(LookUpError::Refused(refusal)) => {
-            *refused = told(1, refusal);
-            REFUSED
-        }
+        Err(LookUpError::Refused(refusal)) => refuse(refused, 1, refusal),
         Err(LookUpError::BadIndex) => BAD_INDEX,
         Err(LookUpError::OutOfMemory) => OUT_OF_MEMORY,
     }

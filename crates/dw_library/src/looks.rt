@@ -8,11 +8,10 @@ ghost use Rattle.dw_library.specs.Looks.{AreLooks, IsLook, Look, TellsLooks, Tol
 ghost use Rattle.dw_library.specs.Inner.Looks.{IsLeft, status_of};
 
 use crate::answer::{
-    BAD_ARGUMENT, OK, OUT_OF_MEMORY, REFUSED, Refused, Section, TOO_SHORT, not_refused, target_of,
-    told,
+    BAD_ARGUMENT, OK, OUT_OF_MEMORY, Refused, Section, TOO_SHORT, not_refused, refuse, target_of,
 };
 use crate::index::{Row, Rule, no_row, put_rules, told_row};
-use dw_num::{ReadError, Target};
+use dw_num::ReadError;
 use dw_section::{Lookups, Table, check};
 use std::alloc::{AllocError, Global};
 
@@ -29,15 +28,9 @@ fn behind(room: Room, count: usize, size: usize) -> Room
     ensures { (before own : List TheRule) → IsLeft size before room → count ≡ length own → IsLeft size (before ++ own) result }
 {
     let left = size - room.place;
-    if count <= left {
-        return Room {
-            place: room.place + count,
-            short: room.short,
-        };
-    }
     Room {
-        place: size,
-        short: true,
+        place: room.place + count.min(left),
+        short: room.short || left < count,
     }
 }
 
@@ -55,14 +48,12 @@ fn put_look(
     ensures section { lookups.new.section ≡ table.now }
 {
     table.accepted();
-    if !lookups.find(address)? {
+    lookups.find(address)?;
+    let Some(specified) = lookups.row() else {
         *row = no_row();
         return Ok(0);
-    }
-    let Some(found) = lookups.fde() else {
-        unreachable!();
     };
-    let Some(specified) = lookups.row() else {
+    let Some(found) = lookups.fde() else {
         unreachable!();
     };
     let count = put_rules(specified, rules);
@@ -157,10 +148,7 @@ pub extern "C" fn dwframe_rows_at(
     }
     match check(alloc, section.bytes, target) {
         Ok(table) => status_of(put_looks(&table, addresses, rows, rules, done)),
-        Err(ReadError::Refused(refusal)) => {
-            *refused = told(1, refusal);
-            REFUSED
-        }
+        Err(ReadError::Refused(refusal)) => refuse(refused, 1, refusal),
         Err(ReadError::OutOfMemory) => OUT_OF_MEMORY,
     }
 }

@@ -1,6 +1,6 @@
 //! The names of statuses, of refusals and of faults.
 
-ghost use Rattle.std.specs.Prelude.{◌≡◌, MatchOption};
+ghost use Rattle.std.specs.Prelude.{◌≡◌, MatchOption, length};
 ghost use Rattle.dw_num.specs.Codes.{code_entry};
 ghost use Rattle.dw_num.specs.declared.refusal.Code.{Code as TheCode};
 ghost use Rattle.dw_eval.specs.Kinds.{kind_entry};
@@ -135,14 +135,17 @@ fn code_of(number: u32) -> Option<Code>
     })
 }
 
-// Writes a text and a zero byte, where both fit.
-fn put_text(text: &[u8], out: &mut [u8])
-    ensures { HoldsText text.now out.old out.new }
+// Writes a text and a zero byte, where both fit, and tells the length of the text.
+fn put_text(text: &str, out: &mut [u8]) -> usize
+    ensures put { HoldsText text.now out.old out.new }
+    ensures len { result ≡ length text.now }
 {
+    let text = text.as_bytes();
     if text.len() < out.len() {
         out[..text.len()].copy_from_slice(text);
         out[text.len()] = 0;
     }
+    text.len()
 }
 
 /// Writes the name of a refusal's code and a zero byte behind it, where both fit into `name`, which else stays. Answers the
@@ -151,12 +154,10 @@ fn put_text(text: &[u8], out: &mut [u8])
 pub extern "C" fn dwframe_refusal_name(code: u32, name: &mut [u8]) -> usize
     ensures { IsNamed code name.old name.new result }
 {
-    let Some(code) = code_of(code) else {
-        return 0;
-    };
-    let text = code.name().as_bytes();
-    put_text(text, name);
-    text.len()
+    match code_of(code) {
+        Some(code) => put_text(code.name(), name),
+        None => 0,
+    }
 }
 
 /// Writes the name of a status and a zero byte behind it, where both fit into `name`, which else stays. Answers the length of
@@ -165,12 +166,10 @@ pub extern "C" fn dwframe_refusal_name(code: u32, name: &mut [u8]) -> usize
 pub extern "C" fn dwframe_status_name(status: u32, name: &mut [u8]) -> usize
     ensures { IsNamedBy status_entry status name.old name.new result }
 {
-    let Some(status) = status_of(status) else {
-        return 0;
-    };
-    let text = status.name().as_bytes();
-    put_text(text, name);
-    text.len()
+    match status_of(status) {
+        Some(status) => put_text(status.name(), name),
+        None => 0,
+    }
 }
 
 /// The same of the fault of an expression.
@@ -178,10 +177,8 @@ pub extern "C" fn dwframe_status_name(status: u32, name: &mut [u8]) -> usize
 pub extern "C" fn dwframe_fault_name(kind: u32, name: &mut [u8]) -> usize
     ensures { IsNamedBy kind_entry kind name.old name.new result }
 {
-    let Some(kind) = kind_of(kind) else {
-        return 0;
-    };
-    let text = kind.name().as_bytes();
-    put_text(text, name);
-    text.len()
+    match kind_of(kind) {
+        Some(kind) => put_text(kind.name(), name),
+        None => 0,
+    }
 }

@@ -167,9 +167,6 @@ impl<'a> Memory for Windows<'a> {
     ghost failures = { λ _. 0 };
 
     fn read(&mut self, address: u64, len: usize, order: Order) -> Result<u64, ReadFault> {
-        let Some(number) = number_from(self.windows, self.bytes, address, len, order) else {
-            return Err(ReadFault::Unreadable);
-        };
-        Ok(number)
+        number_from(self.windows, self.bytes, address, len, order).ok_or(ReadFault::Unreadable)
     }
 }

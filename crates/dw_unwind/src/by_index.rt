@@ -21,32 +21,22 @@ use dw_eval::{Memory, Policy, Registers};
 use dw_num::{Refusal, Target, are_bytes};
 use dw_section::{LookUpError, Ranged, look_up, section_laws};
 use std::alloc::Global;
-use std::error::Error;
-use std::fmt;
+use thiserror::Error;
 
 /// Why there is no frame of the caller by an index.
-#[derive(Clone, Copy, Debug, PartialEq, Eq)]
+#[derive(Clone, Copy, Debug, PartialEq, Eq, Error)]
 pub enum UnwindAtError {
     /// The index is not that of an accepted section of these bytes: no FDE that covers the address stands where it says, or
     /// the CFA has no rule there.
+    #[error("the index is not the one of these bytes")]
     BadIndex,
     /// What stands there is refused, as `dw_section::look_up` refuses it (1 to 23, 26).
+    #[error("{0}")]
     Refused(Refusal),
     /// There is no frame, as `unwind` says it.
+    #[error("{0}")]
     Unwind(UnwindError),
 }
-
-impl fmt::Display for UnwindAtError {
-    fn fmt<W: fmt::Write>(&self, f: &mut fmt::Formatter<W>) -> fmt::Result {
-        match self {
-            UnwindAtError::BadIndex => write!(f, "the index is not the one of these bytes"),
-            UnwindAtError::Refused(refusal) => write!(f, "{refusal}"),
-            UnwindAtError::Unwind(error) => write!(f, "{error}"),
-        }
-    }
-}
-
-impl Error for UnwindAtError {}
 
 impl From<LookUpError> for UnwindAtError {
     ghost from_gives = { λ error e. e ≡ of_look_up error };
@@ -72,10 +62,7 @@ fn by_index(answer: Result<Frame<'_>, UnwindError>) -> Result<Frame<'_>, UnwindA
 fn is_set(row: &Row<'_>) -> bool
     ensures { MatchBool result (row.now.cfa ≡ Unset → ⊥) (row.now.cfa ≡ Unset) }
 {
-    match row.cfa_rule() {
-        CfaRule::Unset => false,
-        _ => true,
-    }
+    !matches!(row.cfa_rule(), CfaRule::Unset)
 }
 
 /// The return address register of the FDE that covers an address by an index; `room` lends the rules there then.

@@ -5,8 +5,8 @@ ghost use Rattle.dw_unwind.specs.Codes.{code_entry};
 ghost use Rattle.dw_unwind.specs.declared.fault.DumpError.TheVariants.{Fault, OutOfMemory};
 
 use std::alloc::{AllocError, AllocFailed};
-use std::error::Error;
 use std::fmt;
+use thiserror::Error;
 
 /// What is wrong with a line of a dump. A line is judged in this order.
 #[derive(Clone, Copy, Debug, PartialEq, Eq)]
@@ -50,7 +50,8 @@ impl fmt::Display for DumpCode {
 }
 
 /// A fault, and the line that it is found at, counted from 1.
-#[derive(Clone, Copy, Debug, PartialEq, Eq)]
+#[derive(Clone, Copy, Debug, PartialEq, Eq, Error)]
+#[error("{code} at line {line}")]
 pub struct DumpFault {
     /// What is wrong.
     pub code: DumpCode,
@@ -58,33 +59,16 @@ pub struct DumpFault {
     pub line: u64,
 }
 
-impl fmt::Display for DumpFault {
-    fn fmt<W: fmt::Write>(&self, f: &mut fmt::Formatter<W>) -> fmt::Result {
-        write!(f, "{} at line {}", self.code, self.line)
-    }
-}
-
-impl Error for DumpFault {}
-
 /// Why there is no dump.
-#[derive(Clone, Copy, Debug, PartialEq, Eq)]
+#[derive(Clone, Copy, Debug, PartialEq, Eq, Error)]
 pub enum DumpError {
     /// The first fault of the text.
+    #[error("{0}")]
     Fault(DumpFault),
     /// A request for memory was refused.
+    #[error("out of memory")]
     OutOfMemory,
 }
-
-impl fmt::Display for DumpError {
-    fn fmt<W: fmt::Write>(&self, f: &mut fmt::Formatter<W>) -> fmt::Result {
-        match self {
-            DumpError::Fault(fault) => write!(f, "{fault}"),
-            DumpError::OutOfMemory => write!(f, "out of memory"),
-        }
-    }
-}
-
-impl Error for DumpError {}
 
 impl From<DumpFault> for DumpError {
     ghost from_gives = { λ f e. e ≡ Fault f };

@@ -7,8 +7,8 @@ ghost use Rattle.dw_unwind.specs.Codes.{frame_fault};
 use crate::frame_room::FrameRegisters;
 use dw_eval::Kind;
 use std::alloc::{AllocError, AllocFailed};
-use std::error::Error;
 use std::fmt;
+use thiserror::Error;
 
 /// A column of a row of the table of 6.4.1: the canonical frame address, or a register.
 #[derive(Clone, Copy, Debug, PartialEq, Eq)]
@@ -41,12 +41,14 @@ pub struct Frame<'r> {
 }
 
 /// Why there is no frame of the caller (6.4, 6.4.3), and the column of the row (6.4.1) that it comes from.
-#[derive(Clone, Copy, Debug, PartialEq, Eq)]
+#[derive(Clone, Copy, Debug, PartialEq, Eq, Error)]
 pub enum UnwindError {
     /// No FDE covers the address. One covers those from its `initial_location` on, below that plus its `address_range` (6.4.1).
+    #[error("NoFde")]
     NoFde,
     /// An expression (2.5) has no value: its fault, and the operation's index. The rule that has it was set by
     /// `DW_CFA_def_cfa_expression` (6.4.2.2), `DW_CFA_expression` or `DW_CFA_val_expression` (6.4.2.3).
+    #[error("{kind} at operation {index} in {column}")]
     Eval {
         /// What is wrong with the expression (2.5).
         kind: Kind,
@@ -57,6 +59,7 @@ pub enum UnwindError {
     },
     /// A byte of a saved register is missing, or its bytes pass 2^N. The register's rule is `offset(N)` (`DW_CFA_offset`,
     /// `DW_CFA_offset_extended`, `DW_CFA_offset_extended_sf`) or `expression(E)` (`DW_CFA_expression`), 6.4.1, 6.4.2.3.
+    #[error("Unreadable in {column}")]
     Unreadable {
         /// The column (6.4.1) of the saved register.
         column: Column,
@@ -67,12 +70,14 @@ pub enum UnwindError {
     },
     /// The memory's device failed while a saved register was read, whose rule is `offset(N)` (`DW_CFA_offset`,
     /// `DW_CFA_offset_extended`, `DW_CFA_offset_extended_sf`) or `expression(E)` (`DW_CFA_expression`), 6.4.1, 6.4.2.3.
+    #[error("Device in {column}")]
     Device {
         /// The column (6.4.1) of the saved register.
         column: Column,
     },
     /// A register that is asked for holds nothing: that of the CFA's rule (`DW_CFA_def_cfa`, `DW_CFA_def_cfa_sf`,
     /// `DW_CFA_def_cfa_register`, 6.4.2.2), or the one that a rule `register(R)` names (`DW_CFA_register`, 6.4.2.3).
+    #[error("NoRegister in {column}")]
     NoRegister {
         /// The column (6.4.1) whose rule asks for it.
         column: Column,
@@ -80,6 +85,7 @@ pub enum UnwindError {
         register: u16,
     },
     /// A request for memory was refused.
+    #[error("out of memory")]
     OutOfMemory,
 }
 
@@ -98,25 +104,6 @@ impl UnwindError {
         }
     }
 }
-
-impl fmt::Display for UnwindError {
-    fn fmt<W: fmt::Write>(&self, f: &mut fmt::Formatter<W>) -> fmt::Result {
-        match self {
-            UnwindError::NoFde => write!(f, "NoFde"),
-            UnwindError::Eval {
-                kind,
-                index,
-                column,
-            } => write!(f, "{kind} at operation {index} in {column}"),
-            UnwindError::Unreadable { column, .. } => write!(f, "Unreadable in {column}"),
-            UnwindError::Device { column } => write!(f, "Device in {column}"),
-            UnwindError::NoRegister { column, .. } => write!(f, "NoRegister in {column}"),
-            UnwindError::OutOfMemory => write!(f, "out of memory"),
-        }
-    }
-}
-
-impl Error for UnwindError {}
 
 impl From<AllocError> for UnwindError {
     ghost from_gives = { λ _ e. e ≡ OutOfMemory };

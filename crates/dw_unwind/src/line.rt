@@ -127,10 +127,8 @@ fn is_skipped(line: &[u8]) -> bool
 fn counter_line(line: &[u8]) -> Option<u64>
     ensures { MatchOption result ((v : ℕ) → CounterLine v line.now → ⊥) (λ v. CounterLine v line.now) }
 {
-    match behind(line, b"pc 0x") {
-        Some(digits) => hexadecimal(digits),
-        None => None,
-    }
+    let digits = behind(line, b"pc 0x")?;
+    hexadecimal(digits)
 }
 
 fn register_line(line: &[u8]) -> Option<(u16, u64)>

@@ -8,7 +8,7 @@ ghost use Rattle.dw_eval.specs.Evaluation.{first_stack};
 ghost use Rattle.dw_section.specs.Fits.{CfaFits, RuleFits};
 ghost use Rattle.dw_unwind.specs.declared.frame.UnwindError.TheVariants.{NoRegister};
 ghost use Rattle.dw_unwind.specs.Inner.Recovery.{Over};
-ghost use Rattle.dw_unwind.specs.Columns.{in_column, recovered, defaulted, value_in, saved_at, ValueIs, CfaIs, SavedBy, RegisterIs, SavedFails, ValueFails, SavedByFails, CfaFails, RegisterFails};
+ghost use Rattle.dw_unwind.specs.Columns.{in_column, defaulted, value_in, saved_at, ValueIs, CfaIs, SavedBy, RegisterIs, SavedFails, ValueFails, SavedByFails, CfaFails, RegisterFails};
 
 use crate::frame::{Column, UnwindError};
 use dw_cfa::{CfaRule, RegRule};
@@ -42,25 +42,13 @@ fn in_column(answer: Result<u64, EvalError>, column: Column) -> Result<u64, Unwi
     }
 }
 
-// A register's value that can be recovered, or a fault.
-fn recovered(answer: Result<u64, UnwindError>) -> Result<Option<u64>, UnwindError>
-    ensures { result ≡ recovered answer }
-{
-    match answer {
-        Ok(value) => Ok(Some(value)),
-        Err(error) => Err(error),
-    }
-}
-
 impl<'m> Machine<'m> {
     // What a register holds, modulo 2^N.
     fn value_in(&self, register: u16) -> Option<u64>
         ensures { (byte : ℕ → Option ℕ) → result ≡ value_in (context self.now.env byte) self.now.steps register }
     {
-        match self.env.registers.get(register) {
-            Some(value) => Some(reduced(value, self.env.target.size)),
-            None => None,
-        }
+        let value = self.env.registers.get(register)?;
+        Some(reduced(value, self.env.target.size))
     }
 
     // The address that memory holds at an address.
@@ -184,7 +172,7 @@ impl<'m> Machine<'m> {
             RegRule::SameValue => Ok(self.value_in(register)),
             RegRule::Offset(offset) => {
                 let address = offset_by(cfa, *offset, size);
-                recovered(self.saved_at(address, column, memory))
+                self.saved_at(address, column, memory).map(Some)
             }
             RegRule::ValOffset(offset) => Ok(Some(offset_by(cfa, *offset, size))),
             RegRule::Register(other) => match self.value_in(*other) {
@@ -195,10 +183,10 @@ impl<'m> Machine<'m> {
                 }),
             },
             RegRule::Expression(expression) => {
-                recovered(self.saved_by(expression, cfa, column, memory))
+                self.saved_by(expression, cfa, column, memory).map(Some)
             }
             RegRule::ValExpression(expression) => {
-                recovered(self.value(expression, Some(cfa), column, memory))
+                self.value(expression, Some(cfa), column, memory).map(Some)
             }
         }
     }

@@ -1,5 +1,5 @@
 use Rattle.dw_command.proofs.Words.{Ok, Err, ◌∙◌, ap, inl, inr, refl, err_from_is_err_and, Keeps-refl, lines_in, output_of}
-use Rattle.dw_command.proofs.Endings.{behind_lines, tells_at, text_at}
+use Rattle.dw_command.proofs.Endings.{behind_lines, text_at}
 use Rattle.dw_command.proofs.at.run_at.Goals as goal
 
 pub returns-in_err-text : goal.returns-in_err-text
@@ -36,7 +36,7 @@ returns g c =
     let new = output_of g.W.Write.contents c.put_all.new.out in
     let s = c.deref-2.result.now in
     let more = c.in_ok-add_lines.ensures in
-    let prints = tells_at old new c.args.target s c.in_ok-table.table c.deref-4.result.now c.put_all.result c.in_ok-table.ensures.found.0 c.put_all.ensures in
+    let prints = rw c.in_ok-table.ensures.found.0 at c.put_all.ensures in
     behind_lines (g.L.Load.gives c.args.files.now) old new c.args.target c.args.lookup
     c.in_ok-bytes.bytes.items s c.in_ok-text.text.items c.deref-3.result.now c.put_all.result
     c.deref-2.ensures.value c.in_ok-bytes.ensures.loads c.deref-3.ensures.value text

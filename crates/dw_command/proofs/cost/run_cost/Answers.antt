@@ -1,6 +1,6 @@
 use Rattle.dw_command.proofs.Words.{Err, inl, inr, refl, err_from_is_err_and, Keeps-refl, output_of}
 use Rattle.dw_num.specs.declared.error.ReadError.TheVariants.{OutOfMemory}
-use Rattle.dw_command.proofs.{Endings.{behind_length, lent, loaded, starts_at}, Members.counts_at}
+use Rattle.dw_command.proofs.Endings.{behind_length, lent, loaded}
 use Rattle.dw_command.proofs.cost.run_cost.Goals as goal
 
 pub returns-in_err-len : goal.returns-in_err-len
@@ -30,8 +30,8 @@ returns g c =
     let loads = loaded _ _ c.load.result c.in_ok-bytes.bytes c.load.ensures.gives c.in_ok-bytes.ensures.cases in
     let n = c.in_ok-len.ensures.found in
     let table = c.in_ok-table.ensures.found in
-    let starts = starts_at c.args.target c.as_slice-bytes.result.now c.in_ok-table.table c.row_starts-starts.result table.0 c.row_starts-starts.ensures in
-    let changes = counts_at c.args.target c.as_slice-bytes.result.now c.in_ok-table.table c.in_ok-changes.changes table.0 c.in_ok-changes.ensures in
+    let starts = rw table.0 at c.row_starts-starts.ensures in
+    let changes = rw table.0 at c.in_ok-changes.ensures in
     behind_length (g.L.Load.gives c.args.files.now) (output_of g.W.Write.contents c.args.out.now) (output_of g.W.Write.contents c.put_costs.new.out) c.args.target c.args.path.now c.in_ok-bytes.bytes.items c.as_slice-bytes.result.now c.as_slice-bytes.result.now _
     c.as_slice-bytes.ensures.value c.as_slice-bytes.ensures.value loads (n.0, n.1, n.2)
     (inl (

@@ -1,5 +1,5 @@
-use Rattle.dw_command.proofs.Words.{Ok, Err, inl, inr, refl, err_from_is_err_and, Keeps-refl, output_of}
-use Rattle.dw_command.proofs.Endings.{behind_block, block_refused, values_at}
+use Rattle.dw_command.proofs.Words.{Err, inl, inr, refl, err_from_is_err_and, Keeps-refl, output_of}
+use Rattle.dw_command.proofs.Endings.{behind_block, block_refused}
 use Rattle.dw_command.proofs.eval.run_eval.Goals as goal
 
 pub returns-in_err-list : goal.returns-in_err-list
@@ -23,7 +23,7 @@ returns-in_err-value g c =
     let p = err_from_is_err_and c.from_residual-in_err-value.result c.from_residual-in_err-value.ensures.1 in
     let e = c.args.evaluation.now in
     let found = c.in_ok-list.ensures.found in
-    let value = values_at c.args.target _ c.in_ok-list.list.ops e.start c.in_ok-dump.dump e.steps (Err c.in_err-value.field-0.0) found.0 c.in_err-value.ensures in
+    let value = rw found.0 at c.in_err-value.ensures in
     rw (p.1, p.2) (behind_block (g.L.Load.gives c.args.files.now) (output_of g.W.Write.contents c.args.out.now) (output_of g.W.Write.contents c.args.out.now) c.args.target e
     c.in_ok-text.text.items c.deref-2.result.now c.deref.result.now c.in_ok-list.list.ops (Err c.in_err-value.field-0.0)
     c.deref-2.ensures.value c.in_ok-text.ensures.loads c.deref.ensures.value found.1
@@ -33,7 +33,7 @@ pub returns : goal.returns
 returns g c =
     let e = c.args.evaluation.now in
     let found = c.in_ok-list.ensures.found in
-    let value = values_at c.args.target _ c.in_ok-list.list.ops e.start c.in_ok-dump.dump e.steps (Ok c.in_ok-value.value) found.0 c.in_ok-value.ensures in
+    let value = rw found.0 at c.in_ok-value.ensures in
     behind_block (g.L.Load.gives c.args.files.now) (output_of g.W.Write.contents c.args.out.now) (output_of g.W.Write.contents c.put_value.new.out) c.args.target e
     c.in_ok-text.text.items c.deref-2.result.now c.deref.result.now c.in_ok-list.list.ops _
     c.deref-2.ensures.value c.in_ok-text.ensures.loads c.deref.ensures.value found.1

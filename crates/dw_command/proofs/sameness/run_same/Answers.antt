@@ -1,5 +1,5 @@
-use Rattle.dw_command.proofs.Words.{Ok, Err, inl, inr, refl, err_from_is_err_and, output_of, Keeps-refl}
-use Rattle.dw_command.proofs.Endings.{lent, load_before, prints_same}
+use Rattle.dw_command.proofs.Words.{Ok, Err, inl, inr, refl, err_from_is_err_and, Keeps-refl}
+use Rattle.dw_command.proofs.Endings.{lent, load_before}
 use Rattle.dw_command.proofs.sameness.run_same.Goals as goal
 
 pub returns-in_err-second-clause-ends : goal.returns-in_err-second-clause-ends
@@ -20,4 +20,4 @@ returns-clause-ends g c =
     let first = lent (g.L.Load.gives c.args.files.now) c.args.path.now _ c.deref.result.now c.deref.ensures.value c.in_ok-first.ensures.loads in
     let second = lent (g.L.Load.gives c.args.files.now) c.args.other.now _ c.deref-2.result.now c.deref-2.ensures.value (c.in_ok-first.ensures.same c.args.other.now (Ok c.in_ok-second.second.items) c.in_ok-second.ensures.loads) in
     let same = c.in_ok-is_same.ensures in
-    inl (c.deref.result.now, first, inl (c.deref-2.result.now, second, inl (c.in_ok-is_same.is_same, (same.fit.0, same.fit.1, same.found.2), prints_same (output_of g.W.Write.contents c.args.out.now) (output_of g.W.Write.contents c.put_verdict.new.out) _ _ _ _ _ c.verdict-status.ensures.status c.verdict-status.ensures.text c.put_verdict.ensures)))
+    inl (c.deref.result.now, first, inl (c.deref-2.result.now, second, inl (c.in_ok-is_same.is_same, (same.fit.0, same.fit.1, same.found.2), c.put_verdict.ensures)))

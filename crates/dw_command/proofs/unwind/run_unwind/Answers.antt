@@ -1,5 +1,5 @@
 use Rattle.dw_command.proofs.Words.{Ok, Err, inl, inr, refl, err_from_is_err_and, output_of, Keeps-refl}
-use Rattle.dw_command.proofs.Endings.{behind_files, dump_before, frames_at}
+use Rattle.dw_command.proofs.Endings.{behind_files, dump_before}
 use Rattle.dw_command.proofs.unwind.run_unwind.Goals as goal
 
 pub returns-in_err-text : goal.returns-in_err-text
@@ -32,7 +32,7 @@ returns-in_err-frame g c =
     let p = err_from_is_err_and c.from_residual-in_err-frame.result c.from_residual-in_err-frame.ensures.1 in
     let u = c.args.unwinding.now in
     let text = dump_before _ _ c.in_ok-bytes.ensures.same u.dump.now (Ok c.in_ok-text.text.items) c.in_ok-text.ensures.loads in
-    let frame = frames_at c.args.target c.deref.result.now c.in_ok-table.table c.in_ok-dump.dump u.default u.steps (Err c.in_err-frame.field-0.0) c.in_ok-table.ensures.found.0 c.in_err-frame.ensures in
+    let frame = rw c.in_ok-table.ensures.found.0 at c.in_err-frame.ensures in
     rw (p.1, p.2) (behind_files (g.L.Load.gives c.args.files.now) (output_of g.W.Write.contents c.args.out.now) (output_of g.W.Write.contents c.args.out.now) c.args.target u
     c.in_ok-bytes.bytes.items c.deref.result.now c.in_ok-text.text.items c.deref-2.result.now (Err c.in_err-frame.field-0.0)
     c.deref.ensures.value c.in_ok-bytes.ensures.loads c.deref-2.ensures.value text (inl (tt, c.in_ok-table.ensures.found.1, inl (c.in_ok-dump.dump, c.in_ok-dump.ensures.found, inr (c.in_err-frame.field-0.0, frame, refl, Keeps-refl _)))))
@@ -41,7 +41,7 @@ pub returns : goal.returns
 returns g c =
     let u = c.args.unwinding.now in
     let text = dump_before _ _ c.in_ok-bytes.ensures.same u.dump.now (Ok c.in_ok-text.text.items) c.in_ok-text.ensures.loads in
-    let frame = frames_at c.args.target c.deref.result.now c.in_ok-table.table c.in_ok-dump.dump u.default u.steps (Ok c.in_ok-frame.frame) c.in_ok-table.ensures.found.0 c.in_ok-frame.ensures in
+    let frame = rw c.in_ok-table.ensures.found.0 at c.in_ok-frame.ensures in
     behind_files (g.L.Load.gives c.args.files.now) (output_of g.W.Write.contents c.args.out.now) (output_of g.W.Write.contents c.put_frame.new.out) c.args.target u
     c.in_ok-bytes.bytes.items c.deref.result.now c.in_ok-text.text.items c.deref-2.result.now _
     c.deref.ensures.value c.in_ok-bytes.ensures.loads c.deref-2.ensures.value text (inl (tt, c.in_ok-table.ensures.found.1, inl (c.in_ok-dump.dump, c.in_ok-dump.ensures.found, inl (c.in_ok-frame.frame, frame, c.put_frame.ensures))))

@@ -1,5 +1,6 @@
 use Rattle.dw_library.proofs.Words.{◌≡◌, ◌∙◌, ◌<◌, ℕ, List, length, arith, ap, subst, sym, get_or, ChangesOf, Fde, Change, Rule, Fits}
-use Rattle.dw_library.proofs.Changed.{changes_low, entry_is, long, no_fde, place_low}
+use Rattle.dw_library.proofs.Changed.{changes_low, entry_is, no_fde, place_low}
+use Rattle.dw_library.proofs.Written.{over_length}
 use Rattle.dw_library.proofs.changes.put_fde.Goals as goal
 use Rattle.dw_library.proofs.changes.put_fde.Goals.{After-index}
 
@@ -27,8 +28,8 @@ returns-clause-told c =
     let all = c.changes-changes.result.to_come in
     let is = entry_is t s c.index.result.now c.index.ensures c.args.fde.place _ (inside (goal.at.returns-clause-told c).After-index) in
     let w = c.in_ok-totals.ensures in
-    let changes_long : length c.put_changes.new.out ≡ length c.args.out.now = ap (λ (l : List Change). length l) w.changes_are ∙ long _ c.args.out.now in
-    let rules_long : length c.put_changes.new.rules ≡ length c.args.rules.now = ap (λ (l : List Rule). length l) w.rules_are ∙ long _ c.args.rules.now in
+    let changes_long : length c.put_changes.new.out ≡ length c.args.out.now = ap (λ (l : List Change). length l) w.changes_are ∙ over_length _ c.args.out.now in
+    let rules_long : length c.put_changes.new.rules ≡ length c.args.rules.now = ap (λ (l : List Rule). length l) w.rules_are ∙ over_length _ c.args.rules.now in
     let fits = subst (λ (n : ℕ). Fits c.in_ok-totals.totals n (length c.args.rules.now) c.fitting.result) changes_long
     (subst (λ (n : ℕ). Fits c.in_ok-totals.totals (length c.put_changes.new.out) n c.fitting.result) rules_long c.fitting.ensures) in
     (_, is, (all, subst (λ (f : Fde). ChangesOf t s f all) (sym (is fs.0 fs.1 no_fde)) (c.changes-changes.ensures.changes fs.0 fs.1 no_fde), w, fits))

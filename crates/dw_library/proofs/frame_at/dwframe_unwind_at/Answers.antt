@@ -1,12 +1,9 @@
-use Rattle.dw_library.proofs.Words.{◌≡◌, Some, refl, sym, ◌∙◌, target_of, held_in, policy_of}
+use Rattle.dw_library.proofs.Words.{refl, sym, ◌∙◌, held_in}
 use Rattle.dw_library.proofs.FramesAt.{own_fails}
 use Rattle.dw_library.proofs.frame_at.dwframe_unwind_at.Goals as goal
 
-pub returns-in-Err-Unwind-clause-own : goal.returns-in-Err-Unwind-clause-own
-returns-in-Err-Unwind-clause-own c =
+pub returns-clause-own : goal.returns-clause-own
+returns-clause-own c =
     let a = c.args in
-    let is_target : target_of a.section.now.address_size a.section.now.byte_order ≡ Some c.in-Some.target = sym c.target_of.ensures ∙ c.in-Some.is in
-    let is_policy : policy_of a.stop.now.unset ≡ Some c.in-Some-policy_of.default = sym c.policy_of.ensures ∙ c.in-Some-policy_of.is in
-    let kept = c.in-Err-Unwind.ensures.kept in
-    rw (is_target, is_policy) (λ t. own_fails c.in-Some.target c.in-Some-policy_of.default a.section.now.bytes.now a.stop.now (held_in a.held.now) a.out.now _ c.in-Err-Unwind.error
-    (rw (c.status_of.ensures, c.told_fault.ensures, c.not_refused.ensures, kept.0, kept.1, c.no_frame.ensures) refl) (rw c.in-Err-Unwind.field-0-is at (c.in-Err-Unwind.ensures.own t)))
+    rw (sym c.target_of.ensures ∙ c.in-Some.is, sym c.policy_of.ensures ∙ c.in-Some-policy_of.is) (λ t. own_fails c.in-Some.target c.in-Some-policy_of.default a.section.now.bytes.now a.stop.now (held_in a.held.now) a.out.now _ c.in-Err-Unwind.error
+    (rw (c.status_of.ensures, c.told_fault.ensures, c.not_refused.ensures) refl) (rw c.in-Err-Unwind.field-0-is at (c.in-Err-Unwind.ensures.own t)))
