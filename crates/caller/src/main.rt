@@ -10,9 +10,7 @@ mod promised;
 mod tests;
 
 ghost use Rattle.std.specs.Prelude.{List, IfOk, MatchOption};
-ghost use Rattle.dw_section.specs.Accepted.{Accepted};
-ghost use Rattle.dw_section.specs.Meaning.{AreFdes, NoneCovers, RulesAt};
-ghost use Rattle.dw_section.specs.declared.lookup.Fde.{Fde};
+ghost use Rattle.dw_section.specs.{Accepted.Accepted, Meaning.{AreFdes, NoneCovers, RulesAt}, declared.lookup.Fde.Fde};
 
 use dw_cfa::{CfaRule, Row};
 use dw_eval::{Env, EvalError, evaluate};

@@ -1,19 +1,11 @@
 //! What the contracts and the laws of the library say together: small functions that are proved by these alone.
 
 ghost use Rattle.std.specs.Prelude.{◌≡◌, ◌<◌, ◌≤◌, ℕ, List, None, Some, IfErr, IfOk, MatchOption, MatchResult};
-ghost use Rattle.dw_num.specs.Target.{address_limit};
-ghost use Rattle.dw_num.specs.Refusals.{Refuses};
-ghost use Rattle.dw_num.specs.declared.error.ReadError.TheVariants.{OutOfMemory};
+ghost use Rattle.dw_num.specs.{Refusals.Refuses, Target.address_limit, declared.error.ReadError.TheVariants.OutOfMemory};
 ghost use Rattle.dw_op.specs.Least.{LeastBlock};
-ghost use Rattle.dw_cfa.specs.declared.instr.Instr.{Instr};
-ghost use Rattle.dw_cfa.specs.Faults.{RunFault};
-ghost use Rattle.dw_cfa.specs.InstrSpells.{ProgramSpells as Spells};
-ghost use Rattle.dw_cfa.specs.InitialRules.{HoldsAfter};
-ghost use Rattle.dw_cfa.specs.Location.{Counts};
-ghost use Rattle.dw_cfa.specs.RowSteps.{program_input};
-ghost use Rattle.dw_cfa.specs.RuleAt.{last_at};
-ghost use Rattle.dw_section.specs.Accepted.{Accepted};
-ghost use Rattle.dw_section.specs.Meanings.{SameMeaning};
+ghost use Rattle.dw_cfa.specs.{Faults.RunFault, InitialRules.HoldsAfter, InstrSpells.{ProgramSpells as Spells}};
+ghost use Rattle.dw_cfa.specs.{Location.Counts, RowSteps.program_input, RuleAt.last_at, declared.instr.Instr.Instr};
+ghost use Rattle.dw_section.specs.{Accepted.Accepted, Meanings.SameMeaning};
 
 use dw_canon::normal_laws;
 use dw_cfa::{Factors, LocatedRow, Row, row_laws, run};

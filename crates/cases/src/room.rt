@@ -1,9 +1,7 @@
 //! Room for rows that is kept: the row of an address, and rows that a walk goes on to.
 
 ghost use Rattle.std.specs.Prelude.{List};
-ghost use Rattle.dw_cfa.specs.Gives.{Gives};
-ghost use Rattle.dw_cfa.specs.RowSteps.{program_input};
-ghost use Rattle.dw_cfa.specs.declared.execution.LocatedRow.{LocatedRow as TheRow};
+ghost use Rattle.dw_cfa.specs.{Gives.Gives, RowSteps.program_input, declared.execution.LocatedRow.{LocatedRow as TheRow}};
 
 use crate::lines::compare;
 use crate::programs::{CIE, Pair, pair_of};

@@ -1,6 +1,5 @@
 -- Sums over lists, and over numbers that ascend.
-use Rattle.dw_canon.proofs.Words.{◌≡◌, ℕ, suc, ◌+◌, ◌<◌, ◌≤◌, List, [], ◌∷◌, ◌++◌, refl, arith, inl, inr, nat_eq, if◌then◌else◌, eqb_tells}
-use Rattle.dw_canon.proofs.AscendingRegisters.{Rise}
+use Rattle.dw_canon.proofs.{Words.{◌≡◌, ℕ, suc, ◌+◌, ◌<◌, ◌≤◌, List, [], ◌∷◌, ◌++◌, refl, arith, inl, inr, nat_eq, if◌then◌else◌, eqb_tells}, AscendingRegisters.Rise}
 
 abbrev pub sum_of : {X : Type 0} → (X → ℕ) → List X → ℕ
 sum_of f [] = 0

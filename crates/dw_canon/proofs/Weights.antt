@@ -1,11 +1,10 @@
 -- How many bytes of the normal form the rules of instructions take, against the bytes of the instructions.
-use Rattle.dw_canon.proofs.Words.{◌≡◌, ℕ, zero, suc, ◌+◌, ◌*◌, ◌<◌, ◌≤◌, true, false, cond, List, [], ◌∷◌, length, refl, ap, ◌∙◌, inl, inr, arith, ℤ, pos, negsuc, neg_ℤ, unsigned_abs, nat_lt, count_by, is_positive, cases_Bool}
-use Rattle.dw_canon.proofs.Words.{length-append, Target, Register, shortest_uleb, shortest_sleb, shortest_uleb-most, shortest_uleb-one, shortest_uleb-ten, shortest_signed-ten, leb_some, least_block, Expression, Code, Both}
-use Rattle.dw_canon.proofs.Words.{least_block_exists, least_no_longer, Factors, Instr, SetLoc, Advance, DefCfaExpression, Set, CfaRule, RegRule, IsOffset, BlockSpells, InstrSpells, ProgramSpells, AdvanceSpells, RuleSpells, IsSpelled}
-use Rattle.dw_canon.proofs.Words.{by_table, moves_location, expression_bytes, rule_bytes, packed}
-use Rattle.dw_canon.proofs.{MemberLaws.count_more, Sums.{sum_of, if_own}}
 use Rattle.dw_cfa.specs.declared.rule.CfaRule.TheVariants as cfa
 use Rattle.dw_cfa.specs.declared.rule.RegRule.TheVariants as rules
+use Rattle.dw_canon.proofs.Words.{◌≡◌, ℕ, zero, suc, ◌+◌, ◌*◌, ◌<◌, ◌≤◌, true, false, cond, List, [], ◌∷◌, length, refl, ap, ◌∙◌, inl, inr, arith, ℤ, pos, negsuc, neg_ℤ, unsigned_abs, nat_lt, count_by}
+use Rattle.dw_canon.proofs.Words.{is_positive, cases_Bool, length-append, Target, Register, shortest_uleb, shortest_sleb, shortest_uleb-most, shortest_uleb-one, shortest_uleb-ten, shortest_signed-ten, leb_some}
+use Rattle.dw_canon.proofs.Words.{least_block, Expression, Code, Both, least_block_exists, least_no_longer, Factors, Instr, SetLoc, Advance, DefCfaExpression, Set, CfaRule, RegRule, IsOffset, BlockSpells}
+use Rattle.dw_canon.proofs.{Words.{InstrSpells, ProgramSpells, AdvanceSpells, RuleSpells, IsSpelled, by_table, moves_location, expression_bytes, rule_bytes, packed}, MemberLaws.count_more, Sums.{sum_of, if_own}}
 
 -- ---- the bytes of rules
 

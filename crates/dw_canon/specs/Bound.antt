@@ -12,12 +12,9 @@
 -- - A product is at most a quarter of the square of the sum of its factors, so 4 * 6 (n + 1) (23 + w) ≤ (6 (e + q) + 35)^2.
 --   This is 24 times the product; 24 times 55 is 1320.
 use Rattle.std.specs.Prelude.{◌≡◌, ℕ, ◌+◌, ◌*◌, ◌≤◌, List, [], ◌∷◌, length, map}
-use Rattle.dw_num.specs.declared.target.Target.{Target}
-use Rattle.dw_num.specs.Input.{AreBytes}
-use Rattle.dw_section.specs.declared.lookup.Fde.{Fde}
-use Rattle.dw_section.specs.Meaning.{HasLengths}
-use Rattle.dw_canon.specs.Members.{fde_of}
-use Rattle.dw_canon.specs.Normal.{IsNormalForm}
+use Rattle.dw_num.specs.{Input.AreBytes, declared.target.Target.Target}
+use Rattle.dw_section.specs.{Meaning.HasLengths, declared.lookup.Fde.Fde}
+use Rattle.dw_canon.specs.{Members.fde_of, Normal.IsNormalForm}
 
 -- 24 times the bytes of an FDE and of a CIE are at most this, by the bytes of the FDE's program and of its CIE's
 abbrev pub share : ℕ → ℕ → ℕ

@@ -1,16 +1,9 @@
 -- What holds of normal forms.
 use Rattle.std.specs.Prelude.{◌≡◌, ◌↔◌, ℕ, ◌<◌, ◌≤◌, List, length, map}
-use Rattle.dw_num.specs.Input.{AreBytes}
-use Rattle.dw_num.specs.declared.target.Target.{Target}
-use Rattle.dw_cfa.specs.declared.instr.Instr.{Instr}
-use Rattle.dw_cfa.specs.Location.{row_starts}
-use Rattle.dw_cfa.specs.Rows.{Rules}
-use Rattle.dw_section.specs.Accepted.{Accepted}
-use Rattle.dw_section.specs.Meaning.{ChangesOf, Covers, FdeSays, RowStarts, RulesAt, total}
-use Rattle.dw_section.specs.declared.lookup.Fde.{Fde}
-use Rattle.dw_canon.specs.Members.{Member, changes_of}
-use Rattle.dw_canon.specs.Normal.{IsNormalForm}
-use Rattle.dw_section.specs.Meanings.{SameMeaning}
+use Rattle.dw_num.specs.{Input.AreBytes, declared.target.Target.Target}
+use Rattle.dw_cfa.specs.{Location.row_starts, Rows.Rules, declared.instr.Instr.Instr}
+use Rattle.dw_section.specs.{Accepted.Accepted, Meaning.{ChangesOf, Covers, FdeSays, RowStarts, RulesAt, total}, Meanings.SameMeaning, declared.lookup.Fde.Fde}
+use Rattle.dw_canon.specs.{Members.{Member, changes_of}, Normal.IsNormalForm}
 
 -- an accepted section has a normal form
 abbrev pub NormalFormExists : Type 0

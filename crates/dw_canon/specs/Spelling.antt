@@ -1,17 +1,11 @@
 -- The bytes of an instruction in the normal form: DWARF 5, 7.24, where the code factor is 1 and the data factor is -1. Each
 -- number has its shortest spelling, and `block` gives an expression's operations theirs.
-use Rattle.std.specs.Prelude.{ℕ, ◌+◌, ◌++◌, neg_ℤ, unsigned_abs, List, [], ◌∷◌, length, nat_lt, if◌then◌else◌}
-use Rattle.std.specs.Int.{is_negative, is_positive}
-use Rattle.std.specs.List.{flat_map}
-use Rattle.dw_num.specs.declared.target.Order.{Order}
-use Rattle.dw_num.specs.declared.target.Target.{Target}
-use Rattle.dw_num.specs.Fixed.{fixed_bytes}
-use Rattle.dw_num.specs.Shortest.{shortest_uleb, shortest_sleb}
-use Rattle.dw_num.specs.Target.{byte_count}
+use Rattle.std.specs.{Prelude.{ℕ, ◌+◌, ◌++◌, neg_ℤ, unsigned_abs, List, [], ◌∷◌, length, nat_lt, if◌then◌else◌}, Int.{is_negative, is_positive}, List.flat_map}
+use Rattle.dw_num.specs.{Fixed.fixed_bytes, Shortest.{shortest_uleb, shortest_sleb}, Target.byte_count}
+use Rattle.dw_num.specs.declared.target.{Order.Order, Target.Target}
 use Rattle.dw_op.specs.declared.op.Op.{Op}
-use Rattle.dw_cfa.specs.declared.instr.Instr.{Instr}
-use Rattle.dw_cfa.specs.declared.instr.Instr.TheVariants.{Nop, SetLoc, Advance, DefCfa, DefCfaRegister, DefCfaOffset, DefCfaExpression, Set, Restore, RememberState, RestoreState}
-use Rattle.dw_cfa.specs.declared.rule.RegRule.{RegRule}
+use Rattle.dw_cfa.specs.declared.instr.{Instr.Instr, Instr.TheVariants.{Nop, SetLoc, Advance, DefCfa, DefCfaRegister, DefCfaOffset}}
+use Rattle.dw_cfa.specs.declared.{instr.Instr.TheVariants.{DefCfaExpression, Set, Restore, RememberState, RestoreState}, rule.RegRule.RegRule}
 use Rattle.dw_cfa.specs.declared.rule.RegRule.TheVariants as rules
 
 -- a block behind its length

@@ -1,11 +1,7 @@
 -- Entries as they are written: in the 32-bit form, each CIE of version 4 with the factors 1 and -1, each ended by nops.
 use Rattle.std.specs.Prelude.{ℕ, ◌+◌, ◌-◌, ◌%◌, List, ◌∷◌, ◌++◌, length, replicate}
-use Rattle.dw_num.specs.declared.target.Target.{Target}
-use Rattle.dw_num.specs.declared.target.Size.{Size}
-use Rattle.dw_num.specs.declared.target.Form.TheVariants.{Dwarf32}
-use Rattle.dw_num.specs.Fixed.{fixed_bytes}
-use Rattle.dw_num.specs.Shortest.{shortest_uleb}
-use Rattle.dw_num.specs.Target.{byte_count}
+use Rattle.dw_num.specs.{Fixed.fixed_bytes, Shortest.shortest_uleb, Target.byte_count}
+use Rattle.dw_num.specs.declared.target.{Form.TheVariants.Dwarf32, Size.Size, Target.Target}
 use Rattle.dw_section.specs.Cut.{entry, item_bytes}
 
 -- how many nops fill n bytes to a multiple of the address size

@@ -1,10 +1,8 @@
 //! Laws of normal forms, for the layers above. The functions do nothing: their contracts are proved.
 
-ghost use Rattle.dw_canon.specs.Bound.{WithinShares};
-ghost use Rattle.dw_canon.specs.Headline.{Headline};
-ghost use Rattle.dw_canon.specs.Laws.{NormalFormExists, NormalFormIsOne, MeaningIsKept, NormalAgain, SameNormalForm, FewestRows, ExactRows, NormalRows, NoneFewer};
-ghost use Rattle.dw_canon.specs.Inner.Laws.{InitialProgram, MemberProgram, ChangesAreOne};
-ghost use Rattle.dw_canon.specs.Inner.Renders.{Readback};
+ghost use Rattle.dw_canon.specs.{Bound.WithinShares, Headline.Headline, Laws.{NormalFormExists, NormalFormIsOne}};
+ghost use Rattle.dw_canon.specs.Laws.{MeaningIsKept, NormalAgain, SameNormalForm, FewestRows, ExactRows, NormalRows, NoneFewer};
+ghost use Rattle.dw_canon.specs.Inner.{Laws.{InitialProgram, MemberProgram, ChangesAreOne}, Renders.Readback};
 
 /// Two accepted sections have byte-equal normal forms exactly where they say the same; each normal form is accepted, says what
 /// its source says, and is its own normal form.

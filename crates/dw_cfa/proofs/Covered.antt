@@ -1,8 +1,7 @@
 -- Where rows leave an address without a rule for the CFA, by tests of one row after another.
-use Rattle.dw_cfa.proofs.Words.{◌≡◌, ℕ, ◌<◌, ◌≤◌, Bool, true, false, List, [], ◌∷◌, Option, Some, None, refl, sym, ap, ◌∙◌, arith, inl, inr, MatchBool, nat_tests, cases_lt, le-leb, or_cases, or_parts, CfaRule, LocatedRow, Rules, Unset}
-use Rattle.dw_cfa.proofs.Words.{or_here, last_at, NeverFalls, is_unset, leaves_one, lacks_from}
 use Rattle.dw_cfa.specs.Coverage.{Lacks}
-use Rattle.dw_cfa.proofs.Lent.RowsAt.{last_from, none_at, not_le}
+use Rattle.dw_cfa.proofs.Words.{◌≡◌, ℕ, ◌<◌, ◌≤◌, Bool, true, false, List, [], ◌∷◌, Option, Some, None, refl, sym, ap, ◌∙◌, arith, inl, inr, MatchBool, nat_tests, cases_lt, le-leb, or_cases}
+use Rattle.dw_cfa.proofs.{Words.{or_parts, CfaRule, LocatedRow, Rules, Unset, or_here, last_at, NeverFalls, is_unset, leaves_one, lacks_from}, Lent.RowsAt.{last_from, none_at, not_le}}
 
 -- ---- the row of an address
 

@@ -1,8 +1,7 @@
 -- The row at an FDE's begin, by the first bytes of its program and by the answers of the code.
-use Rattle.dw_cfa.proofs.Words.{◌≡◌, ℕ, ◌+◌, ◌-◌, ◌*◌, ◌<◌, ◌≤◌, Bool, List, [], ◌∷◌, ◌++◌, length, get_or, Option, None, Some, refl, sym, ap, subst, ◌∙◌, arith, lt-ltb, slice_get, if◌then◌else◌, IfSome, SomeIff, ℤ, pos, ◌*ℤ◌, mul-pos}
-use Rattle.dw_cfa.proofs.Words.{Target, Sleb, ok_is, within, Factors, Input, Instr, Nop, Advance, DefCfaOffset, Initial, CfaOffset, Other, InstrFormSpells, ProgramSpells, answers_before, InstrForm, none, one, unsigned, signed, advanced}
-use Rattle.dw_cfa.proofs.Words.{form_for, moves_first, first_row, form_at, GivesOffset, answers_move, answers_row, one_byte_spells}
-use Rattle.dw_cfa.proofs.{InstrAgain.form_again, Lent.Openings.initial_moves}
+use Rattle.dw_cfa.proofs.Words.{◌≡◌, ℕ, ◌+◌, ◌-◌, ◌*◌, ◌<◌, ◌≤◌, Bool, List, [], ◌∷◌, ◌++◌, length, get_or, Option, None, Some, refl, sym, ap, subst, ◌∙◌, arith, lt-ltb, slice_get, if◌then◌else◌, IfSome, SomeIff, ℤ, pos}
+use Rattle.dw_cfa.proofs.Words.{◌*ℤ◌, mul-pos, Target, Sleb, ok_is, within, Factors, Input, Instr, Nop, Advance, DefCfaOffset, Initial, CfaOffset, Other, InstrFormSpells, ProgramSpells, answers_before, InstrForm, none}
+use Rattle.dw_cfa.proofs.{Words.{one, unsigned, signed, advanced, form_for, moves_first, first_row, form_at, GivesOffset, answers_move, answers_row, one_byte_spells}, InstrAgain.form_again, Lent.Openings.initial_moves}
 
 -- ---- by the first bytes
 

@@ -1,7 +1,6 @@
 -- The row that a CIE's program leaves.
-use Rattle.dw_cfa.proofs.Words.{◌≡◌, ℕ, List, [], ◌∷◌, length, Option, Some, None, Ok, Err, refl, sym, ap, ◌∙◌, subst, Code, Instr, Placed, Refusal, Rules, SetLoc, Advance, Restore, RememberState, RestoreState, onto, blank, begun, written}
-use Rattle.dw_cfa.proofs.Words.{after, cie_fault, fde_fault, at_end, refused_at, cie_run}
-use Rattle.dw_cfa.proofs.{Lent.Forward.{Follows, after_follows}, Lent.RowsAt.instrs_of, Stops.{AllRun, all_run, ends, refusal_of, refusal_or}}
+use Rattle.dw_cfa.proofs.Words.{◌≡◌, ℕ, List, [], ◌∷◌, length, Option, Some, None, Ok, Err, refl, sym, ap, ◌∙◌, subst, Code, Instr, Placed, Refusal, Rules, SetLoc, Advance, Restore, RememberState, RestoreState, onto, blank}
+use Rattle.dw_cfa.proofs.{Words.{begun, written, after, cie_fault, fde_fault, at_end, refused_at, cie_run}, Lent.Forward.{Follows, after_follows}, Lent.RowsAt.instrs_of, Stops.{AllRun, all_run, ends, refusal_of, refusal_or}}
 
 -- an instruction that a CIE may hold has the same effect in an FDE
 pub cie_step : (i : Instr) (row : Rules) → cie_fault i row ≡ None → (fde_fault 0 i (begun row 0) ≡ None) × (after blank i (begun row 0) ≡ begun (written i row) 0)

@@ -1,8 +1,7 @@
 -- What is spelled is read.
 use Rattle.dw_cfa.proofs.Words.{◌≡◌, ℕ, ◌+◌, ◌^◌, List, ◌∷◌, ◌++◌, length, Ok, refl, sym, subst, arith, unsigned_abs, lt-ltb, Factors, Input, Instr, Read, Target, uleb_at, ◌>>=◌, Again, again-then, take_again, byte_again, address_again}
 use Rattle.dw_cfa.proofs.Words.{uleb_again, register_again, sleb_again, fixed_at_again, Expression, BlockSpells, OperandSpells, InstrFormSpells, InstrSpells, form_of, Operand, address, fixed, register, unsigned, signed, expression}
-use Rattle.dw_cfa.proofs.Words.{OperandValue, InstrForm, none, one, two, offset_of, expression_in, after_length, block_at, operand_at, with_instr, then_operand, form_at, instr_at}
-use Rattle.dw_cfa.proofs.{CodeForms.opcode_behind, Expressions.expression_found}
+use Rattle.dw_cfa.proofs.{Words.{OperandValue, InstrForm, none, one, two, offset_of, expression_in, after_length, block_at, operand_at, with_instr, then_operand, form_at, instr_at}, CodeForms.opcode_behind, Expressions.expression_found}
 
 module _ (t : Target) (f : Factors) where
   -- ---- operands

@@ -1,8 +1,7 @@
 -- The registers that were set since a row was kept: those without a mark have the same rules in both rows.
-use Rattle.dw_cfa.proofs.Words.{◌≡◌, ◌↔◌, ℕ, suc, ◌+◌, ◌<◌, ◌≤◌, Bool, List, [], ◌∷◌, refl, sym, ap, ◌∙◌, subst, arith, inl, inr, ◌*◌, ◌%◌, ◌^◌, bit_or, IsTrue, Result, Ok, Err, OnOk, OnErr, bit_at, filter, nat_tests}
-use Rattle.dw_cfa.proofs.Words.{cases_lt, IsAdded, Marks, RegRule, Rules, Unspecified, SameValue, AreSpecified, rule_in, put, with_rule, DiffersFirst, SameBetween, SameUnset, CopiedUpTo, MarksMore, MarksSo, KeptSo}
-use Rattle.dw_cfa.proofs.Words.{SameUnlisted, SameUnmarked, Unmarked}
-use Rattle.dw_cfa.proofs.{Lent.RowLists.{Entry, lower, other_rule, put_rule, same_rule_set, unlisted}, Difference.FromOn, Slots.{bit_set_other, bit_set_same, neither}, Lent.Narrowed.{filter_keeps, filter_rule}, Lent.SameRows.one_row}
+use Rattle.dw_cfa.proofs.Words.{◌≡◌, ◌↔◌, ℕ, suc, ◌+◌, ◌<◌, ◌≤◌, Bool, List, [], ◌∷◌, refl, sym, ap, ◌∙◌, subst, arith, inl, inr, ◌*◌, ◌%◌, ◌^◌, bit_or, IsTrue, Result, Ok, Err, OnOk, OnErr, bit_at, filter, nat_tests, cases_lt, IsAdded}
+use Rattle.dw_cfa.proofs.Words.{Marks, RegRule, Rules, Unspecified, SameValue, AreSpecified, rule_in, put, with_rule, DiffersFirst, SameBetween, SameUnset, CopiedUpTo, MarksMore, MarksSo, KeptSo, SameUnlisted, SameUnmarked, Unmarked}
+use Rattle.dw_cfa.proofs.{Difference.FromOn, Lent.Narrowed.{filter_keeps, filter_rule}, Lent.RowLists.{Entry, lower, other_rule, put_rule, same_rule_set, unlisted}, Lent.SameRows.one_row, Slots.{bit_set_other, bit_set_same, neither}}
 
 -- ---- marks
 

@@ -1,9 +1,8 @@
 -- A restore_state gives what stood before its remember_state: the nearest one with as many remember_states as restore_states between,
 -- which there is where no state is restored that was not remembered.
-use Rattle.dw_cfa.proofs.Words.{◌≡◌, ℕ, zero, suc, ◌+◌, ◌<◌, List, [], ◌∷◌, ◌++◌, length, length-append, Some, refl, ap, arith, Instr, RememberState, RestoreState, look_back, cfa_change, rule_change, ◌↔◌, cond, slice_get, is_remember}
-use Rattle.dw_cfa.proofs.Words.{is_restore, remembered, restored, onto}
 use Rattle.dw_cfa.specs.Match.{IsBetween, MatchExists, RestoresMatched}
-use Rattle.dw_cfa.proofs.Lent.{KeptLaws.counted, KeptRuns.{more_remembered, more_restored}}
+use Rattle.dw_cfa.proofs.Words.{◌≡◌, ℕ, zero, suc, ◌+◌, ◌<◌, List, [], ◌∷◌, ◌++◌, length, length-append, Some, refl, ap, arith, Instr, RememberState, RestoreState, look_back, cfa_change}
+use Rattle.dw_cfa.proofs.{Words.{rule_change, ◌↔◌, cond, slice_get, is_remember, is_restore, remembered, restored, onto}, Lent.KeptLaws.counted, Lent.KeptRuns.{more_remembered, more_restored}}
 
 -- an instruction among what has to be passed, by how it counts
 module _ (i : Instr) (inner inner' : ℕ) (e : cond (is_restore i) 1 0 + inner ≡ cond (is_remember i) 1 0 + inner') where

@@ -1,8 +1,7 @@
 -- A run up to the last row that starts at or below an address, and what is left behind it.
-use Rattle.dw_cfa.proofs.Words.{◌≡◌, ℕ, ◌<◌, ◌≤◌, Bool, true, false, List, [], ◌∷◌, length, Option, Some, None, Result, Ok, Err, refl, sym, ap, ◌∙◌, subst, arith, le-leb, le-ltb, lt-ltb, Factors, Input, Leading, LocatedRow, Machine}
-use Rattle.dw_cfa.proofs.Words.{Outcome, Progress, ReadError, Refusal, Refuses, Rules, IfErr, IfOk, Refused, OutOfMemory, or_here, last_at, left_above, rows_above, NeverFalls, finished, row_then, RanTo, RunsSo, here, rows_left, state_of}
-use Rattle.dw_cfa.proofs.Words.{AllSpecify, AreLeft, RanUpTo, WalkedTo}
-use Rattle.dw_cfa.proofs.{Lent.RowsAt.none_at, RunSteps.rows_end, Lent.RunLaws.left_from}
+use Rattle.dw_cfa.proofs.Words.{◌≡◌, ℕ, ◌<◌, ◌≤◌, Bool, true, false, List, [], ◌∷◌, length, Option, Some, None, Result, Ok, Err, refl, sym, ap, ◌∙◌, subst, arith, le-leb, le-ltb, lt-ltb, Factors, Input}
+use Rattle.dw_cfa.proofs.Words.{Leading, LocatedRow, Machine, Outcome, Progress, ReadError, Refusal, Refuses, Rules, IfErr, IfOk, Refused, OutOfMemory, or_here, last_at, left_above, rows_above, NeverFalls}
+use Rattle.dw_cfa.proofs.{Words.{finished, row_then, RanTo, RunsSo, here, rows_left, state_of, AllSpecify, AreLeft, RanUpTo, WalkedTo}, Lent.RowsAt.none_at, Lent.RunLaws.left_from, RunSteps.rows_end}
 
 -- a row is the last one where no later one is
 here_is : (a : ℕ) (first : LocatedRow) (rows : List LocatedRow) → first.location ≤ a → last_at a rows ≡ None → last_at a (first ∷ rows) ≡ Some first.row

@@ -1,10 +1,9 @@
 -- Remembered rows, kept by what was changed since.
-use Rattle.dw_cfa.proofs.Words.{◌≡◌, ℕ, suc, ◌+◌, ◌-◌, ◌<◌, ◌≤◌, Bool, true, false, length-append, List, [], ◌∷◌, ◌++◌, length, reverse, Some, None, Result, OnOk, OnErr, Ok, Err, refl, sym, ap, ◌∙◌, subst, arith, append-nil, AreSpecified}
-use Rattle.dw_cfa.proofs.Words.{CfaRule, IsTrue, Watching, watching, KeptSo, Marks, RegRule, Rules, rule_in, with_cfa, with_rule, Held, StatesSo, rows_before, first_if, shown, held, stacked, BeganWith, TakenBack, Restored, on_err_weaker}
-use Rattle.dw_cfa.proofs.Words.{on_ok_weaker}
 use Rattle.std.proofs.lemmas.List.{nil_from_length, reverse-append}
 use Rattle.dw_cfa.specs.declared.{kept_row.KeptRow.KeptRow, states.Undo.Undo, states.Undo.TheVariants.{Remembered, Register}}
-use Rattle.dw_cfa.proofs.{Lent.RowLists.Entry, WideRows.{put_back, put_same}}
+use Rattle.dw_cfa.proofs.Words.{◌≡◌, ℕ, suc, ◌+◌, ◌-◌, ◌<◌, ◌≤◌, Bool, true, false, length-append, List, [], ◌∷◌, ◌++◌, length, reverse, Some, None, Result, OnOk, OnErr, Ok, Err, refl, sym, ap}
+use Rattle.dw_cfa.proofs.Words.{◌∙◌, subst, arith, append-nil, AreSpecified, CfaRule, IsTrue, Watching, watching, KeptSo, Marks, RegRule, Rules, rule_in, with_cfa, with_rule, Held, StatesSo}
+use Rattle.dw_cfa.proofs.{Words.{rows_before, first_if, shown, held, stacked, BeganWith, TakenBack, Restored, on_err_weaker, on_ok_weaker}, Lent.RowLists.Entry, WideRows.{put_back, put_same}}
 
 abbrev Before : Type 0
 Before = List Rules × List Entry

@@ -1,10 +1,9 @@
 -- What a CIE's program specifies is specified in every row of its FDEs.
-use Rattle.dw_cfa.proofs.Words.{◌≡◌, ℕ, Bool, true, List, [], ◌∷◌, Option, Some, None, Ok, Result, refl, sym, ap, ◌∙◌, subst, arith, inl, inr, IsTrue, AllZip, AreBytes, Factors, Input, Instr, Leading, LocatedRow, Machine, Outcome, Progress}
-use Rattle.dw_cfa.proofs.Words.{ReadError, Refusal, RegRule, Rules, Stepping, is_kept, kept, IsRowAfter, GivesUpTo, ends, is_specified, rule, GivesRow, RunsSo, rows_behind, rows_left, program_input, progress_after, AllKeep, AllSpecify}
-use Rattle.dw_cfa.proofs.Words.{Readied, WalkKeeps, finished, initial_of, walk_of}
-use Rattle.dw_cfa.proofs.{Lent.FaultLaws.initial_leaves, Lent.Narrowed.left_too, Lent.Openings.{AllSet, all_set, stays_specified}, Lent.RowLists.Entry, RunSteps.started, Walks.KeptWhere}
 use Rattle.dw_cfa.specs.declared.steps.Progress.TheVariants as progress
-use Rattle.dw_cfa.proofs.Lent.Given.{behind_runs}
+use Rattle.dw_cfa.proofs.Words.{◌≡◌, ℕ, Bool, true, List, [], ◌∷◌, Option, Some, None, Ok, Result, refl, sym, ap, ◌∙◌, subst, arith, inl, inr, IsTrue, AllZip, AreBytes, Factors, Input, Instr}
+use Rattle.dw_cfa.proofs.Words.{Leading, LocatedRow, Machine, Outcome, Progress, ReadError, Refusal, RegRule, Rules, Stepping, is_kept, kept, IsRowAfter, GivesUpTo, ends, is_specified}
+use Rattle.dw_cfa.proofs.Words.{rule, GivesRow, RunsSo, rows_behind, rows_left, program_input, progress_after, AllKeep, AllSpecify, Readied, WalkKeeps, finished, initial_of, walk_of}
+use Rattle.dw_cfa.proofs.{Lent.FaultLaws.initial_leaves, Lent.Given.behind_runs, Lent.Narrowed.left_too, Lent.Openings.{AllSet, all_set, stays_specified}, Lent.RowLists.Entry, RunSteps.started, Walks.KeptWhere}
 
 -- ---- a run
 

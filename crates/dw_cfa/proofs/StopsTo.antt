@@ -1,7 +1,6 @@
 -- Where a run stops, as the code goes along.
-use Rattle.dw_cfa.proofs.Words.{◌≡◌, ℕ, ◌≤◌, Bool, true, false, List, [], ◌∷◌, Option, Some, None, refl, ap, ◌∙◌, arith, Code, Factors, Input, Machine, Outcome, Placed, Refusal, Rules, State, moves_location, fails, after, fde_fault}
-use Rattle.dw_cfa.proofs.Words.{fault_or, fde_rows, fde_stop, placed, row_if, rows_left, stop_left, stop_or, state_of}
-use Rattle.dw_cfa.proofs.Lent.RowsAt.{forwards, stays}
+use Rattle.dw_cfa.proofs.Words.{◌≡◌, ℕ, ◌≤◌, Bool, true, false, List, [], ◌∷◌, Option, Some, None, refl, ap, ◌∙◌, arith, Code, Factors, Input, Machine, Outcome, Placed, Refusal, Rules, State}
+use Rattle.dw_cfa.proofs.{Words.{moves_location, fails, after, fde_fault, fault_or, fde_rows, fde_stop, placed, row_if, rows_left, stop_left, stop_or, state_of}, Lent.RowsAt.{forwards, stays}}
 
 -- ---- not before the location where it is
 

@@ -1,10 +1,8 @@
 -- Faults that come up to an address are those where a run stops up to there.
 use Rattle.dw_cfa.proofs.Words.{◌≡◌, ℕ, ◌≤◌, List, [], ◌∷◌, ◌++◌, length, Some, Result, Ok, Err, refl, sym, ap, ◌∙◌, subst, inl, inr, arith, IfErr, OnOk, AreBytes, CfaRule, Factors, Input, Instr, Outcome, Placed, ReadError, Refusal}
 use Rattle.dw_cfa.proofs.Words.{Refuses, Rules, State, address_limit, Refused, OutOfMemory, location, AreSpecified, blank, FdeFaultBehind, FdeFaultUpTo, FaultUpTo, NoFaultUpTo, begun, after, fde_fault, RunsTo, last_at, FoundAt, fde_rows}
-use Rattle.dw_cfa.proofs.Words.{fde_stop, initial_row, on_initial, placed, rows_behind, run_rows, run_stop, stop_on}
-use Rattle.dw_cfa.proofs.Lent.{KeptLaws.all_in_limit, KeptRuns.{AllInLimit, ended_stands}, RowsAt.instrs_of, FaultLaws.{begun_stands, leaves, leaves_initial, stops_of, fde_fault_found, fde_fault_only, cie_fault_found, cie_fault_only}}
-use Rattle.dw_cfa.proofs.{StopsTo.stops_here, Stops.{AllRun, ends}}
-use Rattle.dw_cfa.proofs.Lent.Given.{none_next, runs_run}
+use Rattle.dw_cfa.proofs.{Words.{fde_stop, initial_row, on_initial, placed, rows_behind, run_rows, run_stop, stop_on}, Lent.FaultLaws.{begun_stands, leaves, leaves_initial, stops_of, fde_fault_found, fde_fault_only, cie_fault_found}}
+use Rattle.dw_cfa.proofs.{Lent.FaultLaws.cie_fault_only, Lent.Given.{none_next, runs_run}, Lent.KeptLaws.all_in_limit, Lent.KeptRuns.{AllInLimit, ended_stands}, Lent.RowsAt.instrs_of, Stops.{AllRun, ends}, StopsTo.stops_here}
 
 -- ---- an FDE's program
 

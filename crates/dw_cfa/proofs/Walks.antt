@@ -1,11 +1,10 @@
 -- A walk from one FDE's program to another's, behind a CIE's row that is run or brought back.
-use Rattle.dw_cfa.proofs.Words.{◌≡◌, ◌⊎◌, ℕ, Bool, true, false, Option, Some, None, Ok, Result, IsOk, refl, sym, ap, subst, ◌∙◌, inl, inr, ◌↔◌, IsTrue, MatchOption, OnOk, AreBytes, Factors, Input, Leading, Machine, Outcome, Progress}
-use Rattle.dw_cfa.proofs.Words.{ReadError, Rules, Stepping, Target, ProgramSpells, blank, finished, RunsSo, initial_row, placed, rows_left, run_rows, program_input, left_of, progress_after, kept, StandsOn, AreLeft, HasInitial, Readied}
-use Rattle.dw_cfa.proofs.Words.{WalksSo, initial_of, led_of, led_rows, walk_of}
 use Rattle.dw_cfa.specs.Inner.NextRow.{GoesOn}
-use Rattle.dw_cfa.proofs.{Lent.FaultLaws.initial_leaves, Lent.RunLaws.{left_from, next_from, run_from}, Lent.RowsAt.RowsFrom, RunSteps.{initial_left, run_ran}}
 use Rattle.dw_cfa.specs.declared.steps.Progress.TheVariants as progress
-use Rattle.dw_cfa.proofs.Lent.Given.{leaves_to, to_leaves}
+use Rattle.dw_cfa.proofs.Words.{◌≡◌, ◌⊎◌, ℕ, Bool, true, false, Option, Some, None, Ok, Result, IsOk, refl, sym, ap, subst, ◌∙◌, inl, inr, ◌↔◌, IsTrue, MatchOption, OnOk, AreBytes}
+use Rattle.dw_cfa.proofs.Words.{Factors, Input, Leading, Machine, Outcome, Progress, ReadError, Rules, Stepping, Target, ProgramSpells, blank, finished, RunsSo, initial_row, placed}
+use Rattle.dw_cfa.proofs.Words.{rows_left, run_rows, program_input, left_of, progress_after, kept, StandsOn, AreLeft, HasInitial, Readied, WalksSo, initial_of, led_of, led_rows, walk_of}
+use Rattle.dw_cfa.proofs.{Lent.FaultLaws.initial_leaves, Lent.Given.{leaves_to, to_leaves}, Lent.RowsAt.RowsFrom, Lent.RunLaws.{left_from, next_from, run_from}, RunSteps.{initial_left, run_ran}}
 
 -- ---- the CIE's half
 

@@ -1,8 +1,7 @@
 -- Ascending registers in a tree: what it finds, puts in and takes out is what the list of them says.
-use Rattle.dw_cfa.proofs.Words.{append_assoc, ◌≡◌, ℕ, suc, ◌<◌, ◌≤◌, true, false, List, [], ◌∷◌, ◌++◌, refl, sym, ap, ◌∙◌, subst, arith, nat_cmp, unwrap_or, nat_tests, RegRule, Unspecified, is_specified, AreSpecified, rule_in, put}
-use Rattle.dw_cfa.proofs.Words.{insert_entry, is_at}
 use Rattle.std.specs.Map.{lookup, remove_entry}
-use Rattle.dw_cfa.proofs.{Lent.RowLists.{Entry, listed_is, put_keeps, put_rule}, Slots.is_put}
+use Rattle.dw_cfa.proofs.Words.{append_assoc, ◌≡◌, ℕ, suc, ◌<◌, ◌≤◌, true, false, List, [], ◌∷◌, ◌++◌, refl, sym, ap, ◌∙◌, subst, arith, nat_cmp, unwrap_or, nat_tests, RegRule}
+use Rattle.dw_cfa.proofs.{Words.{Unspecified, is_specified, AreSpecified, rule_in, put, insert_entry, is_at}, Lent.RowLists.{Entry, listed_is, put_keeps, put_rule}, Slots.is_put}
 
 pub found_is : (r : ℕ) (xs : List Entry) → unwrap_or (lookup (is_at (nat_cmp r)) xs) Unspecified ≡ rule_in xs r
 found_is r [] = refl

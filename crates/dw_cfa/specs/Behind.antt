@@ -1,22 +1,11 @@
 -- The two halves of a run by themselves: the row that a CIE's program leaves, and the rows of an FDE's program behind it.
 -- DWARF 5, 6.4.3. A row ends before each instruction that moves the location, and the last one behind the last
 -- instruction. It starts at the location there, and holds the rules there.
-use Rattle.std.specs.Prelude.{◌≡◌, ℕ, suc, List, [], ◌∷◌, map, Option, Some, None, Result, Ok, Err, if◌then◌else◌}
-use Rattle.std.specs.List.{AllZip}
-use Rattle.dw_num.specs.declared.refusal.Refusal.{Refusal}
-use Rattle.dw_num.specs.Target.{address_limit}
-use Rattle.dw_num.specs.Input.{Input}
-use Rattle.dw_cfa.specs.declared.instr.Factors.{Factors}
-use Rattle.dw_cfa.specs.declared.instr.Instr.{Instr}
-use Rattle.dw_cfa.specs.declared.execution.LocatedRow.{LocatedRow}
-use Rattle.dw_cfa.specs.InstrSpells.{ProgramSpells}
-use Rattle.dw_cfa.specs.Location.{location, moves_location}
-use Rattle.dw_cfa.specs.Column.{cfa_after, rule_after}
-use Rattle.dw_cfa.specs.Kept.{CieKept, FdeKept}
-use Rattle.dw_cfa.specs.InitialRules.{initial_cfa, initial_rule}
-use Rattle.dw_cfa.specs.Rows.{Rules, AreSpecified, rule}
-use Rattle.dw_cfa.specs.Runs.{Outcome}
-use Rattle.dw_cfa.specs.Faults.{CieFault, FdeFaultBehind}
+use Rattle.std.specs.{Prelude.{◌≡◌, ℕ, suc, List, [], ◌∷◌, map, Option, Some, None, Result, Ok, Err, if◌then◌else◌}, List.AllZip}
+use Rattle.dw_num.specs.{Input.Input, Target.address_limit, declared.refusal.Refusal.Refusal}
+use Rattle.dw_cfa.specs.{Column.{cfa_after, rule_after}, Faults.{CieFault, FdeFaultBehind}, InitialRules.{initial_cfa, initial_rule}, InstrSpells.ProgramSpells}
+use Rattle.dw_cfa.specs.{Kept.{CieKept, FdeKept}, Location.{location, moves_location}, Rows.{Rules, AreSpecified, rule}, Runs.Outcome}
+use Rattle.dw_cfa.specs.declared.{execution.LocatedRow.LocatedRow, instr.Factors.Factors, instr.Instr.Instr}
 
 -- ---- a CIE's program
 

@@ -1,10 +1,7 @@
 -- FDEs' programs run one after another behind the initial row of their CIE.
 use Rattle.std.specs.Prelude.{pos}
 use Rattle.dw_num.specs.declared.target.Target.{Target}
-use Rattle.dw_cfa.specs.declared.instr.Factors.{Factors}
-use Rattle.dw_cfa.specs.Rows.{Rules, blank}
-use Rattle.dw_cfa.specs.RowSteps.{Stepping, stepping}
-use Rattle.dw_cfa.specs.Runs.{finished}
+use Rattle.dw_cfa.specs.{RowSteps.{Stepping, stepping}, Rows.{Rules, blank}, Runs.finished, declared.instr.Factors.Factors}
 
 -- the initial row, what instructions are read with, and the rows of the FDE that is run
 pub record Following : Type 0 where

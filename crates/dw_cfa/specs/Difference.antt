@@ -1,7 +1,6 @@
 -- The first register whose rule differs between two rows.
 use Rattle.std.specs.Prelude.{◌≡◌, ℕ, suc, ◌<◌, ◌≤◌, List, Option, Some, None}
-use Rattle.dw_cfa.specs.declared.rule.RegRule.{RegRule}
-use Rattle.dw_cfa.specs.Rows.{rule_in}
+use Rattle.dw_cfa.specs.{Rows.rule_in, declared.rule.RegRule.RegRule}
 
 -- registers from one place on, below another one, have the same rules
 abbrev pub SameBetween : ℕ → ℕ → List (ℕ × RegRule) → List (ℕ × RegRule) → Type 0

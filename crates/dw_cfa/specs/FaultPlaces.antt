@@ -1,10 +1,7 @@
 -- Where the faults of programs lie: DWARF 5, 6.4.2.
 use Rattle.std.specs.Prelude.{◌⊎◌, ℕ, ◌+◌, ◌≤◌, length}
-use Rattle.dw_num.specs.declared.refusal.Refusal.{Refusal}
-use Rattle.dw_num.specs.Input.{Input, AreBytes}
-use Rattle.dw_cfa.specs.declared.instr.Factors.{Factors}
-use Rattle.dw_cfa.specs.declared.rule.CfaRule.{CfaRule}
-use Rattle.dw_cfa.specs.Faults.{CieFault, FdeFault, RunFault}
+use Rattle.dw_num.specs.{Input.{Input, AreBytes}, declared.refusal.Refusal.Refusal}
+use Rattle.dw_cfa.specs.{Faults.{CieFault, FdeFault, RunFault}, declared.instr.Factors.Factors, declared.rule.CfaRule.CfaRule}
 
 -- a place from the program's first byte to its end
 abbrev pub LiesInProgram : Input → Refusal → Type 0

@@ -1,22 +1,12 @@
 -- The first fault of two programs: DWARF 5, 6.4.2 and 6.4.3. The CIE's program is judged first, each from its front: the
 -- longest beginning of instructions that keep the rules, and the fault of what follows it.
 use Rattle.std.specs.Prelude.{◌≡◌, ◌⊎◌, ℕ, ◌+◌, ◌<◌, ◌≤◌, List, ◌++◌, length, IsTrue, not}
-use Rattle.dw_num.specs.declared.refusal.Code.{Code}
-use Rattle.dw_num.specs.declared.refusal.Code.TheVariants.{NotInCie, LocationBackwards, LocationTooLarge, EmptyStateStack, StateStackFull, CfaNotRegister}
-use Rattle.dw_num.specs.declared.refusal.Refusal.{Refusal}
-use Rattle.dw_num.specs.Input.{Input}
-use Rattle.dw_num.specs.Target.{address_limit}
-use Rattle.dw_cfa.specs.declared.instr.Factors.{Factors}
-use Rattle.dw_cfa.specs.declared.instr.Instr.{Instr}
-use Rattle.dw_cfa.specs.declared.instr.Instr.TheVariants.{SetLoc, Advance, RememberState, RestoreState}
-use Rattle.dw_cfa.specs.declared.rule.CfaRule.{CfaRule}
-use Rattle.dw_cfa.specs.declared.rule.CfaRule.TheVariants.{Unset}
-use Rattle.dw_cfa.specs.InstrSpells.{InstrSpells, ProgramSpells}
-use Rattle.dw_cfa.specs.Listing.{ProgramFault}
-use Rattle.dw_cfa.specs.Location.{location}
-use Rattle.dw_cfa.specs.Column.{cfa_after}
-use Rattle.dw_cfa.specs.Kept.{in_cie, keeps_half, IsRegisterRule, remembered, restored, CieKept, FdeKept}
-use Rattle.dw_cfa.specs.InitialRules.{initial_cfa}
+use Rattle.dw_num.specs.{Input.Input, Target.address_limit, declared.refusal.Code.Code, declared.refusal.Code.TheVariants.{NotInCie, LocationBackwards}}
+use Rattle.dw_num.specs.declared.refusal.{Code.TheVariants.{LocationTooLarge, EmptyStateStack, StateStackFull, CfaNotRegister}, Refusal.Refusal}
+use Rattle.dw_cfa.specs.{Column.cfa_after, InitialRules.initial_cfa, InstrSpells.{InstrSpells, ProgramSpells}}
+use Rattle.dw_cfa.specs.{Kept.{in_cie, keeps_half, IsRegisterRule, remembered, restored, CieKept, FdeKept}, Listing.ProgramFault, Location.location}
+use Rattle.dw_cfa.specs.declared.instr.{Factors.Factors, Instr.Instr, Instr.TheVariants.{SetLoc, Advance, RememberState, RestoreState}}
+use Rattle.dw_cfa.specs.declared.rule.{CfaRule.CfaRule, CfaRule.TheVariants.Unset}
 
 -- half of the CFA's rule is kept, and that rule is no register and offset
 abbrev pub BreaksHalf : CfaRule → Instr → Code → Type 0

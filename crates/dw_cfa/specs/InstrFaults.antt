@@ -1,15 +1,10 @@
 -- What can't be read as a call frame instruction, and its fault: DWARF 5, 6.4.2 and 7.24. The operands are those of the table.
 use Rattle.std.specs.Prelude.{◌≡◌, ◌⊎◌, ℕ, ◌+◌, List, ◌++◌, length, Option, Some, None, Err}
-use Rattle.dw_num.specs.declared.refusal.Code.TheVariants.{UnknownInstruction, OffsetTooLarge}
-use Rattle.dw_num.specs.declared.refusal.Refusal.{Refusal}
-use Rattle.dw_num.specs.Input.{Input, Takes}
-use Rattle.dw_num.specs.Leb.{Uleb}
-use Rattle.dw_num.specs.Front.{fixed_at, take_at, register_at, uleb_at, sleb_at, address_at}
-use Rattle.dw_op.specs.declared.profile.Profile.TheVariants.{Frame}
-use Rattle.dw_op.specs.Faults.{BlockFault}
-use Rattle.dw_cfa.specs.declared.instr.Instr.{Instr}
-use Rattle.dw_cfa.specs.Operands.{Operand, address, fixed, register, unsigned, signed, expression, OperandValue, InstrForm, none, one, two, offset_of}
-use Rattle.dw_cfa.specs.InstrSpells.{OperandSpells, InstrFormSpells, IsOffset}
+use Rattle.dw_num.specs.{Front.{fixed_at, take_at, register_at, uleb_at, sleb_at, address_at}, Input.{Input, Takes}, Leb.Uleb}
+use Rattle.dw_num.specs.declared.refusal.{Code.TheVariants.{UnknownInstruction, OffsetTooLarge}, Refusal.Refusal}
+use Rattle.dw_op.specs.{Faults.BlockFault, declared.profile.Profile.TheVariants.Frame}
+use Rattle.dw_cfa.specs.{InstrSpells.{OperandSpells, InstrFormSpells, IsOffset}, Operands.{Operand, address, fixed, register, unsigned}}
+use Rattle.dw_cfa.specs.{Operands.{signed, expression, OperandValue, InstrForm, none, one, two, offset_of}, declared.instr.Instr.Instr}
 
 -- fewer than n bytes are left, or the n bytes are no block of the frame profile: the place of its fault counts from its first byte
 abbrev pub ContentsFault : ℕ → Input → Refusal → Type 0

@@ -1,14 +1,9 @@
 -- The spellings of call frame instructions: DWARF 5, 6.4.2 and 7.24.
 use Rattle.std.specs.Prelude.{◌≡◌, ℕ, ◌<◌, ◌^◌, List, [], ◌∷◌, ◌++◌, length, Some, ℤ, unsigned_abs}
-use Rattle.dw_num.specs.declared.target.Target.{Target}
-use Rattle.dw_num.specs.Leb.{Uleb, Sleb, Register}
-use Rattle.dw_num.specs.Fixed.{Fixed, Address}
-use Rattle.dw_op.specs.Expression.{Expression}
-use Rattle.dw_op.specs.OpSpells.{Both}
-use Rattle.dw_op.specs.Block.{FrameBlock}
-use Rattle.dw_cfa.specs.declared.instr.Factors.{Factors}
-use Rattle.dw_cfa.specs.declared.instr.Instr.{Instr}
+use Rattle.dw_num.specs.{Fixed.{Fixed, Address}, Leb.{Uleb, Sleb, Register}, declared.target.Target.Target}
+use Rattle.dw_op.specs.{Block.FrameBlock, Expression.Expression, OpSpells.Both}
 use Rattle.dw_cfa.specs.Operands.{Operand, address, fixed, register, unsigned, signed, expression, OperandValue, InstrForm, none, one, two, form_for, offset_of}
+use Rattle.dw_cfa.specs.declared.instr.{Factors.Factors, Instr.Instr}
 
 -- ---- operands
 

@@ -1,13 +1,8 @@
 -- The instructions of a program one after another, up to its first fault: DWARF 5, 6.4.2.
 use Rattle.std.specs.Prelude.{◌≡◌, ℕ, ◌+◌, List, [], ◌∷◌, ◌++◌, length, Option, Some, None, Result, Ok, Err}
-use Rattle.dw_num.specs.declared.refusal.Refusal.{Refusal}
-use Rattle.dw_num.specs.declared.target.Target.{Target}
+use Rattle.dw_num.specs.declared.{refusal.Refusal.Refusal, target.Target.Target}
 use Rattle.dw_op.specs.Walks.{Walked}
-use Rattle.dw_cfa.specs.declared.instr.Factors.{Factors}
-use Rattle.dw_cfa.specs.declared.instr.Instr.{Instr}
-use Rattle.dw_cfa.specs.InstrSpells.{ProgramSpells}
-use Rattle.dw_cfa.specs.InstrFaults.{CodeFault}
-use Rattle.dw_cfa.specs.Operands.{form_for}
+use Rattle.dw_cfa.specs.{InstrFaults.CodeFault, InstrSpells.ProgramSpells, Operands.form_for, declared.instr.Factors.Factors, declared.instr.Instr.Instr}
 
 -- the longest beginning of instructions, and the fault of what follows it, if anything does
 abbrev pub Listing : Type 0

@@ -1,11 +1,7 @@
 -- How an FDE's program begins: DWARF 5, 6.4.3.
 use Rattle.std.specs.Prelude.{Bool, true, false, List, [], ◌∷◌, Option, Some, None, nat_lt, if◌then◌else◌, ℤ}
-use Rattle.dw_cfa.specs.Column.{with_offset}
-use Rattle.dw_cfa.specs.declared.instr.Instr.{Instr}
-use Rattle.dw_cfa.specs.declared.instr.Instr.TheVariants.{Nop, Advance, DefCfaOffset}
-use Rattle.dw_cfa.specs.declared.opening.FirstRow.{FirstRow}
-use Rattle.dw_cfa.specs.declared.opening.FirstRow.TheVariants.{Initial, CfaOffset, Other}
-use Rattle.dw_cfa.specs.declared.rule.CfaRule.{CfaRule}
+use Rattle.dw_cfa.specs.{Column.with_offset, declared.instr.Instr.Instr, declared.instr.Instr.TheVariants.{Nop, Advance, DefCfaOffset}}
+use Rattle.dw_cfa.specs.declared.{opening.FirstRow.FirstRow, opening.FirstRow.TheVariants.{Initial, CfaOffset, Other}, rule.CfaRule.CfaRule}
 
 -- whether the first instruction that is no nop advances the location by more than 0, or there is none
 abbrev pub moves_first : List Instr → Bool

@@ -1,10 +1,7 @@
 -- Sets of registers, and rows that differ in these alone: DWARF 5, 6.4.1. `Registers` is how the code keeps a set, by its mask; which
 -- registers are in it is `has`, and a reader needs that alone.
-use Rattle.std.specs.Prelude.{◌≡◌, ◌⊎◌, ℕ, Bool, false, List, nat_eq, nat_lt, if◌then◌else◌}
-use Rattle.std.specs.Int.{bit_at}
-use Rattle.dw_cfa.specs.declared.rule.RegRule.{RegRule}
-use Rattle.dw_cfa.specs.declared.rule.RegRule.TheVariants.{Unspecified}
-use Rattle.dw_cfa.specs.Rows.{Rules, is_specified, rule, rule_in}
+use Rattle.std.specs.{Prelude.{◌≡◌, ◌⊎◌, ℕ, Bool, false, List, nat_eq, nat_lt, if◌then◌else◌}, Int.bit_at}
+use Rattle.dw_cfa.specs.{Rows.{Rules, is_specified, rule, rule_in}, declared.rule.RegRule.RegRule, declared.rule.RegRule.TheVariants.Unspecified}
 
 -- those below 128 by the bits of a number, and the others by a list in which each has some rule
 pub record Registers : Type 0 where

@@ -1,15 +1,8 @@
 -- Programs that are known to give rows, run one after another in one room.
-use Rattle.std.specs.Prelude.{◌≡◌, pos, List, [], Option, Some, None, Ok, MatchOption}
-use Rattle.std.specs.List.{AllByRecursion}
-use Rattle.dw_num.specs.declared.target.Target.{Target}
-use Rattle.dw_num.specs.Input.{Input}
-use Rattle.dw_cfa.specs.declared.execution.LocatedRow.{LocatedRow}
-use Rattle.dw_cfa.specs.declared.instr.Factors.{Factors}
-use Rattle.dw_cfa.specs.Agreement.{kept}
-use Rattle.dw_cfa.specs.Behind.{LeavesTo}
-use Rattle.dw_cfa.specs.Rows.{Rules}
-use Rattle.dw_cfa.specs.Runs.{Outcome, finished}
-use Rattle.dw_cfa.specs.RowSteps.{Stepping}
+use Rattle.std.specs.{Prelude.{◌≡◌, pos, List, [], Option, Some, None, Ok, MatchOption}, List.AllByRecursion}
+use Rattle.dw_num.specs.{Input.Input, declared.target.Target.Target}
+use Rattle.dw_cfa.specs.{Agreement.kept, Behind.LeavesTo, RowSteps.Stepping, Rows.Rules, Runs.{Outcome, finished}}
+use Rattle.dw_cfa.specs.declared.{execution.LocatedRow.LocatedRow, instr.Factors.Factors}
 
 -- the program of a CIE, where it stands, and the CIE's factors
 pub record Led : Type 0 where

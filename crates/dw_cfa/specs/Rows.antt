@@ -1,9 +1,6 @@
 -- Rows of rules: DWARF 5, 6.4.1. A row says how to find the canonical frame address and each register.
 use Rattle.std.specs.Prelude.{ℕ, suc, ◌≤◌, List, [], ◌∷◌, Bool, true, false, IsTrue, nat_eq, if◌then◌else◌}
-use Rattle.dw_cfa.specs.declared.rule.CfaRule.{CfaRule}
-use Rattle.dw_cfa.specs.declared.rule.CfaRule.TheVariants.{Unset}
-use Rattle.dw_cfa.specs.declared.rule.RegRule.{RegRule}
-use Rattle.dw_cfa.specs.declared.rule.RegRule.TheVariants.{Unspecified}
+use Rattle.dw_cfa.specs.declared.rule.{CfaRule.CfaRule, CfaRule.TheVariants.Unset, RegRule.RegRule, RegRule.TheVariants.Unspecified}
 
 -- the CFA's rule, and the registers that are not Unspecified with their rules
 pub record Rules : Type 0 where

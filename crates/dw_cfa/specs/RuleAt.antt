@@ -1,9 +1,6 @@
 -- The row of an address among the rows of a run: DWARF 5, 6.4.3.
-use Rattle.std.specs.Prelude.{ℕ, ◌≤◌, List, [], ◌∷◌, Option, Some, None, nat_le, nat_lt, if◌then◌else◌}
-use Rattle.std.specs.List.{filter}
-use Rattle.dw_cfa.specs.declared.execution.LocatedRow.{LocatedRow}
-use Rattle.dw_cfa.specs.Rows.{Rules}
-use Rattle.dw_cfa.specs.Runs.{Outcome}
+use Rattle.std.specs.{Prelude.{ℕ, ◌≤◌, List, [], ◌∷◌, Option, Some, None, nat_le, nat_lt, if◌then◌else◌}, List.filter}
+use Rattle.dw_cfa.specs.{Rows.Rules, Runs.Outcome, declared.execution.LocatedRow.LocatedRow}
 
 abbrev pub or_here : ℕ → LocatedRow → Option Rules → Option Rules
 or_here a first (Some row) = Some row

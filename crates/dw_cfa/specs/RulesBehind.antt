@@ -1,16 +1,8 @@
 -- The rules that the rows of an FDE's program hold: DWARF 5, 6.4.3.
 use Rattle.std.specs.Prelude.{◌≡◌, ℕ, ◌≤◌, List, length, Some}
-use Rattle.dw_num.specs.Target.{address_limit}
-use Rattle.dw_num.specs.Input.{Input}
-use Rattle.dw_cfa.specs.declared.instr.Factors.{Factors}
-use Rattle.dw_cfa.specs.declared.instr.Instr.{Instr}
-use Rattle.dw_cfa.specs.declared.execution.LocatedRow.{LocatedRow}
-use Rattle.dw_cfa.specs.InstrSpells.{ProgramSpells}
-use Rattle.dw_cfa.specs.Location.{Counts, row_starts}
-use Rattle.dw_cfa.specs.Kept.{FdeKept}
-use Rattle.dw_cfa.specs.Rows.{Rules}
-use Rattle.dw_cfa.specs.RuleAt.{last_at, NeverFalls}
-use Rattle.dw_cfa.specs.Behind.{HoldsBehind}
+use Rattle.dw_num.specs.{Input.Input, Target.address_limit}
+use Rattle.dw_cfa.specs.{Behind.HoldsBehind, InstrSpells.ProgramSpells, Kept.FdeKept, Location.{Counts, row_starts}, Rows.Rules, RuleAt.{last_at, NeverFalls}}
+use Rattle.dw_cfa.specs.declared.{execution.LocatedRow.LocatedRow, instr.Factors.Factors, instr.Instr.Instr}
 
 -- a program of an FDE that keeps its rules, and rows that hold the rules at each address
 pub record RulesBehind (f : Factors) (initial : Rules) (fde : Input) (begin : ℕ) (instrs : List Instr) (rows : List LocatedRow) : Type 0 where

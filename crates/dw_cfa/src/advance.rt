@@ -1,11 +1,8 @@
 //! Instructions that move the location, so that a row ends (6.4.2.1).
 
 ghost use Rattle.std.specs.Prelude.{◌≤◌};
-ghost use Rattle.dw_num.specs.Fixed.{IsWidth};
-ghost use Rattle.dw_num.specs.Target.{address_limit};
-ghost use Rattle.dw_cfa.specs.Operands.{advanced};
-ghost use Rattle.dw_cfa.specs.Inner.ByOpcode.{advance_at, set_loc_at};
-ghost use Rattle.dw_cfa.specs.Inner.Turns.{IsWithinLimit, Taken};
+ghost use Rattle.dw_num.specs.{Fixed.IsWidth, Target.address_limit};
+ghost use Rattle.dw_cfa.specs.{Operands.advanced, Inner.ByOpcode.{advance_at, set_loc_at}, Inner.Turns.{IsWithinLimit, Taken}};
 
 use crate::instr::Factors;
 use crate::keep::Keep;

@@ -1,8 +1,7 @@
 //! The registers behind another one, where those are gone over one at a time.
 
 ghost use Rattle.std.specs.Prelude.{◌≡◌};
-ghost use Rattle.dw_cfa.specs.Difference.{place_behind};
-ghost use Rattle.dw_cfa.specs.Inner.Difference.{start_behind};
+ghost use Rattle.dw_cfa.specs.{Difference.place_behind, Inner.Difference.start_behind};
 
 use std::ops::Bound;
 

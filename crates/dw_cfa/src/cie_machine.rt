@@ -1,17 +1,9 @@
 //! FDEs' programs, one after another behind the initial row of their CIE (6.4.1).
 
-ghost use Rattle.std.specs.Prelude.{◌≡◌, ◌<◌, None, Some, Ok, Err, false, OnOk, OnErr, IfOk, IfErr, MatchResult};
-ghost use Rattle.dw_num.specs.Target.{address_limit};
-ghost use Rattle.dw_num.specs.Refusals.{Refuses};
-ghost use Rattle.dw_num.specs.declared.error.ReadError.TheVariants.{OutOfMemory};
-ghost use Rattle.dw_cfa.specs.CieMachine.{Following, following_none, with_steps};
-ghost use Rattle.dw_cfa.specs.Coverage.{Lacks};
-ghost use Rattle.std.specs.Bool.{MatchBool};
-ghost use Rattle.dw_cfa.specs.Behind.{LeavesTo, RunsBehind};
-ghost use Rattle.dw_cfa.specs.Rows.{AreSpecified};
-ghost use Rattle.dw_cfa.specs.Runs.{finished};
-ghost use Rattle.dw_cfa.specs.Inner.Runs.{rows_behind};
-ghost use Rattle.dw_cfa.specs.RowSteps.{program_input, stepping};
+ghost use Rattle.std.specs.{Prelude.{◌≡◌, ◌<◌, None, Some, Ok, Err, OnOk, OnErr, IfOk, IfErr, MatchResult}, Bool.MatchBool};
+ghost use Rattle.dw_num.specs.{Refusals.Refuses, Target.address_limit, declared.error.ReadError.TheVariants.OutOfMemory};
+ghost use Rattle.dw_cfa.specs.{Behind.{LeavesTo, RunsBehind}, CieMachine.{following_none, with_steps}, Coverage.Lacks};
+ghost use Rattle.dw_cfa.specs.{RowSteps.{program_input, stepping}, Rows.AreSpecified, Runs.finished, Inner.Runs.rows_behind};
 
 use crate::coverage::lacks_rule;
 use crate::instr::Factors;
@@ -43,8 +35,7 @@ pub struct CieMachine<'a> {
 }
 
 impl<'a> Model for CieMachine<'a> {
-    ghost use Rattle.dw_cfa.specs.CieMachine.{Following};
-    ghost use Rattle.dw_cfa.specs.Inner.CieMachine.{following_of, FollowsSo};
+    ghost use Rattle.dw_cfa.specs.{CieMachine.Following, Inner.CieMachine.{following_of, FollowsSo}};
 
     ghost Value = { Following };
 

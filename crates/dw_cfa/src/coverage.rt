@@ -2,8 +2,7 @@
 
 ghost use Rattle.std.specs.Prelude.{◌≡◌, ℕ, ◌||◌, [], ◌∷◌, None, Some, true, false, OnOk, IfOk, IfErr};
 ghost use Rattle.dw_num.specs.Refusals.{Refuses};
-ghost use Rattle.dw_cfa.specs.Inner.Coverage.{is_unset, leaves_one, lacks_from};
-ghost use Rattle.dw_cfa.specs.Inner.Runs.{RunsSo, rows_left};
+ghost use Rattle.dw_cfa.specs.Inner.{Coverage.{is_unset, leaves_one, lacks_from}, Runs.{RunsSo, rows_left}};
 
 use crate::instr::Factors;
 use crate::machine::{End, Machine};

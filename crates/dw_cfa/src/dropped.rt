@@ -1,10 +1,7 @@
 //! A register that is taken out of a row (6.4.1).
 
 ghost use Rattle.std.specs.Prelude.{◌≡◌};
-ghost use Rattle.dw_cfa.specs.Agreement.{without};
-ghost use Rattle.dw_cfa.specs.Inner.Entries.{EntriesSo, entries_of};
-ghost use Rattle.dw_cfa.specs.Inner.Rows.{put};
-ghost use Rattle.dw_cfa.specs.declared.rule.RegRule.TheVariants.{Unspecified};
+ghost use Rattle.dw_cfa.specs.{Agreement.without, declared.rule.RegRule.TheVariants.Unspecified, Inner.Entries.{EntriesSo, entries_of}, Inner.Rows.put};
 
 use crate::entries::{Entries, NEAR};
 use crate::row::Row;

@@ -1,16 +1,9 @@
 //! The registers of a row with their rules (6.4.1).
 
 ghost use Rattle.std.specs.Prelude.{◌≡◌, ◌<◌, ℤ, [], false, IfOk, IfSome, OnOk, OnErr, MatchOption, IsTrue, ◌↔◌};
-ghost use Rattle.dw_cfa.specs.declared.rule.RegRule.TheVariants.{Offset, Unspecified};
-ghost use Rattle.dw_cfa.specs.declared.slot.Slot.TheVariants.{Beside};
-ghost use Rattle.dw_cfa.specs.Rows.{rule_in, is_specified};
-ghost use Rattle.dw_cfa.specs.Inner.Rows.{put};
-ghost use Rattle.dw_cfa.specs.Inner.Agreement.{same_rule};
-ghost use Rattle.dw_cfa.specs.Inner.Entries.{entries_of, EntriesSo, IsSlotOf, slot_rule};
-ghost use Rattle.dw_cfa.specs.declared.rule.RegRule.{RegRule as TheRule};
-ghost use Rattle.dw_cfa.specs.Difference.{FirstDifference, place_behind};
-ghost use Rattle.dw_cfa.specs.Inner.Difference.{FirstBelow, SameUnset};
-ghost use Rattle.dw_cfa.specs.Inner.Marks.{CopiedUpTo};
+ghost use Rattle.dw_cfa.specs.{Difference.{FirstDifference, place_behind}, Rows.{rule_in, is_specified}, declared.rule.RegRule.{RegRule as TheRule}};
+ghost use Rattle.dw_cfa.specs.{declared.rule.RegRule.TheVariants.{Offset, Unspecified}, declared.slot.Slot.TheVariants.Beside, Inner.Agreement.same_rule};
+ghost use Rattle.dw_cfa.specs.Inner.{Difference.{FirstBelow, SameUnset}, Entries.{entries_of, EntriesSo, IsSlotOf, slot_rule}, Marks.CopiedUpTo, Rows.put};
 
 use crate::behind::{place_behind, start_behind};
 use crate::near_slots::{bit_of, copy_slots, is_in, next_in, same_slots};

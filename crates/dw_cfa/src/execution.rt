@@ -1,11 +1,9 @@
 //! Programs that are run instruction by instruction (6.4.3).
 
-ghost use Rattle.std.specs.Prelude.{◌≡◌, ◌<◌, ◌≤◌, None, Some, Ok, Err, length, OnOk, IfErr, IfOk, IsOk, IsTrue, true, false};
+ghost use Rattle.std.specs.Prelude.{◌≡◌, ◌<◌, ◌≤◌, None, Some, Ok, Err, length, OnOk, IfErr, IfOk, IsOk, IsTrue, false};
 ghost use Rattle.dw_num.specs.Refusals.{Refuses};
-ghost use Rattle.dw_cfa.specs.Inner.Runs.{RunsSo, GivesRow, StopsAbove, rows_left, stop_left, initial_row, placed};
-ghost use Rattle.dw_cfa.specs.Inner.RowWalk.{IsLed, RanUpTo};
-ghost use Rattle.dw_cfa.specs.Inner.Turns.{Does, Entered, Stays};
-ghost use Rattle.dw_cfa.specs.Rows.{blank};
+ghost use Rattle.dw_cfa.specs.{Rows.blank, Inner.RowWalk.{IsLed, RanUpTo}};
+ghost use Rattle.dw_cfa.specs.Inner.{Runs.{RunsSo, GivesRow, StopsAbove, rows_left, stop_left, initial_row, placed}, Turns.{Does, Entered, Stays}};
 
 use crate::instr::Factors;
 use crate::keep::Keep;

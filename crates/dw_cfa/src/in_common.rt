@@ -1,10 +1,7 @@
 //! What rows have in common (6.4.1): the registers that are left of one row's where another one is asked of each.
 
-ghost use Rattle.std.specs.Prelude.{◌≡◌, ◌<◌, IsTrue, ◌↔◌};
-ghost use Rattle.std.specs.List.{filter};
-ghost use Rattle.dw_cfa.specs.Rows.{rule_in};
-ghost use Rattle.dw_cfa.specs.Agreement.{is_kept};
-ghost use Rattle.dw_cfa.specs.Inner.Agreement.{is_agreed, same_rule};
+ghost use Rattle.std.specs.{Prelude.{◌≡◌, ◌<◌, IsTrue, ◌↔◌}, List.filter};
+ghost use Rattle.dw_cfa.specs.{Agreement.is_kept, Rows.rule_in, Inner.Agreement.{is_agreed, same_rule}};
 ghost use Rattle.dw_cfa.specs.Inner.Entries.{entries_of, EntriesSo, LeavesAt, LeavesBelow};
 
 use crate::entries::Entries;

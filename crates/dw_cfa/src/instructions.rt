@@ -1,12 +1,9 @@
 //! The instructions of a program, one after another.
 
-ghost use Rattle.std.specs.Prelude.{◌≡◌, ◌+◌, ◌≤◌, ◌↔◌, IfSome, List, length};
-ghost use Rattle.std.specs.Iterator.{YieldsFirst, item_count};
+ghost use Rattle.std.specs.{Prelude.{◌≡◌, ◌+◌, ◌≤◌, ◌↔◌, IfSome, List, length}, Iterator.{YieldsFirst, item_count}};
 ghost use Rattle.dw_num.specs.declared.refusal.Refusal.{Refusal};
-ghost use Rattle.dw_cfa.specs.declared.instr.Instr.{Instr};
-ghost use Rattle.dw_cfa.specs.InstrSpells.{ProgramSpells};
-ghost use Rattle.dw_cfa.specs.Listing.{ProgramFault, complete, faulty, answers};
-ghost use Rattle.dw_cfa.specs.Inner.Listing.{Yields, left_of};
+ghost use Rattle.dw_cfa.specs.{InstrSpells.ProgramSpells, Listing.{ProgramFault, complete, faulty, answers}};
+ghost use Rattle.dw_cfa.specs.{declared.instr.Instr.Instr, Inner.Listing.{Yields, left_of}};
 
 use crate::instr::{Factors, Instr};
 use crate::noted::read_instr;

@@ -1,13 +1,10 @@
 //! What is done with the instructions of a program, one after another.
 
 ghost use Rattle.std.specs.Prelude.{◌≡◌, ℕ, ◌≤◌, false, nat_lt, true};
-ghost use Rattle.dw_num.specs.declared.refusal.Code.TheVariants.{CfaNotRegister, NotInCie};
-ghost use Rattle.dw_num.specs.declared.refusal.Refusal.{Refusal};
-ghost use Rattle.dw_cfa.specs.declared.instr.Instr.{Instr};
-ghost use Rattle.dw_cfa.specs.declared.instr.Instr.TheVariants.{Advance, DefCfa, DefCfaExpression, DefCfaOffset, DefCfaRegister, Nop, RememberState, Restore, RestoreState, Set, SetLoc};
-ghost use Rattle.dw_cfa.specs.declared.machine.End.{End};
-ghost use Rattle.dw_cfa.specs.declared.machine.Machine.{Machine};
-ghost use Rattle.dw_cfa.specs.Inner.Turns.{Did, IsWithinLimit, cie_machine};
+ghost use Rattle.dw_num.specs.declared.refusal.{Code.TheVariants.{CfaNotRegister, NotInCie}, Refusal.Refusal};
+ghost use Rattle.dw_cfa.specs.declared.instr.{Instr.Instr, Instr.TheVariants.{Advance, DefCfa, DefCfaExpression, DefCfaOffset, DefCfaRegister}};
+ghost use Rattle.dw_cfa.specs.declared.{instr.Instr.TheVariants.{Nop, RememberState, Restore, RestoreState, Set, SetLoc}, machine.End.End};
+ghost use Rattle.dw_cfa.specs.{declared.machine.Machine.Machine, Inner.Turns.{Did, IsWithinLimit, cie_machine}};
 
 use crate::machine::{End, Machine, refused};
 use crate::row::Row;

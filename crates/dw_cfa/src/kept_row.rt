@@ -1,11 +1,8 @@
 //! A row that was kept, and the registers that were set since (6.4.1).
 
 ghost use Rattle.std.specs.Prelude.{◌≡◌, ◌↔◌, ℕ, List, false, IsTrue, OnErr, OnOk};
-ghost use Rattle.dw_cfa.specs.Difference.{FirstDifference, place_behind};
-ghost use Rattle.dw_cfa.specs.declared.rule.RegRule.{RegRule as TheRule};
-ghost use Rattle.dw_cfa.specs.Inner.Difference.{SameUnset};
-ghost use Rattle.dw_cfa.specs.Inner.Marks.{CopiedUpTo, KeptSo, MarksSo, SameUnlisted, SameUnmarked};
-ghost use Rattle.dw_cfa.specs.Rows.{AreSpecified, blank, rule_in};
+ghost use Rattle.dw_cfa.specs.{Difference.{FirstDifference, place_behind}, Rows.{AreSpecified, blank, rule_in}, declared.rule.RegRule.{RegRule as TheRule}};
+ghost use Rattle.dw_cfa.specs.Inner.{Difference.SameUnset, Marks.{CopiedUpTo, KeptSo, MarksSo, SameUnlisted, SameUnmarked}};
 
 use crate::behind::{place_behind, start_behind};
 use crate::marks::Marks;

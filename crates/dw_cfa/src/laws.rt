@@ -1,8 +1,8 @@
 //! Laws of rows, for the layers above. The functions do nothing: their contracts are proved.
 
-ghost use Rattle.dw_cfa.specs.Match.{MatchExists, RestoresMatched};
-ghost use Rattle.dw_cfa.specs.FaultPlaces.{CieFaultsWithin, FdeFaultsWithin, RunFaultsWithin};
-ghost use Rattle.dw_cfa.specs.RowLaws.{OneRun, RefusedWhereFault, RowsWhereKept, NoneFalls, LastHolds, OneHolds, OneListing, OneCount, FirstRowIsBegin, OneInitial, LeavesWhereKept, OneBehind, GivesWhereKept, RulesWhereGiven, BehindWhereFault};
+ghost use Rattle.dw_cfa.specs.{FaultPlaces.{CieFaultsWithin, FdeFaultsWithin, RunFaultsWithin}, Match.{MatchExists, RestoresMatched}};
+ghost use Rattle.dw_cfa.specs.RowLaws.{OneRun, RefusedWhereFault, RowsWhereKept, NoneFalls, LastHolds, OneHolds, OneListing, OneCount};
+ghost use Rattle.dw_cfa.specs.RowLaws.{FirstRowIsBegin, OneInitial, LeavesWhereKept, OneBehind, GivesWhereKept, RulesWhereGiven, BehindWhereFault};
 
 /// What holds of the rows that two programs give, and of their refusal.
 pub fn row_laws()

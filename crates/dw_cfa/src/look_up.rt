@@ -1,11 +1,9 @@
 //! What a look-up keeps: a row, at most one that is remembered, and a location (6.4.3). What it does not know it leaves to the
 //! machine: it says then that memory ran out, behind which nothing is known.
 
-ghost use Rattle.std.specs.Prelude.{◌≡◌, ◌<◌, ◌≤◌, ◌+◌, false, None, IfSome};
+ghost use Rattle.std.specs.Prelude.{◌≡◌, ◌≤◌, ◌+◌, false, None, IfSome};
 ghost use Rattle.dw_num.specs.Target.{address_limit};
-ghost use Rattle.dw_cfa.specs.Rows.{blank};
-ghost use Rattle.dw_cfa.specs.Inner.LookUp.{SpecifiesIn, kept_if, look_up_at};
-ghost use Rattle.dw_cfa.specs.Inner.Turns.{Did};
+ghost use Rattle.dw_cfa.specs.{Rows.blank, Inner.LookUp.{SpecifiesIn, kept_if, look_up_at}, Inner.Turns.Did};
 
 use crate::entries::NEAR;
 use crate::keep::{Keep, not_register};

@@ -2,8 +2,7 @@
 
 ghost use Rattle.std.specs.Prelude.{◌≡◌, None};
 ghost use Rattle.dw_num.specs.Target.{address_limit};
-ghost use Rattle.dw_cfa.specs.Rows.{blank};
-ghost use Rattle.dw_cfa.specs.Inner.LookUp.{look_up_at};
+ghost use Rattle.dw_cfa.specs.{Rows.blank, Inner.LookUp.look_up_at};
 
 use crate::row::Row;
 use crate::states::States;

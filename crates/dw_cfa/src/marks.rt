@@ -1,9 +1,7 @@
 //! The registers that were set since a row was kept.
 
 ghost use Rattle.std.specs.Prelude.{◌≡◌, ◌||◌, ◌≤◌, ℕ, [], false, true, IsTrue, OnErr, OnOk};
-ghost use Rattle.dw_cfa.specs.RegisterSets.{has};
-ghost use Rattle.dw_cfa.specs.Rows.{AreSpecified};
-ghost use Rattle.dw_cfa.specs.Inner.Marks.{IsAdded, MarksMore, MarksSo, Unmarked, in_tree, marked};
+ghost use Rattle.dw_cfa.specs.{RegisterSets.has, Rows.AreSpecified, Inner.Marks.{IsAdded, MarksMore, MarksSo, Unmarked, in_tree, marked}};
 
 use crate::entries::NEAR;
 use crate::near_slots::bit_of;

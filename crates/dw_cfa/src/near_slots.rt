@@ -1,9 +1,7 @@
 //! Slots of registers under a mask: a slot that the mask has not is never read.
 
-ghost use Rattle.std.specs.Prelude.{◌≡◌, ◌<◌, ◌≤◌, ◌↔◌, ◌*◌, ◌^◌, ◌%◌, false, IsTrue, length, nat_eq};
-ghost use Rattle.std.specs.Int.{bit_at};
-ghost use Rattle.dw_cfa.specs.Rows.{rule_in};
-ghost use Rattle.dw_cfa.specs.Inner.Entries.{FindsNear, FirstBit, FirstIn, Holds, SameOutside, SameSlots, slot_rule};
+ghost use Rattle.std.specs.{Prelude.{◌≡◌, ◌<◌, ◌≤◌, ◌↔◌, ◌*◌, ◌^◌, ◌%◌, IsTrue, length, nat_eq}, Int.bit_at};
+ghost use Rattle.dw_cfa.specs.{Rows.rule_in, Inner.Entries.{FindsNear, FirstBit, FirstIn, Holds, SameOutside, SameSlots, slot_rule}};
 
 use crate::rule::RegRule;
 use crate::slot::{Slot, rule_of};
@@ -143,7 +141,13 @@ pub(crate) fn same_slots(
     ensures { IsTrue result ↔ (slot_rule slot (rule_in expressions.now.entries register) ≡ slot_rule other (rule_in others.now.entries register)) }
 {
     match (slot, other) {
-        (Slot::Beside, _) | (_, Slot::Beside) => same_rules(slot, other, expressions, others, register),
+        (Slot::Beside, _) | (_, Slot::Beside) => same_rules(
+            slot,
+            other,
+            expressions,
+            others,
+            register,
+        ),
         (Slot::Undefined, Slot::Undefined) => true,
         (Slot::SameValue, Slot::SameValue) => true,
         (Slot::Offset(offset), Slot::Offset(n)) => offset == n,

@@ -1,8 +1,7 @@
 //! The next row of a walk whose program runs (6.4.3).
 
 ghost use Rattle.std.specs.Prelude.{◌≡◌, None};
-ghost use Rattle.dw_cfa.specs.Inner.NextRow.{GoesOn};
-ghost use Rattle.dw_cfa.specs.Inner.Runs.{RunsSo, rows_left};
+ghost use Rattle.dw_cfa.specs.Inner.{NextRow.GoesOn, Runs.{RunsSo, rows_left}};
 
 use crate::instr::Factors;
 use crate::machine::{End, Machine};

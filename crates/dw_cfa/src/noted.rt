@@ -2,10 +2,7 @@
 
 ghost use Rattle.std.specs.Prelude.{◌≡◌};
 ghost use Rattle.dw_num.specs.Inner.Front.{Gives};
-ghost use Rattle.dw_cfa.specs.declared.machine.End.{End};
-ghost use Rattle.dw_cfa.specs.Rows.{blank};
-ghost use Rattle.dw_cfa.specs.Inner.FrontInstr.{instr_at};
-ghost use Rattle.dw_cfa.specs.Inner.Turns.{cie_machine};
+ghost use Rattle.dw_cfa.specs.{Rows.blank, declared.machine.End.End, Inner.FrontInstr.instr_at, Inner.Turns.cie_machine};
 
 use crate::instr::{Factors, Instr};
 use crate::keep::Keep;

@@ -2,9 +2,7 @@
 
 ghost use Rattle.std.specs.Prelude.{◌≡◌, ◌+◌, ◌*◌, ◌<◌, ◌^◌, ◌*ℤ◌, length, unsigned_abs, IsTrue, IsOk};
 ghost use Rattle.dw_num.specs.Inner.Front.{Gives};
-ghost use Rattle.dw_cfa.specs.Inner.Operands.{opcode_of};
-ghost use Rattle.dw_cfa.specs.Inner.FrontInstr.{expression_in, block_at};
-ghost use Rattle.dw_cfa.specs.Inner.ByOpcode.{offset_in, plain_at, factored_at, signed_at};
+ghost use Rattle.dw_cfa.specs.Inner.{ByOpcode.{offset_in, plain_at, factored_at, signed_at}, FrontInstr.{expression_in, block_at}, Operands.opcode_of};
 
 use crate::instr::Factors;
 use dw_num::{Code, Cursor, Refusal, Target, are_bytes};

@@ -1,14 +1,9 @@
 //! How an FDE's program begins (6.4.3).
 
 ghost use Rattle.std.specs.Prelude.{◌≡◌, ◌<◌, IfSome, IsTrue, List, [], ◌∷◌, if◌then◌else◌};
-ghost use Rattle.dw_num.specs.Leb.{Sleb};
-ghost use Rattle.dw_num.specs.declared.target.Target.{Target as TheTarget};
-ghost use Rattle.dw_cfa.specs.declared.instr.Instr.{Instr as TheInstr};
-ghost use Rattle.dw_cfa.specs.declared.opening.FirstRow.TheVariants.{Initial, CfaOffset, Other};
-ghost use Rattle.dw_cfa.specs.InstrSpells.{ProgramSpells};
-ghost use Rattle.dw_cfa.specs.Listing.{answers};
-ghost use Rattle.dw_cfa.specs.Opening.{first_row};
-ghost use Rattle.dw_cfa.specs.Inner.Opening.{GivesOffset, answers_move, answers_row};
+ghost use Rattle.dw_num.specs.{Leb.Sleb, declared.target.Target.{Target as TheTarget}};
+ghost use Rattle.dw_cfa.specs.{InstrSpells.ProgramSpells, Listing.answers, Opening.first_row, declared.instr.Instr.{Instr as TheInstr}};
+ghost use Rattle.dw_cfa.specs.{declared.opening.FirstRow.TheVariants.{Initial, CfaOffset, Other}, Inner.Opening.{GivesOffset, answers_move, answers_row}};
 
 use crate::instr::{Factors, Instr};
 use crate::instructions::Instructions;

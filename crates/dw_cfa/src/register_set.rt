@@ -1,13 +1,8 @@
 //! Sets of registers, and rows that differ in these alone (6.4.1).
 
 ghost use Rattle.std.specs.Prelude.{◌≡◌, ◌||◌, ℕ, false, true, nat_eq, OnOk, OnErr};
-ghost use Rattle.dw_cfa.specs.Agreement.{IsAgreed};
-ghost use Rattle.dw_cfa.specs.Difference.{FirstDifference, place_behind};
-ghost use Rattle.dw_cfa.specs.Inner.Agreement.{is_agreed};
-ghost use Rattle.dw_cfa.specs.Inner.Entries.{LeavesAmong, LeavesAt};
-ghost use Rattle.dw_cfa.specs.Inner.Marks.{in_mask, in_tree};
-ghost use Rattle.dw_cfa.specs.RegisterSets.{AgreesBeside, SameBeside, has};
-ghost use Rattle.dw_cfa.specs.Rows.{AreSpecified};
+ghost use Rattle.dw_cfa.specs.{Agreement.IsAgreed, Difference.{FirstDifference, place_behind}, RegisterSets.{AgreesBeside, SameBeside, has}, Rows.AreSpecified};
+ghost use Rattle.dw_cfa.specs.Inner.{Agreement.is_agreed, Entries.{LeavesAmong, LeavesAt}, Marks.{in_mask, in_tree}};
 
 use crate::behind::place_behind;
 use crate::kept_row::next_far_difference;
@@ -27,8 +22,7 @@ pub struct RegisterSet<'a> {
 
 impl<'a> Model for RegisterSet<'a> {
     ghost use Rattle.std.specs.Prelude.{IsTrue};
-    ghost use Rattle.dw_cfa.specs.RegisterSets.{Registers};
-    ghost use Rattle.dw_cfa.specs.Inner.Marks.{MarksSo, marked};
+    ghost use Rattle.dw_cfa.specs.{RegisterSets.Registers, Inner.Marks.{MarksSo, marked}};
 
     ghost Value = { Registers };
 

@@ -1,8 +1,8 @@
 //! Instructions that say how a register of the caller is found (6.4.2.3).
 
 ghost use Rattle.std.specs.Prelude.{IsOk, IsTrue};
-ghost use Rattle.dw_cfa.specs.Inner.ByOpcode.{undefined_at, same_value_at, offset_at, offset_extended_at, offset_extended_sf_at, val_offset_at, val_offset_sf_at, register_rule_at, expression_at, val_expression_at, restore_at};
-ghost use Rattle.dw_cfa.specs.Inner.Turns.{IsWithinLimit, Taken};
+ghost use Rattle.dw_cfa.specs.Inner.ByOpcode.{undefined_at, same_value_at, offset_at, offset_extended_at, offset_extended_sf_at, val_offset_at};
+ghost use Rattle.dw_cfa.specs.Inner.{ByOpcode.{val_offset_sf_at, register_rule_at, expression_at, val_expression_at, restore_at}, Turns.{IsWithinLimit, Taken}};
 
 use crate::instr::Factors;
 use crate::keep::Keep;

@@ -1,16 +1,9 @@
 //! Room in which two programs are run up to the row of an address (6.4.3).
 
 ghost use Rattle.std.specs.Prelude.{◌≡◌, ◌<◌, ◌≤◌, Some, IfErr, OnOk};
-ghost use Rattle.dw_num.specs.Refusals.{Refuses};
-ghost use Rattle.dw_num.specs.Target.{address_limit};
-ghost use Rattle.dw_cfa.specs.Faults.{FaultUpTo, NoFaultUpTo};
-ghost use Rattle.dw_cfa.specs.Gives.{RunsTo};
-ghost use Rattle.dw_cfa.specs.RuleAt.{last_at};
-ghost use Rattle.dw_cfa.specs.Rows.{blank};
-ghost use Rattle.dw_cfa.specs.Runs.{Outcome};
-ghost use Rattle.dw_cfa.specs.RowSteps.{program_input};
-ghost use Rattle.dw_cfa.specs.Inner.Runs.{RunsSo, run_rows, run_stop};
-ghost use Rattle.dw_cfa.specs.Inner.RuleAt.{FoundAt};
+ghost use Rattle.dw_num.specs.{Refusals.Refuses, Target.address_limit};
+ghost use Rattle.dw_cfa.specs.{Faults.{FaultUpTo, NoFaultUpTo}, Gives.RunsTo, RowSteps.program_input, Rows.blank};
+ghost use Rattle.dw_cfa.specs.{RuleAt.last_at, Runs.Outcome, Inner.RuleAt.FoundAt, Inner.Runs.{RunsSo, run_rows, run_stop}};
 
 use crate::execution::{lead, run_initial, run_to};
 use crate::instr::Factors;

@@ -1,15 +1,9 @@
 //! Rows of rules (6.4.1).
 
-ghost use Rattle.std.specs.Prelude.{◌≡◌, ◌<◌, ℤ, [], ◌∷◌, false, IfOk, OnOk, OnErr, MatchOption, IsTrue, ◌↔◌};
-ghost use Rattle.std.specs.Iterator.{YieldsFirst, item_count};
-ghost use Rattle.dw_cfa.specs.declared.rule.RegRule.TheVariants.{Offset};
-ghost use Rattle.dw_cfa.specs.Rows.{AreSpecified, rule, rule_in, blank};
-ghost use Rattle.dw_cfa.specs.Inner.Rows.{with_cfa, with_rule};
-ghost use Rattle.dw_cfa.specs.Agreement.{IsAgreed, kept};
-ghost use Rattle.dw_cfa.specs.Difference.{FirstDifference, place_behind};
-ghost use Rattle.dw_cfa.specs.Inner.Difference.{FirstBelow, SameUnset};
-ghost use Rattle.dw_cfa.specs.Inner.LookUp.{SpecifiesIn};
-ghost use Rattle.dw_cfa.specs.Inner.Marks.{CopiedUpTo};
+ghost use Rattle.std.specs.{Prelude.{◌≡◌, ◌<◌, ℤ, [], ◌∷◌, false, IfOk, OnOk, OnErr, MatchOption, IsTrue, ◌↔◌}, Iterator.{YieldsFirst, item_count}};
+ghost use Rattle.dw_cfa.specs.{Agreement.{IsAgreed, kept}, Difference.{FirstDifference, place_behind}};
+ghost use Rattle.dw_cfa.specs.{Rows.{AreSpecified, rule, rule_in, blank}, declared.rule.RegRule.TheVariants.Offset};
+ghost use Rattle.dw_cfa.specs.Inner.{Difference.{FirstBelow, SameUnset}, LookUp.SpecifiesIn, Marks.CopiedUpTo, Rows.{with_cfa, with_rule}};
 
 use crate::entries::{Entries, NEAR};
 use crate::near_slots::{next_in, next_near};
@@ -29,8 +23,7 @@ pub struct Row<'a> {
 }
 
 impl<'a> Model for Row<'a> {
-    ghost use Rattle.dw_cfa.specs.Rows.{Rules};
-    ghost use Rattle.dw_cfa.specs.Inner.Entries.{entries_of, EntriesSo};
+    ghost use Rattle.dw_cfa.specs.{Rows.Rules, Inner.Entries.{entries_of, EntriesSo}};
 
     ghost Value = { Rules };
 
@@ -65,9 +58,7 @@ pub struct Specified<'r, 'a> {
 
 impl<'r, 'a> Model for Specified<'r, 'a> {
     ghost use Rattle.std.specs.Prelude.{◌≡◌, List, ℕ, length};
-    ghost use Rattle.dw_cfa.specs.declared.rule.RegRule.{RegRule as Rule};
-    ghost use Rattle.dw_cfa.specs.Rows.{AreSpecified};
-    ghost use Rattle.dw_cfa.specs.Inner.Entries.{far_behind, listed_near, Holds};
+    ghost use Rattle.dw_cfa.specs.{Rows.AreSpecified, declared.rule.RegRule.{RegRule as Rule}, Inner.Entries.{far_behind, listed_near, Holds}};
 
     ghost Value = { List (ℕ × Rule) };
 

@@ -1,21 +1,12 @@
 //! Rows of one FDE after another, in room that is kept (6.4.1, 6.4.3).
 
 ghost use Rattle.std.specs.Prelude.{◌≡◌, ◌<◌, ◌≤◌, false, None, Ok, List, ◌∷◌, IfErr, IfOk, IsOk, IsTrue, ◌↔◌, MatchResult, OnErr, OnOk, Some};
-ghost use Rattle.dw_num.specs.Target.{address_limit};
-ghost use Rattle.dw_num.specs.declared.error.ReadError.TheVariants.{OutOfMemory};
-ghost use Rattle.dw_cfa.specs.declared.execution.LocatedRow.{LocatedRow};
-ghost use Rattle.dw_cfa.specs.Gives.{Gives, RunsTo};
-ghost use Rattle.dw_cfa.specs.RuleAt.{last_at, left_above};
-ghost use Rattle.dw_cfa.specs.Difference.{FirstDifference, place_behind};
-ghost use Rattle.dw_cfa.specs.Rows.{AreSpecified, Rules, blank};
-ghost use Rattle.dw_cfa.specs.Inner.Runs.{GivesRow, RunsSo, initial_row, placed, run_rows};
-ghost use Rattle.dw_cfa.specs.Runs.{finished};
-ghost use Rattle.dw_cfa.specs.Inner.States.{BeganWith};
-ghost use Rattle.dw_cfa.specs.RowSteps.{Advances, program_input, stepping};
-ghost use Rattle.dw_cfa.specs.Inner.RowSteps.{progress_after};
-ghost use Rattle.dw_cfa.specs.Behind.{LeavesTo};
-ghost use Rattle.dw_cfa.specs.RowWalk.{AllKeep, CieKeeps, StandsOn, unled};
+ghost use Rattle.dw_num.specs.{Target.address_limit, declared.error.ReadError.TheVariants.OutOfMemory};
+ghost use Rattle.dw_cfa.specs.{Behind.LeavesTo, Difference.{FirstDifference, place_behind}, Gives.{Gives, RunsTo}};
+ghost use Rattle.dw_cfa.specs.{RowSteps.{Advances, program_input, stepping}, RowWalk.{AllKeep, CieKeeps, StandsOn, unled}, Rows.{AreSpecified, Rules, blank}};
+ghost use Rattle.dw_cfa.specs.{RuleAt.{last_at, left_above}, Runs.finished, declared.execution.LocatedRow.LocatedRow, Inner.RowSteps.progress_after};
 ghost use Rattle.dw_cfa.specs.Inner.RowWalk.{AreLeft, HasInitial, LeadsSame, Readied, WalkKeeps, WalkedTo, WalksSo, initial_of, led_rows, walk_of};
+ghost use Rattle.dw_cfa.specs.Inner.{Runs.{GivesRow, RunsSo, initial_row, placed, run_rows}, States.BeganWith};
 
 use crate::execution::{lead, next_row, run_to};
 use crate::instr::Factors;
@@ -201,8 +192,7 @@ pub struct RowWalk<'a> {
 }
 
 impl<'a> Model for RowWalk<'a> {
-    ghost use Rattle.dw_cfa.specs.RowWalk.{Walking};
-    ghost use Rattle.dw_cfa.specs.Inner.RowWalk.{WalksSo, initial_of, led_of, walk_of};
+    ghost use Rattle.dw_cfa.specs.{RowWalk.Walking, Inner.RowWalk.{WalksSo, initial_of, led_of, walk_of}};
 
     ghost Value = { Walking };
 

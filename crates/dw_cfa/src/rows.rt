@@ -1,14 +1,9 @@
 //! All rows of an FDE (6.4.3).
 
 ghost use Rattle.std.specs.Prelude.{◌≡◌, ◌<◌, List, IfOk, IfErr, MatchResult, None, Some};
-ghost use Rattle.dw_num.specs.Target.{address_limit};
-ghost use Rattle.dw_num.specs.Refusals.{Refuses};
-ghost use Rattle.dw_num.specs.declared.error.ReadError.TheVariants.{OutOfMemory};
-ghost use Rattle.dw_cfa.specs.Faults.{RunFault};
-ghost use Rattle.dw_cfa.specs.Gives.{Gives};
-ghost use Rattle.dw_cfa.specs.RowSteps.{program_input};
-ghost use Rattle.dw_cfa.specs.Inner.RowSteps.{gives};
-ghost use Rattle.dw_cfa.specs.declared.execution.LocatedRow.{LocatedRow as TheLocatedRow};
+ghost use Rattle.dw_num.specs.{Refusals.Refuses, Target.address_limit, declared.error.ReadError.TheVariants.OutOfMemory};
+ghost use Rattle.dw_cfa.specs.{Faults.RunFault, Gives.Gives, RowSteps.program_input};
+ghost use Rattle.dw_cfa.specs.{declared.execution.LocatedRow.{LocatedRow as TheLocatedRow}, Inner.RowSteps.gives};
 
 use crate::execution::LocatedRow;
 use crate::instr::Factors;

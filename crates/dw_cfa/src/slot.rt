@@ -1,11 +1,8 @@
 //! What a slot of a row holds: the rule of one register (6.4.1).
 
 ghost use Rattle.std.specs.Prelude.{◌≡◌, IfSome};
-ghost use Rattle.dw_cfa.specs.declared.rule.RegRule.{RegRule as TheRule};
-ghost use Rattle.dw_cfa.specs.declared.rule.RegRule.TheVariants.{Offset};
-ghost use Rattle.dw_cfa.specs.declared.slot.Slot.TheVariants.{Beside};
-ghost use Rattle.dw_cfa.specs.Rows.{rule_in};
-ghost use Rattle.dw_cfa.specs.Inner.Entries.{IsSlotOf, slot_rule};
+ghost use Rattle.dw_cfa.specs.{Rows.rule_in, declared.rule.RegRule.{RegRule as TheRule}, declared.rule.RegRule.TheVariants.Offset};
+ghost use Rattle.dw_cfa.specs.{declared.slot.Slot.TheVariants.Beside, Inner.Entries.{IsSlotOf, slot_rule}};
 
 use crate::rule::RegRule;
 use crate::tree::rule_in_tree;

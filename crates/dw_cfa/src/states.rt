@@ -1,10 +1,8 @@
 //! The current row and the remembered ones (6.4.2.4).
 
-ghost use Rattle.std.specs.Prelude.{◌≡◌, ◌<◌, [], ◌∷◌, length, reverse, Some, None, OnOk, IfOk, IsTrue, ◌↔◌, true, false};
-ghost use Rattle.dw_cfa.specs.Difference.{FirstDifference, place_behind};
-ghost use Rattle.dw_cfa.specs.Rows.{AreSpecified, blank, rule_in};
-ghost use Rattle.dw_cfa.specs.Inner.Rows.{with_cfa, with_rule};
-ghost use Rattle.dw_cfa.specs.Inner.States.{Held, first_if, BeganWith, Restored, TakenBack, rows_before};
+ghost use Rattle.std.specs.Prelude.{◌≡◌, ◌<◌, [], ◌∷◌, length, reverse, None, OnOk, IfOk, IsTrue, ◌↔◌, false};
+ghost use Rattle.dw_cfa.specs.{Difference.{FirstDifference, place_behind}, Rows.{AreSpecified, blank, rule_in}};
+ghost use Rattle.dw_cfa.specs.Inner.{Rows.{with_cfa, with_rule}, States.{first_if, BeganWith, Restored, TakenBack, rows_before}};
 
 use crate::entries::NEAR;
 use crate::kept_row::KeptRow;

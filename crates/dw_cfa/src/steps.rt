@@ -1,14 +1,9 @@
 //! Rows one at a time (6.4.3).
 
 ghost use Rattle.std.specs.Prelude.{◌≡◌, ◌<◌, Some, Ok, Err, IfErr, OnOk};
-ghost use Rattle.dw_num.specs.Target.{address_limit};
-ghost use Rattle.dw_num.specs.Refusals.{Refuses};
-ghost use Rattle.dw_cfa.specs.Inner.Runs.{RunsSo, GivesRow, placed, initial_row, run_rows};
-ghost use Rattle.dw_cfa.specs.Behind.{LeavesTo};
-ghost use Rattle.dw_cfa.specs.Gives.{RunsTo};
-ghost use Rattle.dw_cfa.specs.Rows.{blank};
-ghost use Rattle.dw_cfa.specs.RowSteps.{Advances, Answers, stepping, program_input};
-ghost use Rattle.dw_cfa.specs.Inner.RowSteps.{progress_after};
+ghost use Rattle.dw_num.specs.{Refusals.Refuses, Target.address_limit};
+ghost use Rattle.dw_cfa.specs.{Behind.LeavesTo, Gives.RunsTo, RowSteps.{Advances, Answers, stepping, program_input}, Rows.blank};
+ghost use Rattle.dw_cfa.specs.Inner.{RowSteps.progress_after, Runs.{RunsSo, GivesRow, placed, initial_row, run_rows}};
 
 use crate::execution::{LocatedRow, lead, next_row, run_initial};
 use crate::instr::Factors;
@@ -97,8 +92,7 @@ pub struct RowSteps<'a> {
 }
 
 impl<'a> Model for RowSteps<'a> {
-    ghost use Rattle.dw_cfa.specs.RowSteps.{Stepping};
-    ghost use Rattle.dw_cfa.specs.Inner.RowSteps.{left_of, StandsSo};
+    ghost use Rattle.dw_cfa.specs.{RowSteps.Stepping, Inner.RowSteps.{left_of, StandsSo}};
 
     ghost Value = { Stepping };
 

@@ -1,10 +1,7 @@
 //! Rules of registers in a tree, ascending.
 
 ghost use Rattle.std.specs.Prelude.{◌≡◌, [], ◌∷◌, Some, IfOk, OnOk, OnErr, MatchOption};
-ghost use Rattle.dw_cfa.specs.Difference.{FirstDifference};
-ghost use Rattle.dw_cfa.specs.Rows.{AreSpecified, rule_in};
-ghost use Rattle.dw_cfa.specs.Inner.Entries.{far_behind};
-ghost use Rattle.dw_cfa.specs.Inner.Rows.{put};
+ghost use Rattle.dw_cfa.specs.{Difference.FirstDifference, Rows.{AreSpecified, rule_in}, Inner.Entries.far_behind, Inner.Rows.put};
 
 use crate::behind::start_behind;
 use crate::rule::RegRule;

@@ -3,10 +3,7 @@
 
 ghost use Rattle.std.specs.Prelude.{◌≡◌, ◌<◌, ◌≤◌, None, length, IsOk, IsTrue, false};
 ghost use Rattle.dw_num.specs.Target.{address_limit};
-ghost use Rattle.dw_cfa.specs.Inner.ByOpcode.{operands_at};
-ghost use Rattle.dw_cfa.specs.Inner.FrontInstr.{instr_at};
-ghost use Rattle.dw_cfa.specs.Inner.Runs.{RunsSo, rows_left};
-ghost use Rattle.dw_cfa.specs.Inner.Turns.{Does, IsWithinLimit, Stays, Taken, Turned};
+ghost use Rattle.dw_cfa.specs.Inner.{ByOpcode.operands_at, FrontInstr.instr_at, Runs.{RunsSo, rows_left}, Turns.{Does, IsWithinLimit, Stays, Taken, Turned}};
 
 use crate::advance::{run_advance, run_fixed_advance, run_long_advance, run_set_loc};
 use crate::cfa::{

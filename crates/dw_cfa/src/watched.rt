@@ -1,10 +1,8 @@
 //! The current row beside one that was kept (6.4.1).
 
 ghost use Rattle.std.specs.Prelude.{◌≡◌, ◌<◌, ◌↔◌, IsTrue, OnErr, OnOk};
-ghost use Rattle.dw_cfa.specs.Difference.{FirstDifference, place_behind};
-ghost use Rattle.dw_cfa.specs.Rows.{AreSpecified, blank, rule_in};
-ghost use Rattle.dw_cfa.specs.Inner.Rows.{with_cfa, with_rule};
-ghost use Rattle.dw_cfa.specs.Inner.Marks.{KeptSo, watching};
+ghost use Rattle.dw_cfa.specs.{Difference.{FirstDifference, place_behind}, Rows.{AreSpecified, blank, rule_in}};
+ghost use Rattle.dw_cfa.specs.Inner.{Marks.{KeptSo, watching}, Rows.{with_cfa, with_rule}};
 
 use crate::kept_row::{KeptRow, copy_marked};
 use crate::row::Row;

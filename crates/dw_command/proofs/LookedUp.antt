@@ -1,7 +1,6 @@
 -- What a look-up in a section that was accepted finds.
-use Rattle.dw_command.proofs.Words.{◌≡◌, ◌∙◌, ℕ, ◌≤◌, ◌^◌, Bool, true, false, List, Option, Some, None, map, refl, sym, subst, AreBytes, Rules, Accepted, IsAmong, FindsFde, LooksUp, AreFdes, Covers, RulesAt, Section, Fde, fde_of}
-use Rattle.dw_command.proofs.Words.{members_exist, TellsOf}
-use Rattle.dw_command.proofs.Members.{fde_low}
+use Rattle.dw_command.proofs.Words.{◌≡◌, ◌∙◌, ℕ, ◌≤◌, ◌^◌, Bool, true, false, List, Option, Some, None, map, refl, sym, subst, AreBytes, Rules, Accepted}
+use Rattle.dw_command.proofs.{Words.{IsAmong, FindsFde, LooksUp, AreFdes, Covers, RulesAt, Section, Fde, fde_of, members_exist, TellsOf}, Members.fde_low}
 
 some_is : {A : Type 0} (x y : A) → Some x ≡ Some y → x ≡ y
 some_is x y is = cc

@@ -1,60 +1,29 @@
 -- What a run answers and prints: which call comes after which, and that the first failure ends it.
-use Rattle.std.specs.Prelude.{◌≡◌, ◌⊎◌, ⊤, ℕ, ◌<◌, ◌≤◌, List, [], ◌++◌, codes, Bool, Option, Some, None, length, map, option_map, if◌then◌else◌, Result, Ok, Err}
-use Rattle.std.specs.List.{AllZip}
-use Rattle.std.specs.Bool.{Decides}
-use Rattle.std.specs.Io.KnownBytes.{Appends, Keeps}
+use Rattle.std.specs.Prelude.{◌≡◌, ◌⊎◌, ⊤, ℕ, ◌<◌, ◌≤◌, List, [], ◌++◌, codes, Bool, Option, Some, None, length, map, option_map}
+use Rattle.std.specs.{Prelude.{if◌then◌else◌, Result, Ok, Err}, Bool.Decides, Io.KnownBytes.{Appends, Keeps}, List.AllZip}
 use Rattle.clap.specs.Words.{Text}
-use Rattle.dw_num.specs.Target.{address_limit}
-use Rattle.dw_num.specs.declared.target.Target.{Target}
-use Rattle.dw_num.specs.Refusals.{Refuses}
-use Rattle.dw_op.specs.declared.op.Op.{Op}
-use Rattle.dw_op.specs.declared.profile.Profile.{Profile}
-use Rattle.dw_op.specs.declared.profile.Profile.TheVariants.{Location}
-use Rattle.dw_op.specs.Faults.{BlockFault, IsBlock}
-use Rattle.dw_op.specs.Least.{LeastBlock}
+use Rattle.dw_num.specs.{Refusals.Refuses, Target.address_limit, declared.target.Target.Target}
+use Rattle.dw_op.specs.{Faults.{BlockFault, IsBlock}, Least.LeastBlock, declared.op.Op.Op}
+use Rattle.dw_op.specs.declared.profile.{Profile.Profile, Profile.TheVariants.Location}
+use Rattle.dw_eval.specs.{Evaluation.{Evaluates, first_stack}, declared.policy.Policy.Policy}
 use Rattle.dw_eval.specs.declared.error.EvalError.TheVariants as eval_error
-use Rattle.dw_eval.specs.Evaluation.{Evaluates, first_stack}
-use Rattle.dw_section.specs.declared.entry.Entry.{Entry}
-use Rattle.dw_section.specs.Accepted.{Accepted, CheckFault}
-use Rattle.dw_section.specs.Pieces.{Entries, Pieces}
-use Rattle.dw_section.specs.Faults.{CutFault}
-use Rattle.dw_section.specs.Among.{IsAmong}
-use Rattle.dw_section.specs.Meaning.{AreFdes, Covers, NoneCovers, RowStarts, RulesAt, total}
-use Rattle.dw_section.specs.declared.lookup.Fde.{Fde}
-use Rattle.dw_section.specs.Meanings.{SameMeaning}
-use Rattle.dw_section.specs.declared.entry.EntryCounts.{EntryCounts}
-use Rattle.dw_section.specs.Counts.{AreCounts}
-use Rattle.dw_section.specs.Cut.{Piece}
-use Rattle.dw_canon.specs.Members.{AreMembers, Member, changes_of}
-use Rattle.dw_canon.specs.Normal.{IsNormalForm}
+use Rattle.dw_section.specs.{Accepted.{Accepted, CheckFault}, Among.IsAmong, Counts.AreCounts, Cut.Piece, Faults.CutFault}
+use Rattle.dw_section.specs.{Meaning.{AreFdes, Covers, NoneCovers, RowStarts, RulesAt, total}, Meanings.SameMeaning, Pieces.{Entries, Pieces}}
+use Rattle.dw_section.specs.declared.{entry.Entry.Entry, entry.EntryCounts.EntryCounts, lookup.Fde.Fde}
+use Rattle.dw_canon.specs.{Members.{AreMembers, Member, changes_of}, Normal.IsNormalForm}
 use Rattle.dw_normal.specs.Answers.{FitsCap, NormalFault, SameFault}
-use Rattle.dw_unwind.specs.declared.dump.Dump.{Dump}
-use Rattle.dw_unwind.specs.declared.frame.Frame.{Frame}
-use Rattle.dw_eval.specs.declared.policy.Policy.{Policy}
+use Rattle.dw_unwind.specs.{Describes.{Describes, RefusesDump}, Dump.Say, Lines.lines_of, Ranges.byte_in, Statement.Statement}
+use Rattle.dw_unwind.specs.{Unwound.{Unwound, stopped}, declared.dump.Dump.Dump, declared.frame.Frame.Frame}
 use Rattle.dw_unwind.specs.declared.frame.UnwindError.TheVariants as unwind_error
-use Rattle.dw_unwind.specs.Describes.{Describes, RefusesDump}
-use Rattle.dw_unwind.specs.Dump.{Say}
-use Rattle.dw_unwind.specs.Lines.{lines_of}
-use Rattle.dw_unwind.specs.Ranges.{byte_in}
-use Rattle.dw_unwind.specs.Statement.{Statement}
-use Rattle.dw_unwind.specs.Unwound.{Unwound, stopped}
-use Rattle.dw_words.specs.declared.request.Request.{Request}
+use Rattle.dw_words.specs.{Plan.Planned, declared.request.Evaluation.Evaluation}
+use Rattle.dw_words.specs.declared.request.{Lookup.Lookup, Request.Request, Task.Task, Unwinding.Unwinding}
 use Rattle.dw_words.specs.declared.request.Request.TheVariants as requests
-use Rattle.dw_words.specs.declared.request.Evaluation.{Evaluation}
-use Rattle.dw_words.specs.declared.request.Lookup.{Lookup}
-use Rattle.dw_words.specs.declared.request.Task.{Task}
 use Rattle.dw_words.specs.declared.request.Task.TheVariants as tasks
-use Rattle.dw_words.specs.declared.request.Unwinding.{Unwinding}
-use Rattle.dw_words.specs.Plan.{Planned}
-use Rattle.dw_command.specs.declared.files.LoadError.{LoadError}
-use Rattle.dw_command.specs.declared.files.LoadError.TheVariants.{CannotRead}
-use Rattle.dw_command.specs.declared.failure.Failure.{Failure}
-use Rattle.dw_command.specs.declared.failure.Failure.TheVariants as failures
-use Rattle.dw_command.specs.Output.{Output}
-use Rattle.dw_command.specs.Addresses.{RefusesLine, addresses_of, lines_in}
-use Rattle.dw_command.specs.RowTexts.{At, at_text, member_text}
+use Rattle.dw_command.specs.{Addresses.{RefusesLine, addresses_of, lines_in}, Failure.{OfLoad, OfSame, OfUnwind, of_read, of_dump, of_eval, of_plan, status_of}}
+use Rattle.dw_command.specs.{Output.Output, RowTexts.{At, at_text, member_text}}
 use Rattle.dw_command.specs.Texts.{block_text, cost_text, counts_text, entry_text, frame_text, lines, sameness_text, value_text}
-use Rattle.dw_command.specs.Failure.{OfLoad, OfSame, OfUnwind, of_read, of_dump, of_eval, of_plan, status_of}
+use Rattle.dw_command.specs.declared.{failure.Failure.Failure, files.LoadError.LoadError, files.LoadError.TheVariants.CannotRead}
+use Rattle.dw_command.specs.declared.failure.Failure.TheVariants as failures
 
 -- ---- one thing after another
 

@@ -1,10 +1,7 @@
 -- What the command does to its output, by what the output holds.
 use Rattle.std.specs.Prelude.{◌≡◌, ℕ, List, Option, Result}
 use Rattle.clap.specs.Words.{Text}
-use Rattle.dw_command.specs.declared.files.LoadError.{LoadError}
-use Rattle.dw_command.specs.declared.failure.Failure.{Failure}
-use Rattle.dw_command.specs.Answers.{Ends, exit_of}
-use Rattle.dw_command.specs.Output.{Output}
+use Rattle.dw_command.specs.{Answers.{Ends, exit_of}, Output.Output, declared.failure.Failure.Failure, declared.files.LoadError.LoadError}
 
 -- an output that holds all that was put, and failed so often
 abbrev pub holding : Option (List ℕ) → ℕ → Output

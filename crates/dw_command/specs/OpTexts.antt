@@ -1,8 +1,6 @@
 -- How operations are printed: DWARF 5, 7.7.1, with the names in lower case. Operands are decimal but for an address, each behind a space, and a
 -- branch names the operation that it goes to.
-use Rattle.std.specs.Prelude.{ℕ, ℤ, false, List, [], ◌++◌, codes, decimal, unsigned_abs, if◌then◌else◌}
-use Rattle.std.specs.Fmt.{digits}
-use Rattle.std.specs.Int.{is_negative}
+use Rattle.std.specs.{Prelude.{ℕ, ℤ, false, List, [], ◌++◌, codes, decimal, unsigned_abs, if◌then◌else◌}, Fmt.digits, Int.is_negative}
 use Rattle.hex.specs.Hex.{encode_lower}
 use Rattle.dw_op.specs.declared.op.Op.{Op}
 use Rattle.dw_op.specs.declared.op.Op.TheVariants as op

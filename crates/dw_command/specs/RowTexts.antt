@@ -1,18 +1,12 @@
 -- How rows are printed: a line for an FDE, and below it one for each address from which its rules are others.
-use Rattle.std.specs.Prelude.{ℕ, ℤ, false, List, [], ◌∷◌, ◌++◌, codes, decimal, unsigned_abs, if◌then◌else◌, Option, Some, None}
-use Rattle.std.specs.Fmt.{digits}
-use Rattle.std.specs.Int.{is_negative}
-use Rattle.dw_op.specs.declared.op.Op.{Op}
-use Rattle.dw_op.specs.Expression.{Expression}
-use Rattle.dw_cfa.specs.declared.rule.CfaRule.{CfaRule}
+use Rattle.std.specs.{Prelude.{ℕ, ℤ, false, List, [], ◌∷◌, ◌++◌, codes, decimal, unsigned_abs, if◌then◌else◌, Option, Some, None}, Fmt.digits, Int.is_negative}
+use Rattle.dw_op.specs.{Expression.Expression, declared.op.Op.Op}
+use Rattle.dw_cfa.specs.{Rows.Rules, declared.rule.CfaRule.CfaRule, declared.rule.RegRule.RegRule}
 use Rattle.dw_cfa.specs.declared.rule.CfaRule.TheVariants as cfa
-use Rattle.dw_cfa.specs.declared.rule.RegRule.{RegRule}
 use Rattle.dw_cfa.specs.declared.rule.RegRule.TheVariants as rules
-use Rattle.dw_cfa.specs.Rows.{Rules}
 use Rattle.dw_section.specs.declared.lookup.Fde.{Fde}
 use Rattle.dw_canon.specs.Members.{Member, changes_of, fde_of}
-use Rattle.dw_command.specs.OpTexts.{op_text}
-use Rattle.dw_command.specs.Texts.{line_end, lines}
+use Rattle.dw_command.specs.{OpTexts.op_text, Texts.{line_end, lines}}
 
 -- ---- rules
 

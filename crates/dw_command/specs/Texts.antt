@@ -1,14 +1,9 @@
 -- What is printed: the texts of the answers, as lists of bytes. Numbers are decimal, addresses and values hexadecimal.
-use Rattle.std.specs.Prelude.{ℕ, suc, Bool, false, List, [], ◌∷◌, ◌++◌, codes, decimal, if◌then◌else◌, Option, Some, None}
-use Rattle.std.specs.Fmt.{digits}
+use Rattle.std.specs.{Prelude.{ℕ, suc, Bool, false, List, [], ◌∷◌, ◌++◌, codes, decimal, if◌then◌else◌, Option, Some, None}, Fmt.digits}
 use Rattle.hex.specs.Hex.{encode_lower}
-use Rattle.dw_num.specs.declared.target.Form.{Form}
-use Rattle.dw_num.specs.declared.target.Form.TheVariants.{Dwarf32, Dwarf64}
+use Rattle.dw_num.specs.declared.target.{Form.Form, Form.TheVariants.{Dwarf32, Dwarf64}}
 use Rattle.dw_op.specs.declared.op.Op.{Op}
-use Rattle.dw_section.specs.declared.entry.Entry.{Entry}
-use Rattle.dw_section.specs.declared.entry.EntryCounts.{EntryCounts}
-use Rattle.dw_section.specs.declared.entry.Kind.{Kind}
-use Rattle.dw_section.specs.declared.entry.Kind.TheVariants.{Cie, Fde}
+use Rattle.dw_section.specs.declared.entry.{Entry.Entry, EntryCounts.EntryCounts, Kind.Kind, Kind.TheVariants.{Cie, Fde}}
 use Rattle.dw_unwind.specs.declared.frame.Frame.{Frame}
 use Rattle.dw_command.specs.OpTexts.{op_text}
 

@@ -1,9 +1,8 @@
 //! Addresses in the lines of a text, one a line.
 
-ghost use Rattle.std.specs.Prelude.{◌≡◌, ◌+◌, ◌<◌, ◌≤◌, ◌++◌, List, ℕ, drop, length, Ok, MatchResult};
-ghost use Rattle.dw_command.specs.Addresses.{RefusesLine, addresses_of};
-ghost use Rattle.dw_command.specs.Inner.Lines.{line_len};
+ghost use Rattle.std.specs.Prelude.{◌≡◌, ◌+◌, ◌≤◌, ◌++◌, List, ℕ, drop, length, Ok, MatchResult};
 ghost use Rattle.dw_unwind.specs.Lines.{lines_of};
+ghost use Rattle.dw_command.specs.{Addresses.{RefusesLine, addresses_of}, Inner.Lines.line_len};
 
 use dw_num::Size;
 use dw_unwind::{DumpCode, DumpError, DumpFault};

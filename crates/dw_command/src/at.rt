@@ -2,14 +2,9 @@
 
 ghost use Rattle.std.specs.Prelude.{◌≡◌, ◌<◌, ◌≤◌, ◌-◌, ◌^◌, List, MatchResult, OnOk, Some, option_map};
 ghost use Rattle.dw_num.specs.Input.{AreBytes};
-ghost use Rattle.dw_section.specs.Accepted.{Accepted};
-ghost use Rattle.dw_section.specs.Meaning.{AreFdes};
-ghost use Rattle.dw_section.specs.declared.lookup.Fde.{Fde as TheFde};
-ghost use Rattle.dw_command.specs.Addresses.{lines_in};
-ghost use Rattle.dw_command.specs.Answers.{AtEnds, PrintsOf, Tells, TellsOf, Unprinted};
-ghost use Rattle.dw_command.specs.Inner.Output.{Adds, Told, output_of};
-ghost use Rattle.dw_command.specs.RowTexts.{At, at_text};
-ghost use Rattle.dw_command.specs.Texts.{lines};
+ghost use Rattle.dw_section.specs.{Accepted.Accepted, Meaning.AreFdes, declared.lookup.Fde.{Fde as TheFde}};
+ghost use Rattle.dw_command.specs.{Addresses.lines_in, Answers.{AtEnds, PrintsOf, Tells, TellsOf, Unprinted}};
+ghost use Rattle.dw_command.specs.{RowTexts.{At, at_text}, Texts.lines, Inner.Output.{Adds, Told, output_of}};
 
 use crate::address_lines::add_lines;
 use crate::failure::Failure;

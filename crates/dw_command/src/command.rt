@@ -1,11 +1,8 @@
 //! The whole command, over the words, files and outputs that it is given.
 
-ghost use Rattle.std.specs.Prelude.{◌≡◌, ℕ, ◌<◌, ◌≤◌, ◌-◌, ◌^◌, Result, Ok, IfOk, map, string_bytes};
-ghost use Rattle.std.specs.Result.{result_map_both};
-ghost use Rattle.dw_command.specs.Answers.{Ends, PrintsText, TaskEnds, exit_of};
-ghost use Rattle.dw_command.specs.Engine.{Runs};
-ghost use Rattle.dw_command.specs.Inner.Output.{output_of};
-ghost use Rattle.dw_command.specs.declared.failure.Failure.{Failure as TheFailure};
+ghost use Rattle.std.specs.{Prelude.{◌≡◌, ℕ, ◌<◌, ◌≤◌, ◌-◌, ◌^◌, Result, IfOk, map, string_bytes}, Result.result_map_both};
+ghost use Rattle.dw_command.specs.{Answers.{Ends, PrintsText, TaskEnds, exit_of}, Engine.Runs};
+ghost use Rattle.dw_command.specs.{declared.failure.Failure.{Failure as TheFailure}, Inner.Output.output_of};
 
 use crate::at::run_at;
 use crate::check::run_check;

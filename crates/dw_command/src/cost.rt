@@ -4,8 +4,7 @@ ghost use Rattle.std.specs.Prelude.{◌≡◌, ◌<◌, ◌≤◌, ◌-◌, ◌^
 ghost use Rattle.dw_section.specs.Meaning.{RowStarts, total};
 ghost use Rattle.dw_canon.specs.Members.{AreMembers, Member};
 ghost use Rattle.dw_command.specs.Answers.{ChangeCount, Costs, OverFile, Prints, change_count, costs_text};
-ghost use Rattle.dw_command.specs.Inner.Output.{Adds, Told, output_of};
-ghost use Rattle.dw_command.specs.Texts.{cost_text};
+ghost use Rattle.dw_command.specs.{Texts.cost_text, Inner.Output.{Adds, Told, output_of}};
 
 use crate::failure::Failure;
 use crate::files::Load;

@@ -1,9 +1,7 @@
 //! `dwframe entries`: a line for each entry of a section.
 
-ghost use Rattle.dw_command.specs.Texts.{entry_text, form_text, kind_text, lines};
-ghost use Rattle.dw_command.specs.Inner.Output.{Adds, Told, output_of};
 ghost use Rattle.std.specs.Prelude.{◌≡◌, length, OnOk, ◌<◌, ◌-◌, ◌^◌};
-ghost use Rattle.dw_command.specs.Answers.{Cuts, OverFile, Prints};
+ghost use Rattle.dw_command.specs.{Answers.{Cuts, OverFile, Prints}, Texts.{entry_text, form_text, kind_text, lines}, Inner.Output.{Adds, Told, output_of}};
 
 use crate::failure::Failure;
 use crate::files::Load;

@@ -1,9 +1,7 @@
 //! `dwframe eval`: the value of an expression.
 
-ghost use Rattle.dw_command.specs.Texts.{value_text};
 ghost use Rattle.std.specs.Prelude.{◌<◌, ◌-◌, ◌^◌};
-ghost use Rattle.dw_command.specs.Answers.{EvalEnds, Prints, Values};
-ghost use Rattle.dw_command.specs.Inner.Output.{output_of};
+ghost use Rattle.dw_command.specs.{Answers.{EvalEnds, Prints, Values}, Texts.value_text, Inner.Output.output_of};
 
 use crate::failure::Failure;
 use crate::files::Load;

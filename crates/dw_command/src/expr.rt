@@ -1,10 +1,8 @@
 //! `dwframe expr`: the operations of a block, and its least spelling.
 
 ghost use Rattle.std.specs.Prelude.{◌++◌, ◌<◌, ◌-◌, ◌^◌, codes, decimal, OnOk};
-ghost use Rattle.dw_command.specs.Answers.{OverBlock, Prints};
-ghost use Rattle.dw_command.specs.OpTexts.{op_text};
-ghost use Rattle.dw_command.specs.Inner.Output.{Adds, Told, output_of};
-ghost use Rattle.dw_command.specs.Texts.{block_text, least_text, line_end, numbered};
+ghost use Rattle.dw_command.specs.{Answers.{OverBlock, Prints}, OpTexts.op_text};
+ghost use Rattle.dw_command.specs.{Texts.{block_text, least_text, line_end, numbered}, Inner.Output.{Adds, Told, output_of}};
 
 use crate::failure::Failure;
 use crate::listing::{Listing, OutputFault};

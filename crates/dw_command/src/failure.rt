@@ -1,9 +1,8 @@
 //! Why a run ends without its answer.
 
 ghost use Rattle.std.specs.Prelude.{◌≡◌, ◌≤◌};
-ghost use Rattle.dw_command.specs.declared.failure.Failure.TheVariants.{OutOfMemory};
 ghost use Rattle.dw_command.specs.Failure.{OfLoad, OfSame, OfUnwind, of_read, of_dump, of_eval, of_plan, status_of};
-ghost use Rattle.dw_command.specs.Inner.Failure.{of_write};
+ghost use Rattle.dw_command.specs.{declared.failure.Failure.TheVariants.OutOfMemory, Inner.Failure.of_write};
 
 use crate::files::LoadError;
 use dw_eval::{EvalError, Kind};

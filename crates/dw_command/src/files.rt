@@ -1,7 +1,6 @@
 //! Where the bytes of a file come from.
 
-ghost use Rattle.std.specs.Prelude.{◌≡◌, ◌≢◌, ⊤, ℕ, ◌≤◌, List, length, take, Result, Ok, Err, IfOk, IfErr, IfSome, IsOk, MatchResult};
-ghost use Rattle.std.specs.IoError.{error_kind};
+ghost use Rattle.std.specs.{Prelude.{◌≡◌, ◌≢◌, ⊤, ℕ, ◌≤◌, List, length, take, Result, Ok, Err, IfOk, IfErr, IfSome, IsOk, MatchResult}, IoError.error_kind};
 ghost use Rattle.dw_command.specs.declared.files.LoadError.{LoadError as TheLoadError};
 
 use std::alloc::Global;

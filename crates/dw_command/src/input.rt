@@ -1,8 +1,7 @@
 //! Files as the subcommands read them.
 
-ghost use Rattle.std.specs.Prelude.{ℕ, List, Option, option_map, Result, Ok, Err, MatchResult};
-ghost use Rattle.dw_command.specs.Answers.{Loads, LoadsDump, LoadsText};
-ghost use Rattle.dw_command.specs.declared.files.LoadError.{LoadError as TheLoadError};
+ghost use Rattle.std.specs.Prelude.{ℕ, List, option_map, Result, Ok, Err, MatchResult};
+ghost use Rattle.dw_command.specs.{Answers.{Loads, LoadsDump, LoadsText}, declared.files.LoadError.{LoadError as TheLoadError}};
 
 use crate::failure::Failure;
 use crate::files::{LIMIT, Load, LoadError};

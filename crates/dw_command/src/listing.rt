@@ -1,14 +1,10 @@
 //! A text of many lines on its way to an output.
 
-ghost use Rattle.std.specs.Prelude.{◌≡◌, ◌+◌, ◌++◌, ◌-◌, ◌*◌, ◌/◌, ◌%◌, ◌^◌, ◌<◌, ◌≤◌, ℕ, List, [], ◌∷◌, length, take, codes, false, decimal, unsigned_abs, if◌then◌else◌, IfErr, IfOk, OnErr, OnOk, ◌⊎◌};
-ghost use Rattle.std.specs.Fmt.{digits};
-ghost use Rattle.std.specs.Int.{is_negative, to_be_bytes, w64};
-ghost use Rattle.std.specs.Int.Bits.{bit_and, bit_or};
-ghost use Rattle.std.specs.Io.KnownBytes.{Appends, Keeps};
-ghost use Rattle.dw_command.specs.Inner.Hex.{last_digits};
-ghost use Rattle.dw_command.specs.Inner.Output.{Adds, Told, put_so_far};
-ghost use Rattle.dw_command.specs.declared.failure.Failure.TheVariants.{CannotWrite};
-ghost use Rattle.dw_command.specs.declared.listing.TheConstants.{PIECE, ROOM};
+ghost use Rattle.std.specs.Prelude.{◌≡◌, ◌+◌, ◌++◌, ◌-◌, ◌*◌, ◌/◌, ◌%◌, ◌^◌, ◌<◌, ◌≤◌, ℕ, List, [], ◌∷◌, length, take};
+ghost use Rattle.std.specs.Prelude.{codes, false, decimal, unsigned_abs, if◌then◌else◌, IfErr, IfOk, OnErr, OnOk, ◌⊎◌};
+ghost use Rattle.std.specs.{Fmt.digits, Int.{is_negative, to_be_bytes, w64}, Int.Bits.{bit_and, bit_or}, Io.KnownBytes.{Appends, Keeps}};
+ghost use Rattle.dw_command.specs.declared.{failure.Failure.TheVariants.CannotWrite, listing.TheConstants.{PIECE, ROOM}};
+ghost use Rattle.dw_command.specs.Inner.{Hex.last_digits, Output.{Adds, Told, put_so_far}};
 
 use crate::failure::Failure;
 use dw_normal::{Sink, SinkFault};

@@ -1,8 +1,7 @@
 //! `dwframe normal`: the normal form of a section.
 
 ghost use Rattle.std.specs.Prelude.{[], ◌<◌, ◌-◌, ◌^◌};
-ghost use Rattle.dw_command.specs.Answers.{Normalises, OverFile, Prints};
-ghost use Rattle.dw_command.specs.Inner.Output.{output_of};
+ghost use Rattle.dw_command.specs.{Answers.{Normalises, OverFile, Prints}, Inner.Output.output_of};
 
 use crate::failure::Failure;
 use crate::files::Load;

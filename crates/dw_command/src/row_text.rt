@@ -2,8 +2,7 @@
 
 ghost use Rattle.std.specs.Prelude.{◌+◌, ◌++◌, ◌-◌, ◌^◌, ◌<◌, ◌≤◌, codes, None, OnOk};
 ghost use Rattle.dw_command.specs.RowTexts.{at_text, cfa_text, column_text, fde_text, operations_text, row_text, rule_text};
-ghost use Rattle.dw_command.specs.Inner.Output.{Adds, Told};
-ghost use Rattle.dw_command.specs.declared.listing.TheConstants.{PIECE, ROOM};
+ghost use Rattle.dw_command.specs.{declared.listing.TheConstants.{PIECE, ROOM}, Inner.Output.{Adds, Told}};
 
 use crate::listing::{Listing, OutputFault};
 use crate::texts::put_op;

@@ -1,13 +1,10 @@
 //! `dwframe rows`: the rules at each address of a section.
 
-ghost use Rattle.std.specs.Prelude.{◌≡◌, ℕ, ◌<◌, ◌≤◌, ◌-◌, ◌^◌, List, MatchResult, OnOk};
-ghost use Rattle.std.specs.List.{AllByRecursion};
+ghost use Rattle.std.specs.{Prelude.{◌≡◌, ℕ, ◌<◌, ◌≤◌, ◌-◌, ◌^◌, List, MatchResult, OnOk}, List.AllByRecursion};
 ghost use Rattle.dw_cfa.specs.Rows.{Rules};
 ghost use Rattle.dw_canon.specs.Members.{AreMembers, Member};
 ghost use Rattle.dw_command.specs.Answers.{OverFile, Prints, ListsFdes, Unprinted};
-ghost use Rattle.dw_command.specs.Inner.Output.{Adds, output_of};
-ghost use Rattle.dw_command.specs.RowTexts.{member_text, row_text};
-ghost use Rattle.dw_command.specs.Texts.{lines};
+ghost use Rattle.dw_command.specs.{RowTexts.{member_text, row_text}, Texts.lines, Inner.Output.{Adds, output_of}};
 
 use crate::failure::Failure;
 use crate::files::Load;

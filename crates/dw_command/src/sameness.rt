@@ -1,9 +1,7 @@
 //! `dwframe same`: whether two sections say the same.
 
-ghost use Rattle.dw_command.specs.Texts.{sameness_text};
 ghost use Rattle.std.specs.Prelude.{◌<◌, ◌≤◌, ◌-◌, ◌^◌, if◌then◌else◌, IfOk};
-ghost use Rattle.dw_command.specs.Answers.{Prints, SameEnds};
-ghost use Rattle.dw_command.specs.Inner.Output.{output_of};
+ghost use Rattle.dw_command.specs.{Answers.{Prints, SameEnds}, Texts.sameness_text, Inner.Output.output_of};
 
 use crate::failure::Failure;
 use crate::files::Load;

@@ -1,9 +1,6 @@
 //! Outputs that are terminals.
 
-ghost use Rattle.std.specs.Prelude.{◌≡◌, ◌<◌, IfOk, IsOk, length, position, take};
-ghost use Rattle.std.specs.List.{position_or_len};
-ghost use Rattle.std.specs.Io.{WritesAtMost};
-ghost use Rattle.std.specs.Io.KnownBytes.{Appends, Keeps};
+ghost use Rattle.std.specs.{Prelude.{◌≡◌, ◌<◌, IfOk, IsOk, length, position, take}, Io.WritesAtMost, Io.KnownBytes.{Appends, Keeps}, List.position_or_len};
 ghost use Rattle.dw_command.specs.Inner.Terminal.{is_order, shown};
 
 use std::io::{self, Write};

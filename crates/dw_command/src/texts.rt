@@ -1,10 +1,8 @@
 //! How operations are printed: DWARF 5, 7.7.1, with the names in lower case.
 
-ghost use Rattle.std.specs.Prelude.{◌≡◌, ◌++◌, ◌-◌, ◌^◌, ◌<◌, ◌≤◌, codes, false, length, OnOk};
-ghost use Rattle.std.specs.Fmt.{digits};
+ghost use Rattle.std.specs.{Prelude.{◌≡◌, ◌++◌, ◌-◌, ◌^◌, ◌<◌, ◌≤◌, codes, false, length, OnOk}, Fmt.digits};
 ghost use Rattle.hex.specs.Hex.{encode_lower};
-ghost use Rattle.dw_command.specs.OpTexts.{bytes_text, number_text, op_name, op_text, operands_text, signed_text};
-ghost use Rattle.dw_command.specs.Inner.Output.{Adds, Told};
+ghost use Rattle.dw_command.specs.{OpTexts.{bytes_text, number_text, op_name, op_text, operands_text, signed_text}, Inner.Output.{Adds, Told}};
 
 use crate::listing::{Listing, OutputFault};
 use dw_op::Op;

@@ -1,9 +1,7 @@
 //! `dwframe unwind`: the caller's frame of a machine that stopped.
 
-ghost use Rattle.dw_command.specs.Texts.{frame_text, lines, register_text};
-ghost use Rattle.dw_command.specs.Inner.Output.{Adds, Told, output_of};
 ghost use Rattle.std.specs.Prelude.{OnOk, ◌<◌, ◌-◌, ◌^◌};
-ghost use Rattle.dw_command.specs.Answers.{Frames, Prints, UnwindEnds};
+ghost use Rattle.dw_command.specs.{Answers.{Frames, Prints, UnwindEnds}, Texts.{frame_text, lines, register_text}, Inner.Output.{Adds, Told, output_of}};
 
 use crate::failure::Failure;
 use crate::files::Load;

@@ -1,8 +1,7 @@
 -- The loop over the operations of a description.
-use Rattle.dw_eval.proofs.Words.{◌≡◌, ℕ, ◌+◌, ◌<◌, ◌≤◌, List, [], ◌∷◌, length, map, get_or, Option, Result, Ok, Err, ◌∙◌, ap, subst, arith, slice_get, length-map, Op, bare, AllInRange, bare_at, EvalError, Fault, StepLimit, Place, Context}
-use Rattle.dw_eval.proofs.Words.{bare_piece, PlaceState, place_index, place_step, place_start, place_reads, pieces_of, PlaceRuns, LocatesOver, StepsTo}
 use Rattle.dw_eval.specs.declared.place.Piece.{Piece}
-use Rattle.dw_eval.proofs.{PlaceSteps.place_stays, Steps.{runs_more, answered_stop, answered_limit}}
+use Rattle.dw_eval.proofs.Words.{◌≡◌, ℕ, ◌+◌, ◌<◌, ◌≤◌, List, [], ◌∷◌, length, map, get_or, Option, Result, Ok, Err, ◌∙◌, ap, subst, arith, slice_get, length-map, Op, bare, AllInRange, bare_at, EvalError, Fault, StepLimit, Place}
+use Rattle.dw_eval.proofs.{Words.{Context, bare_piece, PlaceState, place_index, place_step, place_start, place_reads, pieces_of, PlaceRuns, LocatesOver, StepsTo}, PlaceSteps.place_stays, Steps.{runs_more, answered_stop, answered_limit}}
 
 abbrev ended : List Op → PlaceState → Result (List Piece) EvalError
 ended ops s = pieces_of (length ops) s.pending s.stack s.pieces

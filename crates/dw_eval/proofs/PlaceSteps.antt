@@ -1,8 +1,7 @@
 -- What one step of a description tells of its run.
-use Rattle.dw_eval.proofs.Words.{◌≡◌, ℕ, ◌<◌, ◌≤◌, Bool, true, false, List, [], ◌∷◌, length, Option, Some, None, Result, Ok, Err, ap, inl, arith, ◌∙◌, slice_get, nat_lt, if◌then◌else◌, slice_get_within, Op, branch_target, AllInRange}
-use Rattle.dw_eval.proofs.Words.{TargetWithin, EvalError, Fault, OutOfMemory, Kind, StackUnderflow, MissingPiece, Place, Role, SetsPlace, SetsValue, Computes, Context, OpEffect, Next, Jump, Faults, effect, StepsWithoutMemory, PlaceState}
-use Rattle.dw_eval.proofs.Words.{with_value, place_step, place_led, role, free_by, held_by, step_of, StepsTo}
-use Rattle.dw_eval.proofs.{Roles.step_is, Effects.{IsTame, effect_tame, in_range_at}}
+use Rattle.dw_eval.proofs.Words.{◌≡◌, ℕ, ◌<◌, ◌≤◌, Bool, true, false, List, [], ◌∷◌, length, Option, Some, None, Result, Ok, Err, ap, inl, arith, ◌∙◌, slice_get, nat_lt, if◌then◌else◌, slice_get_within, Op}
+use Rattle.dw_eval.proofs.Words.{branch_target, AllInRange, TargetWithin, EvalError, Fault, OutOfMemory, Kind, StackUnderflow, MissingPiece, Place, Role, SetsPlace, SetsValue, Computes, Context, OpEffect, Next, Jump}
+use Rattle.dw_eval.proofs.{Words.{Faults, effect, StepsWithoutMemory, PlaceState, with_value, place_step, place_led, role, free_by, held_by, step_of, StepsTo}, Effects.{IsTame, effect_tame, in_range_at}, Roles.step_is}
 
 -- a step without memory is one over a memory that stays
 pub steps_so : (step : Result PlaceState Kind) (Read : Type 0) (i before : ℕ) (state : ℕ → PlaceState) (result : Result ℕ EvalError) (after : ℕ) → StepsWithoutMemory step i state result → after ≡ before → StepsTo step Read i before state result after

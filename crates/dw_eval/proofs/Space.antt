@@ -1,14 +1,13 @@
 -- Values stay below 2 ^ N.
-use Rattle.dw_eval.proofs.Words.{◌≡◌, ℕ, zero, suc, ◌%◌, ◌<◌, Bool, true, false, List, [], ◌∷◌, ◌++◌, length, Option, Some, None, Result, Ok, Err, refl, sym, subst, inl, inr, arith, ◌∙◌, slice_get, nat_eq, nat_lt, if◌then◌else◌, Size, Four}
-use Rattle.dw_eval.proofs.Words.{Eight, byte_count, address_limit, Op, Addr, Deref, Const, Dup, Drop, Over, Pick, Swap, Rot, Abs, Div, Minus, Mod, Neg, Not, PlusUconst, Shra, Bra, Eq, Ge, Gt, Le, Lt, Ne, Skip, Reg, Breg, Fbreg, Piece}
-use Rattle.dw_eval.proofs.Words.{DerefSize, Nop, PushObjectAddress, CallFrameCfa, BitPiece, Implicit, StackValue, modulo_below, Kind, StackUnderflow, DivideByZero, NoRegister, Unreadable, NoFrameBase, NoCfa, NoObject, MissingPiece, Whole}
-use Rattle.dw_eval.proofs.Words.{Place, Role, SetsPlace, SetsValue, AddsPiece, Waits, Computes, Context, read_at, OpEffect, Next, Jump, Faults, on_top, on_two, on_three, known, push, push_signed, tell, effect, State, index_of, value_step}
-use Rattle.dw_eval.proofs.Words.{value_start, top_of, Evaluates, led, PlaceState, place_index, place_here, with_piece, with_value, place_step, place_start, pieces_of, Located, place_led, role, free_by, held_by, step_of, Runs, ValuesInSpace}
-use Rattle.dw_eval.proofs.Words.{LocationsInSpace}
 use Rattle.std.proofs.lemmas.Nat.{mod_below}
 use Rattle.dw_eval.specs.Space.{AreInSpace, PlaceInSpace, ArePlacesInSpace}
-use Rattle.dw_eval.proofs.Roles.{step_is}
 use Rattle.dw_eval.specs.declared.place.Piece as declared
+use Rattle.dw_eval.proofs.Words.{◌≡◌, ℕ, zero, suc, ◌%◌, ◌<◌, Bool, true, false, List, [], ◌∷◌, ◌++◌, length, Option, Some, None, Result, Ok, Err, refl, sym, subst, inl, inr, arith, ◌∙◌, slice_get, nat_eq}
+use Rattle.dw_eval.proofs.Words.{nat_lt, if◌then◌else◌, Size, Four, Eight, byte_count, address_limit, Op, Addr, Deref, Const, Dup, Drop, Over, Pick, Swap, Rot, Abs, Div, Minus, Mod, Neg, Not, PlusUconst, Shra}
+use Rattle.dw_eval.proofs.Words.{Bra, Eq, Ge, Gt, Le, Lt, Ne, Skip, Reg, Breg, Fbreg, Piece, DerefSize, Nop, PushObjectAddress, CallFrameCfa, BitPiece, Implicit, StackValue, modulo_below, Kind, StackUnderflow}
+use Rattle.dw_eval.proofs.Words.{DivideByZero, NoRegister, Unreadable, NoFrameBase, NoCfa, NoObject, MissingPiece, Whole, Place, Role, SetsPlace, SetsValue, AddsPiece, Waits, Computes, Context, read_at, OpEffect}
+use Rattle.dw_eval.proofs.Words.{Next, Jump, Faults, on_top, on_two, on_three, known, push, push_signed, tell, effect, State, index_of, value_step, value_start, top_of, Evaluates, led, PlaceState, place_index}
+use Rattle.dw_eval.proofs.{Words.{place_here, with_piece, with_value, place_step, place_start, pieces_of, Located, place_led, role, free_by, held_by, step_of, Runs, ValuesInSpace, LocationsInSpace}, Roles.step_is}
 
 -- ---- what every state of a run keeps
 

@@ -1,8 +1,7 @@
 -- The loop over the operations of an expression.
-use Rattle.dw_eval.proofs.Words.{◌≡◌, ℕ, ◌+◌, ◌<◌, ◌≤◌, List, length, map, get_or, Ok, Err, refl, ◌∙◌, subst, arith, length-map, Target, byte_count, Op, DerefSize, bare, AllInRange, bare_at, in_range_at, fits, EvalError, Fault, StepLimit}
-use Rattle.dw_eval.proofs.Words.{Context, ReadsMemory, State, index_of, value_step, value_start, value_reads, top_of, ValueRuns, EvaluatesOver, StepsTo}
 use Rattle.dw_op.specs.Inner.Ranges.{Fits}
-use Rattle.dw_eval.proofs.{Effects.value_stays, Steps.{runs_more, answered_stop, answered_limit}}
+use Rattle.dw_eval.proofs.Words.{◌≡◌, ℕ, ◌+◌, ◌<◌, ◌≤◌, List, length, map, get_or, Ok, Err, refl, ◌∙◌, subst, arith, length-map, Target, byte_count, Op, DerefSize, bare, AllInRange, bare_at, in_range_at, fits, EvalError, Fault}
+use Rattle.dw_eval.proofs.{Words.{StepLimit, Context, ReadsMemory, State, index_of, value_step, value_start, value_reads, top_of, ValueRuns, EvaluatesOver, StepsTo}, Effects.value_stays, Steps.{runs_more, answered_stop, answered_limit}}
 
 -- the size of a deref_size in range
 pub access_at : (t : Target) (ops : List Op) (i : ℕ) (d : Op) → AllInRange t (map bare ops) → i < length ops → (len : ℕ) → get_or ops i d ≡ DerefSize len → (1 ≤ len) × (len ≤ byte_count t.size)

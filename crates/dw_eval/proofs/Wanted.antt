@@ -1,11 +1,10 @@
 -- What a fault of an evaluation asks for is missing, operation by operation.
-use Rattle.dw_eval.proofs.Words.{◌≡◌, ℕ, ◌%◌, Bool, true, false, List, [], ◌∷◌, length, Option, Some, None, Result, Ok, Err, refl, inl, inr, sym, subst, ◌∙◌, slice_get, nat_eq, if◌then◌else◌, byte_count, address_limit, Op, Addr, Deref}
-use Rattle.dw_eval.proofs.Words.{Const, Dup, Drop, Pick, Rot, Abs, Div, Mod, Neg, Not, PlusUconst, Bra, Eq, Ge, Gt, Le, Lt, Ne, Skip, Reg, Breg, Fbreg, Piece, DerefSize, Nop, PushObjectAddress, CallFrameCfa, BitPiece, Implicit, StackValue}
-use Rattle.dw_eval.proofs.Words.{EvalError, Fault, OutOfMemory, Kind, StackUnderflow, DivideByZero, MissingPiece, NoRegister, Unreadable, NoFrameBase, NoCfa, NoObject, Context, read_at, OpEffect, Next, Jump, Faults, on_top, on_two}
-use Rattle.dw_eval.proofs.Words.{on_three, known, push, tell, effect, State, top_of, PlaceState, Place, pieces_of, with_value, Role, SetsPlace, SetsValue, Computes, role, free_by, held_by, step_of, leads, with_stack, WantedByValue}
-use Rattle.dw_eval.proofs.Words.{WantedByLocation}
 use Rattle.dw_eval.specs.{Wanted.IsMissing, declared.place.Piece.{Piece as LocatedPiece}}
-use Rattle.dw_eval.proofs.Roles.{step_is}
+use Rattle.dw_eval.proofs.Words.{◌≡◌, ℕ, ◌%◌, Bool, true, false, List, [], ◌∷◌, length, Option, Some, None, Result, Ok, Err, refl, inl, inr, sym, subst, ◌∙◌, slice_get, nat_eq, if◌then◌else◌, byte_count}
+use Rattle.dw_eval.proofs.Words.{address_limit, Op, Addr, Deref, Const, Dup, Drop, Pick, Rot, Abs, Div, Mod, Neg, Not, PlusUconst, Bra, Eq, Ge, Gt, Le, Lt, Ne, Skip, Reg, Breg, Fbreg, Piece, DerefSize}
+use Rattle.dw_eval.proofs.Words.{Nop, PushObjectAddress, CallFrameCfa, BitPiece, Implicit, StackValue, EvalError, Fault, OutOfMemory, Kind, StackUnderflow, DivideByZero, MissingPiece, NoRegister}
+use Rattle.dw_eval.proofs.Words.{Unreadable, NoFrameBase, NoCfa, NoObject, Context, read_at, OpEffect, Next, Jump, Faults, on_top, on_two, on_three, known, push, tell, effect, State, top_of, PlaceState}
+use Rattle.dw_eval.proofs.{Words.{Place, pieces_of, with_value, Role, SetsPlace, SetsValue, Computes, role, free_by, held_by, step_of, leads, with_stack, WantedByValue, WantedByLocation}, Roles.step_is}
 
 module _ (c : Context) where
   -- what a fault asks for is missing

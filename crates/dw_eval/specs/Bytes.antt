@@ -1,7 +1,6 @@
 -- What a memory holds.
 use Rattle.std.specs.Prelude.{ℕ, zero, suc, ◌+◌, List, [], ◌∷◌, Option, Some, option_and_then, option_map}
-use Rattle.dw_num.specs.declared.target.Order.{Order}
-use Rattle.dw_num.specs.Fixed.{fixed_number}
+use Rattle.dw_num.specs.{Fixed.fixed_number, declared.target.Order.Order}
 
 -- the k bytes from an address on, none where one of them is missing
 abbrev pub bytes_from : (ℕ → Option ℕ) → ℕ → ℕ → Option (List ℕ)

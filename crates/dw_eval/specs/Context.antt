@@ -1,13 +1,7 @@
 -- What an expression is evaluated in: DWARF 5, 2.5.1.
-use Rattle.std.specs.Prelude.{ℕ, ◌+◌, ◌%◌, Option, None, ℤ, nat_le, if◌then◌else◌}
-use Rattle.std.specs.Int.{Width, w32, w64, cast_signed}
-use Rattle.dw_num.specs.declared.target.Size.{Size}
-use Rattle.dw_num.specs.declared.target.Size.TheVariants.{Four, Eight}
-use Rattle.dw_num.specs.declared.target.Target.{Target}
-use Rattle.dw_num.specs.Target.{address_limit}
-use Rattle.dw_eval.specs.declared.env.Env.{Env}
-use Rattle.dw_eval.specs.Bytes.{number_in_memory}
-use Rattle.dw_eval.specs.Registers.{held}
+use Rattle.std.specs.{Prelude.{ℕ, ◌+◌, ◌%◌, Option, None, ℤ, nat_le, if◌then◌else◌}, Int.{Width, w32, w64, cast_signed}}
+use Rattle.dw_num.specs.{Target.address_limit, declared.target.Size.Size, declared.target.Size.TheVariants.{Four, Eight}, declared.target.Target.Target}
+use Rattle.dw_eval.specs.{Bytes.number_in_memory, Registers.held, declared.env.Env.Env}
 
 -- the machine, its registers and memory, and what else may be known
 pub record Context : Type 0 where

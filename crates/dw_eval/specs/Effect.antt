@@ -2,16 +2,12 @@
 use Rattle.std.specs.Prelude.{◌≡◌, ◌≤◌, ℕ, ◌+◌, ◌*◌, ◌/◌, ◌%◌, ◌^◌, List, [], ◌∷◌, slice_get, Option, Some, None, Result, Ok, Err, ℤ, pos, ◌+ℤ◌, ◌-ℤ◌}
 use Rattle.std.specs.Prelude.{Bool, true, false, not, nat_le, nat_eq, if◌then◌else◌, int_lt, int_le, int_div, unsigned_abs, bit_and, bit_or, bit_xor, min}
 use Rattle.std.specs.Int.{int_shr}
-use Rattle.dw_num.specs.declared.target.Size.{Size}
-use Rattle.dw_num.specs.Target.{address_limit, byte_count}
-use Rattle.dw_op.specs.declared.op.Op.{Op}
-use Rattle.dw_op.specs.declared.op.Op.TheVariants.{Addr, Deref, Const, Dup, Drop, Over, Pick, Swap, Rot, Abs, And, Div, Minus, Mod, Mul, Neg, Not, Or, Plus}
-use Rattle.dw_op.specs.declared.op.Op.TheVariants.{PlusUconst, Shl, Shr, Shra, Xor, Bra, Eq, Ge, Gt, Le, Lt, Ne, Skip, Breg, Fbreg}
-use Rattle.dw_op.specs.declared.op.Op.TheVariants.{DerefSize, Nop, PushObjectAddress, CallFrameCfa, StackValue}
-use Rattle.dw_op.specs.Operands.{modulo}
-use Rattle.dw_eval.specs.declared.error.Kind.{Kind}
+use Rattle.dw_num.specs.{Target.{address_limit, byte_count}, declared.target.Size.Size}
+use Rattle.dw_op.specs.{Operands.modulo, declared.op.Op.Op, declared.op.Op.TheVariants.{Addr, Deref, Const, Dup, Drop, Over, Pick, Swap, Rot, Abs}}
+use Rattle.dw_op.specs.declared.op.Op.TheVariants.{And, Div, Minus, Mod, Mul, Neg, Not, Or, Plus, PlusUconst, Shl, Shr, Shra, Xor, Bra, Eq, Ge}
+use Rattle.dw_op.specs.declared.op.Op.TheVariants.{Gt, Le, Lt, Ne, Skip, Breg, Fbreg, DerefSize, Nop, PushObjectAddress, CallFrameCfa, StackValue}
+use Rattle.dw_eval.specs.{Context.{Context, signed, read_at}, declared.error.Kind.Kind}
 use Rattle.dw_eval.specs.declared.error.Kind.TheVariants.{StackUnderflow, DivideByZero, NoRegister, Unreadable, NotAValue, NoFrameBase, NoCfa, NoObject}
-use Rattle.dw_eval.specs.Context.{Context, signed, read_at}
 
 -- on to the next operation, or to this one, with a stack whose top is first; or a fault
 pub data OpEffect : Type 0 where

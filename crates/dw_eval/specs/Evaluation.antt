@@ -1,16 +1,9 @@
 -- The value of an expression: DWARF 5, 2.5.
 use Rattle.std.specs.Prelude.{ℕ, ◌%◌, List, [], ◌∷◌, length, Option, Some, None, Result, Ok, Err}
-use Rattle.dw_num.specs.declared.target.Size.{Size}
-use Rattle.dw_num.specs.Target.{address_limit}
+use Rattle.dw_num.specs.{Target.address_limit, declared.target.Size.Size}
 use Rattle.dw_op.specs.declared.op.Op.{Op}
-use Rattle.dw_eval.specs.declared.error.EvalError.{EvalError}
-use Rattle.dw_eval.specs.declared.error.EvalError.TheVariants.{Fault}
-use Rattle.dw_eval.specs.declared.error.Kind.{Kind}
-use Rattle.dw_eval.specs.declared.error.Kind.TheVariants.{EmptyResult}
-use Rattle.dw_eval.specs.declared.env.Env.{Env}
-use Rattle.dw_eval.specs.Context.{Context, context}
-use Rattle.dw_eval.specs.Effect.{effect, leads, ReadsMemory}
-use Rattle.dw_eval.specs.Runs.{IsResult, MayFail}
+use Rattle.dw_eval.specs.{Context.{Context, context}, Effect.{effect, leads, ReadsMemory}, Runs.{IsResult, MayFail}, declared.env.Env.Env}
+use Rattle.dw_eval.specs.declared.error.{EvalError.EvalError, EvalError.TheVariants.Fault, Kind.Kind, Kind.TheVariants.EmptyResult}
 
 -- before an operation: its index and the stack, the top first
 pub record State : Type 0 where

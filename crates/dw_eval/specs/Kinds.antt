@@ -1,7 +1,7 @@
 -- The numbers and names of the faults.
 use Rattle.std.specs.Prelude.{ℕ, List, codes}
-use Rattle.dw_eval.specs.declared.error.Kind.{Kind}
-use Rattle.dw_eval.specs.declared.error.Kind.TheVariants.{StackUnderflow, DivideByZero, NoRegister, Unreadable, Device, StepLimit, EmptyResult, NotAValue, NoFrameBase, NoCfa, NoObject, MissingPiece}
+use Rattle.dw_eval.specs.declared.error.{Kind.Kind, Kind.TheVariants.{StackUnderflow, DivideByZero, NoRegister, Unreadable, Device}}
+use Rattle.dw_eval.specs.declared.error.Kind.TheVariants.{StepLimit, EmptyResult, NotAValue, NoFrameBase, NoCfa, NoObject, MissingPiece}
 
 -- number and name of each
 abbrev pub kind_entry : Kind → ℕ × List ℕ

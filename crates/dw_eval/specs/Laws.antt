@@ -1,17 +1,9 @@
 -- What holds of evaluations, for the layers above.
 use Rattle.std.specs.Prelude.{ℕ, ◌<◌, List, Ok, Err}
-use Rattle.dw_op.specs.declared.op.Op.{Op}
-use Rattle.dw_op.specs.Ranges.{AllInRange}
-use Rattle.dw_num.specs.Target.{address_limit}
-use Rattle.dw_eval.specs.declared.error.EvalError.TheVariants.{Fault}
-use Rattle.dw_eval.specs.declared.error.Kind.{Kind}
-use Rattle.dw_eval.specs.declared.place.Piece.{Piece}
-use Rattle.dw_eval.specs.Context.{Context}
-use Rattle.dw_num.specs.Laws.{HoldsOfOne}
-use Rattle.dw_eval.specs.Evaluation.{Evaluates}
-use Rattle.dw_eval.specs.Location.{Located}
-use Rattle.dw_eval.specs.Space.{AreInSpace, ArePlacesInSpace}
-use Rattle.dw_eval.specs.Wanted.{IsMissing}
+use Rattle.dw_num.specs.{Laws.HoldsOfOne, Target.address_limit}
+use Rattle.dw_op.specs.{Ranges.AllInRange, declared.op.Op.Op}
+use Rattle.dw_eval.specs.{Context.Context, Evaluation.Evaluates, Location.Located, Space.{AreInSpace, ArePlacesInSpace}, Wanted.IsMissing}
+use Rattle.dw_eval.specs.declared.{error.EvalError.TheVariants.Fault, error.Kind.Kind, place.Piece.Piece}
 
 -- an expression has exactly one answer, whatever is on the stack at the start
 abbrev pub OneResult : Type 0

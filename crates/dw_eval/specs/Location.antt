@@ -1,23 +1,12 @@
 -- Location descriptions: DWARF 5, 2.6.1.
-use Rattle.std.specs.Prelude.{◌≡◌, ℕ, ◌+◌, List, [], ◌∷◌, ◌++◌, length, map, Option, Some, None, Result, Ok, Err}
-use Rattle.std.specs.Global.{Vec}
-use Rattle.dw_op.specs.declared.op.Op.{Op}
-use Rattle.dw_op.specs.declared.op.Op.TheVariants.{Reg, Nop, BitPiece, Implicit, StackValue}
+use Rattle.std.specs.{Prelude.{◌≡◌, ℕ, ◌+◌, List, [], ◌∷◌, ◌++◌, length, map, Option, Some, None, Result, Ok, Err}, Global.Vec}
+use Rattle.dw_op.specs.declared.op.{Op.Op, Op.TheVariants.{Reg, Nop, BitPiece, Implicit, StackValue}}
 use Rattle.dw_op.specs.declared.op.Op.TheVariants as op
-use Rattle.dw_eval.specs.declared.error.EvalError.{EvalError}
-use Rattle.dw_eval.specs.declared.error.EvalError.TheVariants.{Fault}
-use Rattle.dw_eval.specs.declared.error.Kind.{Kind}
-use Rattle.dw_eval.specs.declared.error.Kind.TheVariants.{StackUnderflow, MissingPiece}
-use Rattle.dw_eval.specs.declared.place.Part.{Part}
-use Rattle.dw_eval.specs.declared.place.Part.TheVariants as part
-use Rattle.dw_eval.specs.declared.place.Part.TheVariants.{Whole, Bits}
-use Rattle.dw_eval.specs.declared.place.Piece.{Piece}
-use Rattle.dw_eval.specs.declared.place.Place.{Place}
+use Rattle.dw_eval.specs.{Context.{Context, context}, Effect.{OpEffect, Faults, effect, leads, ReadsMemory}, Runs.{IsResult, MayFail}, declared.env.Env.Env}
+use Rattle.dw_eval.specs.declared.error.{EvalError.EvalError, EvalError.TheVariants.Fault, Kind.Kind, Kind.TheVariants.{StackUnderflow, MissingPiece}}
+use Rattle.dw_eval.specs.declared.place.{Part.Part, Part.TheVariants.{Whole, Bits}, Piece.Piece, Place.Place}
 use Rattle.dw_eval.specs.declared.place.Place.TheVariants.{Empty, Memory, Register, Value, Bytes}
-use Rattle.dw_eval.specs.declared.env.Env.{Env}
-use Rattle.dw_eval.specs.Context.{Context, context}
-use Rattle.dw_eval.specs.Effect.{OpEffect, Faults, effect, leads, ReadsMemory}
-use Rattle.dw_eval.specs.Runs.{IsResult, MayFail}
+use Rattle.dw_eval.specs.declared.place.Part.TheVariants as part
 
 -- before an operation: its index, the stack, the place that waits for its piece, and the pieces so far
 pub record PlaceState : Type 0 where

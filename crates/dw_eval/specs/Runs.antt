@@ -1,10 +1,7 @@
 -- A machine that goes through a list of operations: its runs, and the result of each.
 use Rattle.std.specs.Prelude.{◌≡◌, ◌⊎◌, ℕ, zero, suc, ◌<◌, ◌≤◌, List, length, slice_get, Some, Result, Ok, Err}
 use Rattle.dw_op.specs.declared.op.Op.{Op}
-use Rattle.dw_eval.specs.declared.error.EvalError.{EvalError}
-use Rattle.dw_eval.specs.declared.error.EvalError.TheVariants.{Fault}
-use Rattle.dw_eval.specs.declared.error.Kind.{Kind}
-use Rattle.dw_eval.specs.declared.error.Kind.TheVariants.{StepLimit}
+use Rattle.dw_eval.specs.declared.error.{EvalError.EvalError, EvalError.TheVariants.Fault, Kind.Kind, Kind.TheVariants.StepLimit}
 
 -- of states with an index: what the step of an operation makes of a state, and the state at the start
 module _ {S : Type 0} (index : S → ℕ) (step : Op → S → Result S Kind) (ops : List Op) (start : S) where

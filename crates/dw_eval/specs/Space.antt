@@ -1,11 +1,7 @@
 -- Numbers below 2 ^ N, where N is the number of an address's bits: DWARF 5, 2.5.1.
-use Rattle.std.specs.Prelude.{ℕ, ◌<◌, List}
-use Rattle.std.specs.List.{AllByRecursion}
-use Rattle.dw_num.specs.declared.target.Size.{Size}
-use Rattle.dw_num.specs.Target.{address_limit}
-use Rattle.dw_eval.specs.declared.place.Piece.{Piece}
-use Rattle.dw_eval.specs.declared.place.Place.{Place}
-use Rattle.dw_eval.specs.declared.place.Place.TheVariants.{Memory, Value}
+use Rattle.std.specs.{Prelude.{ℕ, ◌<◌, List}, List.AllByRecursion}
+use Rattle.dw_num.specs.{Target.address_limit, declared.target.Size.Size}
+use Rattle.dw_eval.specs.declared.place.{Piece.Piece, Place.Place, Place.TheVariants.{Memory, Value}}
 
 -- all entries of a stack
 abbrev pub AreInSpace : Size → List ℕ → Type 0

@@ -1,8 +1,7 @@
 -- What a fault of an evaluation asks for.
 use Rattle.std.specs.Prelude.{◌≡◌, None}
-use Rattle.dw_eval.specs.declared.error.Kind.{Kind}
-use Rattle.dw_eval.specs.declared.error.Kind.TheVariants.{NoRegister, Unreadable, NoFrameBase, NoCfa, NoObject}
 use Rattle.dw_eval.specs.Context.{Context, read_at}
+use Rattle.dw_eval.specs.declared.error.{Kind.Kind, Kind.TheVariants.{NoRegister, Unreadable, NoFrameBase, NoCfa, NoObject}}
 
 -- what it asks for is missing: a register's value, bytes of memory, or what else may be known
 abbrev pub IsMissing : Context → Kind → Type 0

@@ -3,10 +3,8 @@
 ghost use Rattle.std.specs.Prelude.{◌≡◌, ℕ, ◌+◌, ◌-◌, ◌^◌, ◌<◌, ◌≤◌, IsTrue, ◌↔◌};
 ghost use Rattle.dw_num.specs.Target.{address_limit, byte_count};
 ghost use Rattle.dw_op.specs.declared.op.Op.TheVariants.{DerefSize};
-ghost use Rattle.dw_eval.specs.declared.error.Kind.TheVariants.{Unreadable};
-ghost use Rattle.dw_eval.specs.Context.{context, read_at};
-ghost use Rattle.dw_eval.specs.Effect.{on_top, known, push, effect, ReadsAt, ReadsMemory};
-ghost use Rattle.dw_eval.specs.Inner.Steps.{Acts};
+ghost use Rattle.dw_eval.specs.{Context.{context, read_at}, Effect.{on_top, known, push, effect, ReadsAt, ReadsMemory}};
+ghost use Rattle.dw_eval.specs.{declared.error.Kind.TheVariants.Unreadable, Inner.Steps.Acts};
 
 use crate::env::Env;
 use crate::error::Kind;

@@ -1,16 +1,11 @@
 //! A location description on the way (2.6).
 
-ghost use Rattle.std.specs.Prelude.{◌≡◌, ◌⊎◌, ℕ, ◌+◌, ◌-◌, ◌^◌, ◌<◌, ◌≤◌, map, option_map, Ok, Err, List, [], ◌∷◌, None, MatchResult, IsTrue, false};
+ghost use Rattle.std.specs.Prelude.{◌≡◌, ◌⊎◌, ℕ, ◌-◌, ◌^◌, ◌<◌, ◌≤◌, map, option_map, Ok, Err, List, [], ◌∷◌, None, MatchResult, IsTrue, false};
 ghost use Rattle.dw_num.specs.Target.{byte_count};
-ghost use Rattle.dw_op.specs.declared.op.Op.TheVariants.{DerefSize};
-ghost use Rattle.dw_op.specs.Expression.{bare};
-ghost use Rattle.dw_eval.specs.declared.error.EvalError.TheVariants.{Fault, OutOfMemory};
-ghost use Rattle.dw_eval.specs.declared.error.Kind.TheVariants.{MissingPiece};
-ghost use Rattle.dw_eval.specs.Context.{context};
-ghost use Rattle.dw_eval.specs.Effect.{effect, ReadsMemory, leads};
-ghost use Rattle.dw_eval.specs.Location.{place_step, place_reads, place_here, with_piece, with_place, with_stack, with_value, pieces_of};
-ghost use Rattle.dw_eval.specs.Inner.Roles.{free_by, held_by, refused_by, step_of};
-ghost use Rattle.dw_eval.specs.Inner.Steps.{StepsTo};
+ghost use Rattle.dw_op.specs.{Expression.bare, declared.op.Op.TheVariants.DerefSize};
+ghost use Rattle.dw_eval.specs.{Context.context, Effect.{effect, ReadsMemory, leads}, Location.{place_step, place_reads, place_here, with_piece}};
+ghost use Rattle.dw_eval.specs.{Location.{with_place, with_stack, with_value, pieces_of}, declared.error.EvalError.TheVariants.{Fault, OutOfMemory}};
+ghost use Rattle.dw_eval.specs.{declared.error.Kind.TheVariants.MissingPiece, Inner.Roles.{free_by, held_by, refused_by, step_of}, Inner.Steps.StepsTo};
 
 use crate::action::act;
 use crate::env::Env;
@@ -31,9 +26,7 @@ pub(crate) struct Description<'a> {
 }
 
 impl<'a> Description<'a> {
-    ghost use Rattle.dw_eval.specs.declared.place.Piece.{Piece};
-    ghost use Rattle.dw_eval.specs.Location.{bare_place, bare_piece};
-    ghost use Rattle.dw_eval.specs.Inner.Description.{bare_role, state_of, StepsWithoutMemory};
+    ghost use Rattle.dw_eval.specs.{Location.{bare_place, bare_piece}, declared.place.Piece.Piece, Inner.Description.{bare_role, state_of, StepsWithoutMemory}};
 
     /// Nothing is described yet. Takes no memory.
     pub(crate) fn new(alloc: Global) -> Description<'a>

@@ -1,18 +1,11 @@
 //! Evaluation of an expression (2.5).
 
-ghost use Rattle.std.specs.Prelude.{◌≡◌, ◌⊎◌, ℕ, ◌+◌, ◌-◌, ◌^◌, ◌<◌, ◌≤◌, length, map, Some, Ok, Err, MatchResult};
+ghost use Rattle.std.specs.Prelude.{◌≡◌, ◌⊎◌, ℕ, ◌-◌, ◌^◌, ◌<◌, ◌≤◌, length, map, Err, MatchResult};
 ghost use Rattle.dw_num.specs.Target.{byte_count};
-ghost use Rattle.dw_op.specs.declared.op.Op.TheVariants.{DerefSize};
-ghost use Rattle.dw_op.specs.Expression.{bare};
-ghost use Rattle.dw_op.specs.Ranges.{AllInRange};
-ghost use Rattle.dw_eval.specs.declared.error.EvalError.TheVariants.{Fault, OutOfMemory};
-ghost use Rattle.dw_eval.specs.declared.error.Kind.{Kind};
-ghost use Rattle.dw_eval.specs.declared.error.Kind.TheVariants.{Device};
-ghost use Rattle.dw_eval.specs.Context.{context};
-ghost use Rattle.dw_eval.specs.Effect.{ReadsMemory};
-ghost use Rattle.dw_eval.specs.Evaluation.{value_step, first_stack, top_of, EvaluatesIn, MayFailIn};
-ghost use Rattle.dw_eval.specs.Inner.Evaluation.{EvaluatesOver};
-ghost use Rattle.dw_eval.specs.Inner.Steps.{reached, StepsTo};
+ghost use Rattle.dw_op.specs.{Expression.bare, Ranges.AllInRange, declared.op.Op.TheVariants.DerefSize};
+ghost use Rattle.dw_eval.specs.{Context.context, Effect.ReadsMemory, Evaluation.{value_step, first_stack, top_of, EvaluatesIn, MayFailIn}};
+ghost use Rattle.dw_eval.specs.declared.error.{EvalError.TheVariants.{Fault, OutOfMemory}, Kind.Kind, Kind.TheVariants.Device};
+ghost use Rattle.dw_eval.specs.Inner.{Evaluation.EvaluatesOver, Steps.{reached, StepsTo}};
 
 use crate::action::act;
 use crate::env::Env;

@@ -1,13 +1,9 @@
 //! Location descriptions (2.6).
 
 ghost use Rattle.std.specs.Prelude.{◌≡◌, ◌⊎◌, ℕ, ◌-◌, ◌^◌, ◌<◌, ◌≤◌, length, map, Ok, Err, MatchResult};
-ghost use Rattle.dw_op.specs.Expression.{bare};
-ghost use Rattle.dw_op.specs.Ranges.{AllInRange};
-ghost use Rattle.dw_eval.specs.declared.error.EvalError.TheVariants.{Fault, OutOfMemory};
-ghost use Rattle.dw_eval.specs.declared.error.Kind.{Kind};
-ghost use Rattle.dw_eval.specs.declared.error.Kind.TheVariants.{Device};
-ghost use Rattle.dw_eval.specs.Context.{context};
-ghost use Rattle.dw_eval.specs.Location.{bare_piece, bare_result, LocatedIn, PlaceMayFailIn};
+ghost use Rattle.dw_op.specs.{Expression.bare, Ranges.AllInRange};
+ghost use Rattle.dw_eval.specs.{Context.context, Location.{bare_piece, bare_result, LocatedIn, PlaceMayFailIn}};
+ghost use Rattle.dw_eval.specs.declared.error.{EvalError.TheVariants.{Fault, OutOfMemory}, Kind.Kind, Kind.TheVariants.Device};
 ghost use Rattle.dw_eval.specs.Inner.Location.{LocatesOver};
 
 use crate::description::Description;

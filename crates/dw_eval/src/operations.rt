@@ -1,12 +1,12 @@
 //! What operations do to the stack: stack operations (2.5.1.3), arithmetic and logic (2.5.1.4), comparisons and
 //! branches (2.5.1.5).
 
-ghost use Rattle.std.specs.Prelude.{◌+◌, ◌*◌, ◌%◌, Some, None, ◌∷◌, slice_get, not, nat_eq, int_le, int_lt, if◌then◌else◌, pos, ◌+ℤ◌, ◌-ℤ◌, int_div, unsigned_abs, bit_and, bit_or, bit_xor};
+ghost use Rattle.std.specs.Prelude.{◌+◌, ◌*◌, ◌%◌, ◌∷◌, slice_get, not, nat_eq, int_le, int_lt, if◌then◌else◌};
+ghost use Rattle.std.specs.Prelude.{pos, ◌+ℤ◌, ◌-ℤ◌, int_div, unsigned_abs, bit_and, bit_or, bit_xor};
 ghost use Rattle.dw_num.specs.Target.{address_limit};
-ghost use Rattle.dw_eval.specs.declared.error.Kind.TheVariants.{StackUnderflow, DivideByZero, NotAValue};
-ghost use Rattle.dw_eval.specs.Context.{signed};
-ghost use Rattle.dw_eval.specs.Effect.{Next, Jump, Faults, on_top, on_two, on_three, known, push, push_signed, tell, shifted_left, shifted_right, shifted_signed};
-ghost use Rattle.dw_eval.specs.Inner.Steps.{Does};
+ghost use Rattle.dw_eval.specs.{Context.signed, Effect.{Next, Jump, Faults, on_top, on_two, on_three, known}};
+ghost use Rattle.dw_eval.specs.Effect.{push, push_signed, tell, shifted_left, shifted_right, shifted_signed};
+ghost use Rattle.dw_eval.specs.{declared.error.Kind.TheVariants.{StackUnderflow, DivideByZero, NotAValue}, Inner.Steps.Does};
 
 use crate::arithmetic;
 use crate::error::Kind;

@@ -1,8 +1,7 @@
 //! Values of registers.
 
 ghost use Rattle.std.specs.Prelude.{◌≡◌, ℕ, ◌+◌, ◌<◌, ◌≤◌, ◌==◌, Some, None, [], length, max, OnOk, OnErr, if◌then◌else◌};
-ghost use Rattle.dw_eval.specs.Registers.{held};
-ghost use Rattle.dw_eval.specs.Inner.Registers.{any_held, near_held};
+ghost use Rattle.dw_eval.specs.{Registers.held, Inner.Registers.{any_held, near_held}};
 
 use std::alloc::{AllocError, Global};
 use std::marker::Model;

@@ -1,9 +1,7 @@
 //! The stack of values (2.5.1).
 
 ghost use Rattle.std.specs.Prelude.{◌≡◌, ℕ, List, [], ◌∷◌, length, slice_get, MatchOption, IfOk, IfErr};
-ghost use Rattle.dw_eval.specs.declared.error.Kind.TheVariants.{StackUnderflow};
-ghost use Rattle.dw_eval.specs.Effect.{OpEffect, Next, Faults, on_top, on_two, on_three};
-ghost use Rattle.dw_eval.specs.Inner.Steps.{Does};
+ghost use Rattle.dw_eval.specs.{Effect.{OpEffect, Next, Faults, on_top, on_two, on_three}, declared.error.Kind.TheVariants.StackUnderflow, Inner.Steps.Does};
 
 use crate::error::Kind;
 use std::alloc::Global;

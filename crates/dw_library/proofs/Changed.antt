@@ -1,13 +1,12 @@
 -- Changes of an FDE and their rules, one after another over two buffers.
-use Rattle.dw_library.proofs.Words.{◌≡◌, ℕ, zero, suc, ◌+◌, ◌-◌, ◌^◌, ◌<◌, ◌≤◌, List, [], ◌∷◌, ◌++◌, length, map, min, get_or, slice_set, true, false, refl, sym, ap, subst, ◌∙◌, arith, inl, inr, Option, Some, None, Ok, AllByRecursion}
-use Rattle.dw_library.proofs.Words.{leb_tells, flat_map_more, get_or-map, length-append, length-map, map_push, same_Some, mid_of, put_mid, Target, Rules, Accepted, IsAmong, AreFdes, ChangesOf, IsTable, fde_in, Ranged, Fde, Change, Rule}
-use Rattle.dw_library.proofs.Words.{Room, AreWritten, change_of, over, rule_of, IsLow, IsLeft}
 use Rattle.dw_num.specs.{Input.AreBytes, Target.address_limit, declared.target.Size.Size, declared.target.Size.TheVariants.{Four, Eight}}
 use Rattle.dw_cfa.specs.declared.instr.Instr.{Instr}
 use Rattle.dw_section.specs.Changes.{AreChanges, Changing, ChangesBehind, GivesAddress}
 use Rattle.dw_section.proofs.Lent.{FdeLookup.listed_are, Sections.begin_low}
-use Rattle.dw_library.specs.{declared.changes.Totals.Totals, Changes.rules_in}
-use Rattle.dw_library.proofs.Written.{over_full, over_length, written_left}
+use Rattle.dw_library.specs.{Changes.rules_in, declared.changes.Totals.Totals}
+use Rattle.dw_library.proofs.Words.{◌≡◌, ℕ, zero, suc, ◌+◌, ◌-◌, ◌^◌, ◌<◌, ◌≤◌, List, [], ◌∷◌, ◌++◌, length, map, min, get_or, slice_set, true, false, refl, sym, ap, subst, ◌∙◌, arith, inl, inr, Option}
+use Rattle.dw_library.proofs.Words.{Some, None, Ok, AllByRecursion, leb_tells, flat_map_more, get_or-map, length-append, length-map, map_push, same_Some, mid_of, put_mid, Target, Rules, Accepted, IsAmong}
+use Rattle.dw_library.proofs.{Words.{AreFdes, ChangesOf, IsTable, fde_in, Ranged, Fde, Change, Rule, Room, AreWritten, change_of, over, rule_of, IsLow, IsLeft}, Written.{over_full, over_length, written_left}}
 
 -- ---- one more
 

@@ -1,13 +1,8 @@
 -- What a caller in C gives and is told, in the numbers of the header.
 use Rattle.std.specs.Prelude.{ℕ, Option, Some, None, nat_eq, if◌then◌else◌}
-use Rattle.dw_num.specs.Codes.{code_entry}
-use Rattle.dw_num.specs.declared.refusal.Refusal.{Refusal}
-use Rattle.dw_num.specs.declared.target.Order.TheVariants.{Little, Big}
-use Rattle.dw_num.specs.declared.target.Size.{Size}
-use Rattle.dw_num.specs.declared.target.Size.TheVariants.{Four, Eight}
-use Rattle.dw_num.specs.declared.target.Target.{Target}
-use Rattle.dw_library.specs.declared.answer.Refused.{Refused}
-use Rattle.dw_library.specs.declared.answer.Counts.{Counts}
+use Rattle.dw_num.specs.{Codes.code_entry, declared.refusal.Refusal.Refusal}
+use Rattle.dw_num.specs.declared.target.{Order.TheVariants.{Little, Big}, Size.Size, Size.TheVariants.{Four, Eight}, Target.Target}
+use Rattle.dw_library.specs.declared.answer.{Counts.Counts, Refused.Refused}
 
 -- ---- statuses
 

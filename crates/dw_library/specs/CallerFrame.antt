@@ -1,30 +1,16 @@
 -- What a caller in C is told of a frame.
 use Rattle.std.specs.Prelude.{◌≡◌, ◌⊎◌, ℕ, List, [], ◌∷◌, Result, map, length, Option, Some, None, Ok, Err, nat_eq, if◌then◌else◌}
-use Rattle.dw_num.specs.declared.refusal.Refusal.{Refusal}
-use Rattle.dw_num.specs.declared.target.Target.{Target}
-use Rattle.dw_eval.specs.declared.error.Kind.{Kind}
+use Rattle.dw_num.specs.declared.{refusal.Refusal.Refusal, target.Target.Target}
+use Rattle.dw_eval.specs.{Kinds.kind_entry, Registers.held, declared.error.Kind.Kind}
+use Rattle.dw_eval.specs.declared.policy.{Policy.Policy, Policy.TheVariants.{SameValue, Undefined}}
 use Rattle.dw_eval.specs.declared.error.Kind.TheVariants as kinds
-use Rattle.dw_eval.specs.Kinds.{kind_entry}
-use Rattle.dw_eval.specs.Registers.{held}
 use Rattle.dw_section.specs.Accepted.{Accepted, CheckFault}
-use Rattle.dw_unwind.specs.Unwound.{Unwound, stopped}
-use Rattle.dw_unwind.specs.declared.frame.Frame.{Frame as CallerFrame}
-use Rattle.dw_unwind.specs.declared.frame.Column.{Column}
-use Rattle.dw_unwind.specs.declared.frame.Column.TheVariants.{Cfa, Register as RegisterColumn}
-use Rattle.dw_eval.specs.declared.policy.Policy.{Policy}
-use Rattle.dw_eval.specs.declared.policy.Policy.TheVariants.{SameValue, Undefined}
-use Rattle.dw_unwind.specs.declared.frame.UnwindError.{UnwindError}
+use Rattle.dw_unwind.specs.{Unwound.{Unwound, stopped}, declared.frame.Column.Column}
+use Rattle.dw_unwind.specs.declared.frame.{Column.TheVariants.{Cfa, Register as RegisterColumn}, Frame.{Frame as CallerFrame}, UnwindError.UnwindError}
 use Rattle.dw_unwind.specs.declared.frame.UnwindError.TheVariants as errors
-use Rattle.dw_library.specs.declared.answer.Refused.{Refused}
-use Rattle.dw_library.specs.declared.registers.Register.{Register}
-use Rattle.dw_library.specs.declared.caller.Fault.{Fault}
-use Rattle.dw_library.specs.declared.caller.Frame.{Frame}
-use Rattle.dw_library.specs.declared.caller.Held.{Held}
-use Rattle.dw_library.specs.declared.caller.Stop.{Stop}
-use Rattle.dw_library.specs.declared.windows.Window.{Window}
-use Rattle.dw_library.specs.Answers.{refused, out_of_memory, bad_argument, not_refused, told}
-use Rattle.dw_library.specs.Registers.{given_in, told_register, AreTold}
-use Rattle.dw_library.specs.Windows.{byte_among}
+use Rattle.dw_library.specs.{Answers.{refused, out_of_memory, bad_argument, not_refused, told}, Registers.{given_in, told_register, AreTold}}
+use Rattle.dw_library.specs.{Windows.byte_among, declared.answer.Refused.Refused, declared.caller.Fault.Fault}
+use Rattle.dw_library.specs.declared.{caller.Frame.Frame, caller.Held.Held, caller.Stop.Stop, registers.Register.Register, windows.Window.Window}
 
 -- what a register is taken as that no instruction has set: 0 for unchanged, 1 for undefined
 abbrev pub policy_of : ℕ → Option Policy

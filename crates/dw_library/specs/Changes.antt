@@ -1,19 +1,10 @@
 -- What a caller in C is told of the rows of an FDE.
-use Rattle.std.specs.Prelude.{◌≡◌, ◌⊎◌, ◌-◌, ◌^◌, ◌<◌, ◌≤◌, ℕ, List, length, map, min, Option, Some, None}
-use Rattle.std.specs.List.{flat_map}
-use Rattle.dw_num.specs.declared.refusal.Refusal.{Refusal}
-use Rattle.dw_num.specs.declared.target.Target.{Target}
+use Rattle.std.specs.{Prelude.{◌≡◌, ◌⊎◌, ◌-◌, ◌^◌, ◌<◌, ◌≤◌, ℕ, List, length, map, min, Option, Some, None}, List.flat_map}
+use Rattle.dw_num.specs.declared.{refusal.Refusal.Refusal, target.Target.Target}
 use Rattle.dw_cfa.specs.Rows.{Rules}
-use Rattle.dw_section.specs.Accepted.{Accepted, CheckFault}
-use Rattle.dw_section.specs.Meaning.{AreFdes, ChangesOf, Covers, NoneCovers}
-use Rattle.dw_section.specs.Among.{IsAmong}
-use Rattle.dw_section.specs.declared.lookup.Fde.{Fde}
-use Rattle.dw_library.specs.declared.answer.Refused.{Refused}
-use Rattle.dw_library.specs.declared.changes.Change.{Change}
-use Rattle.dw_library.specs.declared.changes.Totals.{Totals}
-use Rattle.dw_library.specs.declared.index.Rule.{Rule}
-use Rattle.dw_library.specs.Answers.{ok, refused, out_of_memory, bad_argument, too_short, not_refused, told}
-use Rattle.dw_library.specs.Index.{over, row_of, rule_of}
+use Rattle.dw_section.specs.{Accepted.{Accepted, CheckFault}, Among.IsAmong, Meaning.{AreFdes, ChangesOf, Covers, NoneCovers}, declared.lookup.Fde.Fde}
+use Rattle.dw_library.specs.{Answers.{ok, refused, out_of_memory, bad_argument, too_short, not_refused, told}, Index.{over, row_of, rule_of}}
+use Rattle.dw_library.specs.declared.{answer.Refused.Refused, changes.Change.Change, changes.Totals.Totals, index.Rule.Rule}
 
 -- ---- changes as they are told
 

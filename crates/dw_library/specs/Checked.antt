@@ -1,14 +1,9 @@
 -- What a caller in C is told of a section.
 use Rattle.std.specs.Prelude.{◌≡◌, ◌⊎◌, ℕ, List, Option, Some, None}
-use Rattle.dw_num.specs.declared.refusal.Refusal.{Refusal}
-use Rattle.dw_num.specs.declared.target.Target.{Target}
-use Rattle.dw_section.specs.Accepted.{Accepted, CheckFault}
-use Rattle.dw_section.specs.Counts.{AreCounts}
-use Rattle.dw_section.specs.Cut.{Piece}
-use Rattle.dw_section.specs.Pieces.{Pieces}
-use Rattle.dw_library.specs.declared.answer.Refused.{Refused}
-use Rattle.dw_library.specs.declared.answer.Counts.{Counts}
+use Rattle.dw_num.specs.declared.{refusal.Refusal.Refusal, target.Target.Target}
+use Rattle.dw_section.specs.{Accepted.{Accepted, CheckFault}, Counts.AreCounts, Cut.Piece, Pieces.Pieces}
 use Rattle.dw_library.specs.Answers.{ok, refused, out_of_memory, bad_argument, not_refused, told, no_entries}
+use Rattle.dw_library.specs.declared.answer.{Counts.Counts, Refused.Refused}
 
 -- so many CIEs and FDEs
 abbrev pub HasCounts : Target → List ℕ → Counts → Type 0

@@ -1,24 +1,13 @@
 -- What a caller in C is told of an expression that is evaluated by itself.
 use Rattle.std.specs.Prelude.{◌≡◌, ◌⊎◌, ℕ, List, Option, Some, None, Result, Ok, Err, nat_eq, if◌then◌else◌}
-use Rattle.dw_num.specs.declared.refusal.Refusal.{Refusal}
-use Rattle.dw_num.specs.declared.target.Target.{Target}
-use Rattle.dw_op.specs.declared.op.Op.{Op}
-use Rattle.dw_op.specs.declared.profile.Profile.TheVariants.{Location}
-use Rattle.dw_op.specs.Faults.{BlockFault, IsBlock}
-use Rattle.dw_eval.specs.declared.error.EvalError.{EvalError}
-use Rattle.dw_eval.specs.declared.error.EvalError.TheVariants.{Fault as Faults}
-use Rattle.dw_eval.specs.declared.error.Kind.{Kind}
-use Rattle.dw_eval.specs.Context.{Context as Surroundings}
-use Rattle.dw_eval.specs.Evaluation.{Evaluates, first_stack}
-use Rattle.dw_eval.specs.Registers.{held}
+use Rattle.dw_num.specs.declared.{refusal.Refusal.Refusal, target.Target.Target}
+use Rattle.dw_op.specs.{Faults.{BlockFault, IsBlock}, declared.op.Op.Op, declared.profile.Profile.TheVariants.Location}
+use Rattle.dw_eval.specs.{Context.{Context as Surroundings}, Evaluation.{Evaluates, first_stack}, Registers.held}
+use Rattle.dw_eval.specs.declared.error.{EvalError.EvalError, EvalError.TheVariants.{Fault as Faults}, Kind.Kind}
 use Rattle.dw_unwind.specs.declared.frame.Column.TheVariants.{Register as RegisterColumn}
-use Rattle.dw_library.specs.declared.answer.Refused.{Refused}
-use Rattle.dw_library.specs.declared.caller.Fault.{Fault}
-use Rattle.dw_library.specs.declared.evaluation.Context.{Context}
 use Rattle.dw_library.specs.Answers.{ok, refused, out_of_memory, bad_argument, not_refused, told}
-use Rattle.dw_library.specs.CallerFrame.{Machine, fault_of_kind, no_fault}
-use Rattle.dw_library.specs.Registers.{given_in}
-use Rattle.dw_library.specs.Windows.{byte_among}
+use Rattle.dw_library.specs.{CallerFrame.{Machine, fault_of_kind, no_fault}, Registers.given_in, Windows.byte_among}
+use Rattle.dw_library.specs.declared.{answer.Refused.Refused, caller.Fault.Fault, evaluation.Context.Context}
 
 -- ---- what is given
 

@@ -1,24 +1,14 @@
 -- What a caller in C is told of the expressions of a row.
 use Rattle.std.specs.Prelude.{◌≡◌, ◌⊎◌, ◌+◌, ◌<◌, ◌≤◌, ℕ, List, [], ◌∷◌, ◌++◌, length, drop, Option, Some, None}
-use Rattle.dw_num.specs.declared.refusal.Refusal.{Refusal}
-use Rattle.dw_num.specs.declared.target.Target.{Target}
-use Rattle.dw_op.specs.Expression.{Expression as Operations}
-use Rattle.dw_op.specs.Least.{LeastBlock}
-use Rattle.dw_cfa.specs.Rows.{Rules}
-use Rattle.dw_cfa.specs.declared.rule.CfaRule.{CfaRule}
+use Rattle.dw_num.specs.declared.{refusal.Refusal.Refusal, target.Target.Target}
+use Rattle.dw_op.specs.{Expression.{Expression as Operations}, Faults.IsWithin, Least.LeastBlock}
+use Rattle.dw_cfa.specs.{Rows.Rules, declared.rule.CfaRule.CfaRule}
+use Rattle.dw_cfa.specs.declared.rule.{RegRule.RegRule, RegRule.TheVariants.{Expression, ValExpression}}
 use Rattle.dw_cfa.specs.declared.rule.CfaRule.TheVariants as cfa
-use Rattle.dw_cfa.specs.declared.rule.RegRule.{RegRule}
-use Rattle.dw_cfa.specs.declared.rule.RegRule.TheVariants.{Expression, ValExpression}
-use Rattle.dw_op.specs.Faults.{IsWithin}
-use Rattle.dw_section.specs.Meaning.{AreFdes, NoneCovers, RulesAt}
-use Rattle.dw_section.specs.Ranges.{LeadsTo, Uncovered, IsTable}
-use Rattle.dw_section.specs.StandingFde.{LookUpFault, Misleads, Ruled, RulesOf}
-use Rattle.dw_section.specs.declared.fde_range.Ranged.{Ranged}
-use Rattle.dw_section.specs.declared.lookup.Fde.{Fde}
-use Rattle.dw_library.specs.declared.answer.Refused.{Refused}
-use Rattle.dw_library.specs.declared.expressions.Block.{Block}
-use Rattle.dw_library.specs.declared.expressions.Blocks.{Blocks}
+use Rattle.dw_section.specs.{Meaning.{AreFdes, NoneCovers, RulesAt}, Ranges.{LeadsTo, Uncovered, IsTable}}
+use Rattle.dw_section.specs.{StandingFde.{LookUpFault, Misleads, Ruled, RulesOf}, declared.fde_range.Ranged.Ranged, declared.lookup.Fde.Fde}
 use Rattle.dw_library.specs.Answers.{ok, refused, out_of_memory, bad_argument, too_short, not_refused, told}
+use Rattle.dw_library.specs.declared.{answer.Refused.Refused, expressions.Block.Block, expressions.Blocks.Blocks}
 
 -- ---- the expressions of a row, each under its column
 

@@ -1,16 +1,11 @@
 -- What a caller in C is told of a normal form, and of two sections.
 use Rattle.std.specs.Prelude.{◌≡◌, ◌⊎◌, ◌<◌, ◌≤◌, ℕ, List, ◌++◌, length, drop, Option, Some, None, nat_eq, if◌then◌else◌}
-use Rattle.dw_num.specs.declared.refusal.Refusal.{Refusal}
-use Rattle.dw_num.specs.declared.target.Target.{Target}
-use Rattle.dw_section.specs.Accepted.{Accepted}
-use Rattle.dw_section.specs.Meanings.{SameMeaning}
+use Rattle.dw_num.specs.declared.{refusal.Refusal.Refusal, target.Target.Target}
+use Rattle.dw_section.specs.{Accepted.Accepted, Meanings.SameMeaning}
 use Rattle.dw_canon.specs.Normal.{IsNormalForm}
-use Rattle.dw_normal.specs.Answers.{NormalFault, SameFault}
+use Rattle.dw_normal.specs.{Answers.{NormalFault, SameFault}, declared.error.Which.Which, declared.error.Which.TheVariants.{First, Second}}
 use Rattle.dw_normal.specs.declared.error.SameError.TheVariants as same_error
-use Rattle.dw_normal.specs.declared.error.Which.{Which}
-use Rattle.dw_normal.specs.declared.error.Which.TheVariants.{First, Second}
-use Rattle.dw_library.specs.declared.answer.Refused.{Refused}
-use Rattle.dw_library.specs.Answers.{ok, refused, out_of_memory, bad_argument, too_short, not_refused, target_of, told}
+use Rattle.dw_library.specs.{Answers.{ok, refused, out_of_memory, bad_argument, too_short, not_refused, target_of, told}, declared.answer.Refused.Refused}
 
 -- the machine of two sections, where it is one
 abbrev pub target_of_both : ℕ → ℕ → ℕ → ℕ → Option Target

@@ -1,21 +1,13 @@
 -- What a caller in C is told of a frame by an index.
 use Rattle.std.specs.Prelude.{◌≡◌, ◌⊎◌, ℕ, List, map, Option, Some, None, Result, Ok, Err}
 use Rattle.dw_num.specs.declared.target.Target.{Target}
-use Rattle.dw_eval.specs.declared.policy.Policy.{Policy}
-use Rattle.dw_eval.specs.Registers.{held}
-use Rattle.dw_section.specs.declared.fde_range.Ranged.{Ranged}
-use Rattle.dw_section.specs.Ranges.{IsTable}
-use Rattle.dw_unwind.specs.Unwound.{stopped}
-use Rattle.dw_unwind.specs.UnwoundAt.{UnwoundAt}
-use Rattle.dw_unwind.specs.declared.by_index.UnwindAtError.{UnwindAtError}
-use Rattle.dw_unwind.specs.declared.by_index.UnwindAtError.TheVariants.{BadIndex, Refused, Unwind}
-use Rattle.dw_unwind.specs.declared.frame.Frame.{Frame as CallerFrame}
-use Rattle.dw_library.specs.declared.caller.Stop.{Stop}
-use Rattle.dw_library.specs.declared.registers.Register.{Register}
+use Rattle.dw_eval.specs.{Registers.held, declared.policy.Policy.Policy}
+use Rattle.dw_section.specs.{Ranges.IsTable, declared.fde_range.Ranged.Ranged}
+use Rattle.dw_unwind.specs.{Unwound.stopped, UnwoundAt.UnwoundAt, declared.by_index.UnwindAtError.UnwindAtError}
+use Rattle.dw_unwind.specs.declared.{by_index.UnwindAtError.TheVariants.{BadIndex, Refused, Unwind}, frame.Frame.{Frame as CallerFrame}}
 use Rattle.dw_library.specs.Answers.{refused, out_of_memory, bad_argument, not_refused, told}
 use Rattle.dw_library.specs.CallerFrame.{Machine, Told, IsUnwound, no_frame, no_fault, says, status_of, told_fault, told_frame}
-use Rattle.dw_library.specs.Registers.{given_in, told_register, AreTold}
-use Rattle.dw_library.specs.Windows.{byte_among}
+use Rattle.dw_library.specs.{Registers.{given_in, told_register, AreTold}, Windows.byte_among, declared.caller.Stop.Stop, declared.registers.Register.Register}
 
 -- a machine that holds this stopped: its caller's frame by the FDE that stands where an index leads, or why there is none
 pub record IsFrameAt (target : Target) (policy : Policy) (s : List ℕ) (index : List Ranged) (stop : Stop) (m : Machine) (answer : Result CallerFrame UnwindAtError) : Type 0 where

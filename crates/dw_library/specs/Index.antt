@@ -1,24 +1,14 @@
 -- What a caller in C is told of an index, and of a look-up by it.
 use Rattle.std.specs.Prelude.{◌≡◌, ◌⊎◌, ◌+◌, ◌-◌, ◌<◌, ◌≤◌, ℕ, ℤ, pos, List, [], ◌∷◌, ◌++◌, length, drop, map, nat_le, if◌then◌else◌, Option, Some, None}
-use Rattle.dw_num.specs.declared.refusal.Refusal.{Refusal}
-use Rattle.dw_num.specs.declared.target.Target.{Target}
-use Rattle.dw_cfa.specs.Rows.{Rules}
-use Rattle.dw_cfa.specs.declared.rule.CfaRule.{CfaRule}
-use Rattle.dw_cfa.specs.declared.rule.CfaRule.TheVariants as cfa
-use Rattle.dw_cfa.specs.declared.rule.RegRule.{RegRule}
-use Rattle.dw_cfa.specs.declared.rule.RegRule.TheVariants.{Unspecified, Undefined, SameValue, Offset, ValOffset, Register, Expression, ValExpression}
-use Rattle.dw_section.specs.Accepted.{CheckFault}
+use Rattle.dw_num.specs.declared.{refusal.Refusal.Refusal, target.Target.Target}
 use Rattle.dw_op.specs.Faults.{IsWithin}
-use Rattle.dw_section.specs.Meaning.{AreFdes, NoneCovers, RulesAt}
-use Rattle.dw_section.specs.Among.{IsAmong}
-use Rattle.dw_section.specs.Ranges.{LeadsTo, Uncovered, IsTable}
-use Rattle.dw_section.specs.StandingFde.{LookUpFault, Misleads, Ruled, RulesOf}
-use Rattle.dw_section.specs.declared.fde_range.Ranged.{Ranged}
-use Rattle.dw_section.specs.declared.lookup.Fde.{Fde}
-use Rattle.dw_library.specs.declared.answer.Refused.{Refused}
-use Rattle.dw_library.specs.declared.index.Row.{Row}
-use Rattle.dw_library.specs.declared.index.Rule.{Rule}
+use Rattle.dw_cfa.specs.{Rows.Rules, declared.rule.CfaRule.CfaRule, declared.rule.RegRule.RegRule}
+use Rattle.dw_cfa.specs.declared.rule.RegRule.TheVariants.{Unspecified, Undefined, SameValue, Offset, ValOffset, Register, Expression, ValExpression}
+use Rattle.dw_cfa.specs.declared.rule.CfaRule.TheVariants as cfa
+use Rattle.dw_section.specs.{Accepted.CheckFault, Among.IsAmong, Meaning.{AreFdes, NoneCovers, RulesAt}, Ranges.{LeadsTo, Uncovered, IsTable}}
+use Rattle.dw_section.specs.{StandingFde.{LookUpFault, Misleads, Ruled, RulesOf}, declared.fde_range.Ranged.Ranged, declared.lookup.Fde.Fde}
 use Rattle.dw_library.specs.Answers.{ok, refused, out_of_memory, bad_argument, too_short, not_refused, told}
+use Rattle.dw_library.specs.declared.{answer.Refused.Refused, index.Row.Row, index.Rule.Rule}
 
 -- ---- the index
 

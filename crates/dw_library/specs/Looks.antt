@@ -1,18 +1,11 @@
 -- What a caller in C is told of many addresses.
 use Rattle.std.specs.Prelude.{◌≡◌, ◌⊎◌, ◌<◌, ◌≤◌, ℕ, List, [], ◌++◌, length, take, drop, map, nat_le, if◌then◌else◌, Option, Some, None}
 use Rattle.std.specs.List.{AllZip, flat_map}
-use Rattle.dw_num.specs.declared.refusal.Refusal.{Refusal}
-use Rattle.dw_num.specs.declared.target.Target.{Target}
-use Rattle.dw_section.specs.Accepted.{Accepted, CheckFault}
-use Rattle.dw_section.specs.Meaning.{AreFdes, Covers, NoneCovers, RulesAt}
-use Rattle.dw_section.specs.Among.{IsAmong}
-use Rattle.dw_section.specs.StandingFde.{Ruled}
-use Rattle.dw_section.specs.declared.lookup.Fde.{Fde}
-use Rattle.dw_library.specs.declared.answer.Refused.{Refused}
-use Rattle.dw_library.specs.declared.index.Row.{Row}
-use Rattle.dw_library.specs.declared.index.Rule.{Rule}
-use Rattle.dw_library.specs.Answers.{ok, refused, out_of_memory, bad_argument, too_short, not_refused, told}
-use Rattle.dw_library.specs.Index.{IsTold, no_row, over, rule_of}
+use Rattle.dw_num.specs.declared.{refusal.Refusal.Refusal, target.Target.Target}
+use Rattle.dw_section.specs.{Accepted.{Accepted, CheckFault}, Among.IsAmong}
+use Rattle.dw_section.specs.{Meaning.{AreFdes, Covers, NoneCovers, RulesAt}, StandingFde.Ruled, declared.lookup.Fde.Fde}
+use Rattle.dw_library.specs.{Answers.{ok, refused, out_of_memory, bad_argument, too_short, not_refused, told}, Index.{IsTold, no_row, over, rule_of}}
+use Rattle.dw_library.specs.declared.{answer.Refused.Refused, index.Row.Row, index.Rule.Rule}
 
 -- what is told of an address: a row, and the rules of its registers
 pub record Look : Type 0 where

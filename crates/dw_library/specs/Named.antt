@@ -1,8 +1,8 @@
 -- What a caller in C is told of the numbers of statuses, refusals and faults.
 use Rattle.std.specs.Prelude.{◌≡◌, ◌⊎◌, ◌+◌, ◌<◌, ◌≤◌, ℕ, List, ◌∷◌, ◌++◌, length, drop, codes}
 use Rattle.dw_num.specs.Codes.{code_entry}
-use Rattle.dw_library.specs.declared.names.Status.{Status}
-use Rattle.dw_library.specs.declared.names.Status.TheVariants.{Ok, Refused, OutOfMemory, BadArgument, TooShort, NoFde, NoValue, Unreadable, NoRegister, Device, BadIndex}
+use Rattle.dw_library.specs.declared.names.{Status.Status, Status.TheVariants.{Ok, Refused, OutOfMemory, BadArgument, TooShort}}
+use Rattle.dw_library.specs.declared.names.Status.TheVariants.{NoFde, NoValue, Unreadable, NoRegister, Device, BadIndex}
 
 -- a text and a zero byte at the front of a buffer, where both fit; else the buffer stays
 abbrev pub HoldsText : List ℕ → List ℕ → List ℕ → Type 0

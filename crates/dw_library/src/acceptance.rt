@@ -1,7 +1,6 @@
 //! Whether a section is accepted, and the names of refusals.
 
-ghost use Rattle.dw_library.specs.Answers.{target_of};
-ghost use Rattle.dw_library.specs.Checked.{HasCounts, IsChecked};
+ghost use Rattle.dw_library.specs.{Answers.target_of, Checked.{HasCounts, IsChecked}};
 
 use crate::answer::{
     BAD_ARGUMENT, Counts, OK, OUT_OF_MEMORY, Refused, Section, not_refused, refuse, target_of,

@@ -1,16 +1,10 @@
 //! The rows of an FDE, one after another.
 
-ghost use Rattle.std.specs.Prelude.{◌≡◌, ◌+◌, ◌-◌, ◌<◌, ◌≤◌, ◌++◌, ℕ, List, [], ◌∷◌, length, min, slice_index_or, slice_set, IfOk, OnErr};
-ghost use Rattle.std.specs.List.{AllByRecursion};
+ghost use Rattle.std.specs.{Prelude.{◌≡◌, ◌<◌, ◌≤◌, ◌++◌, ℕ, List, [], ◌∷◌, length, slice_index_or, slice_set, IfOk, OnErr}, List.AllByRecursion};
 ghost use Rattle.dw_cfa.specs.Rows.{Rules};
-ghost use Rattle.dw_section.specs.Meaning.{AreFdes};
-ghost use Rattle.dw_section.specs.Ranges.{fde_in};
-ghost use Rattle.dw_section.specs.declared.lookup.Fde.{Fde as TheFde};
-ghost use Rattle.dw_library.specs.declared.changes.Change.{Change as TheChange};
-ghost use Rattle.dw_library.specs.declared.index.Rule.{Rule as TheRule};
-ghost use Rattle.dw_library.specs.Answers.{target_of};
-ghost use Rattle.dw_library.specs.Changes.{AreAllChanges, AreWritten, Fits, TellsChanges, TellsCovering, Told, no_totals};
-ghost use Rattle.dw_library.specs.Inner.Changes.{IsLow};
+ghost use Rattle.dw_section.specs.{Meaning.AreFdes, Ranges.fde_in, declared.lookup.Fde.{Fde as TheFde}};
+ghost use Rattle.dw_library.specs.{Answers.target_of, Changes.{AreAllChanges, AreWritten, Fits, TellsChanges, TellsCovering, Told, no_totals}};
+ghost use Rattle.dw_library.specs.{declared.changes.Change.{Change as TheChange}, declared.index.Rule.{Rule as TheRule}, Inner.Changes.IsLow};
 
 use crate::answer::{
     BAD_ARGUMENT, NO_FDE, OK, OUT_OF_MEMORY, Refused, Section, TOO_SHORT, not_refused, refuse,

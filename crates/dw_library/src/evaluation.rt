@@ -2,9 +2,7 @@
 
 ghost use Rattle.std.specs.Prelude.{◌≡◌, ◌⊎◌, Err};
 ghost use Rattle.dw_eval.specs.declared.error.EvalError.TheVariants.{OutOfMemory};
-ghost use Rattle.dw_library.specs.Answers.{target_of};
-ghost use Rattle.dw_library.specs.CallerFrame.{held_in};
-ghost use Rattle.dw_library.specs.Evaluation.{IsEvaluated, Told, ValueOf, known_if};
+ghost use Rattle.dw_library.specs.{Answers.target_of, CallerFrame.held_in, Evaluation.{IsEvaluated, Told, ValueOf, known_if}};
 
 use crate::answer::{BAD_ARGUMENT, OK, OUT_OF_MEMORY, Refused, not_refused, refuse, target_of};
 use crate::caller::{Fault, Held, NO_FAULT, NO_VALUE, fault_of_kind};

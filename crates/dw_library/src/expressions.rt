@@ -1,9 +1,8 @@
 //! The expressions of a row, in buffers that the caller lends.
 
 ghost use Rattle.std.specs.Prelude.{◌≡◌, ◌⊎◌, [], ◌∷◌, IfOk, OnOk};
-ghost use Rattle.dw_library.specs.Answers.{out_of_memory, target_of};
-ghost use Rattle.dw_library.specs.Expressions.{AreAnyExpressions, AreBlocks, AreExpressions, ArePut, Buffers, TellsBlocks, Told, expressions_of, in_cfa, in_rule, no_blocks, says};
-ghost use Rattle.dw_library.specs.Inner.Expressions.{Adds};
+ghost use Rattle.dw_library.specs.{Answers.{out_of_memory, target_of}, Expressions.{AreAnyExpressions, AreBlocks, AreExpressions, ArePut, Buffers}};
+ghost use Rattle.dw_library.specs.{Expressions.{TellsBlocks, Told, expressions_of, in_cfa, in_rule, no_blocks, says}, Inner.Expressions.Adds};
 
 use crate::answer::{
     BAD_ARGUMENT, BAD_INDEX, NO_FDE, OK, OUT_OF_MEMORY, Refused, Section, TOO_SHORT, not_refused,

@@ -1,8 +1,7 @@
 //! Normal forms, and whether two sections say the same.
 
 ghost use Rattle.std.specs.Prelude.{◌≡◌};
-ghost use Rattle.dw_library.specs.Answers.{target_of};
-ghost use Rattle.dw_library.specs.Forms.{IsCompared, IsNormalised, section_of, target_of_both};
+ghost use Rattle.dw_library.specs.{Answers.target_of, Forms.{IsCompared, IsNormalised, section_of, target_of_both}};
 
 use crate::answer::{
     BAD_ARGUMENT, OK, OUT_OF_MEMORY, Refused, Section, not_refused, put_front, refuse, target_of,

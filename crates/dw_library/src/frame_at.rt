@@ -2,10 +2,8 @@
 
 ghost use Rattle.std.specs.Prelude.{Ok, MatchResult};
 ghost use Rattle.dw_section.specs.Ranges.{IsTable};
-ghost use Rattle.dw_library.specs.Answers.{target_of};
-ghost use Rattle.dw_library.specs.CallerFrame.{IsFrame, IsUnwound, Told, held_in, policy_of};
-ghost use Rattle.dw_library.specs.FrameAt.{IsAnyUnwound, IsFrameAt, IsOwnUnwound};
-ghost use Rattle.dw_library.specs.Inner.FrameAt.{Why, WhyOwn};
+ghost use Rattle.dw_library.specs.{Answers.target_of, CallerFrame.{IsFrame, IsUnwound, Told, held_in, policy_of}};
+ghost use Rattle.dw_library.specs.{FrameAt.{IsAnyUnwound, IsFrameAt, IsOwnUnwound}, Inner.FrameAt.{Why, WhyOwn}};
 
 use crate::answer::{
     BAD_ARGUMENT, BAD_INDEX, OUT_OF_MEMORY, Refused, Section, not_refused, refuse, target_of,

@@ -2,11 +2,10 @@
 
 ghost use Rattle.std.specs.Prelude.{◌≡◌, ◌+◌, ◌<◌, ◌≤◌, IfOk, IfErr, OnErr, MatchResult, length, map, slice_set};
 ghost use Rattle.dw_op.specs.Faults.{IsWithin};
-ghost use Rattle.dw_section.specs.StandingFde.{LookUpFault, Misleads, RefusesAs};
-ghost use Rattle.dw_section.specs.Ranges.{IsTable};
+ghost use Rattle.dw_section.specs.{Ranges.IsTable, StandingFde.{LookUpFault, Misleads, RefusesAs}};
 ghost use Rattle.dw_section.specs.declared.standing_fde.LookUpError.TheVariants as TheLookUpError;
-ghost use Rattle.dw_library.specs.Answers.{target_of};
-ghost use Rattle.dw_library.specs.Index.{HasSize, IsAnyRow, IsIndexed, IsRow, IsTold, TellsFde, TellsRow, TellsRules, Told, cfa_kind_of, cfa_offset_of, cfa_register_of, no_row, over, row_of, rule_of};
+ghost use Rattle.dw_library.specs.{Answers.target_of, Index.{HasSize, IsAnyRow, IsIndexed, IsRow, IsTold, TellsFde, TellsRow}};
+ghost use Rattle.dw_library.specs.Index.{TellsRules, Told, cfa_kind_of, cfa_offset_of, cfa_register_of, no_row, over, row_of, rule_of};
 
 use crate::answer::{
     BAD_ARGUMENT, BAD_INDEX, NO_FDE, OK, OUT_OF_MEMORY, Refused, Section, TOO_SHORT, not_refused,

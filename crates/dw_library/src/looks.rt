@@ -1,11 +1,8 @@
 //! The rows of many addresses by one call.
 
 ghost use Rattle.std.specs.Prelude.{◌≡◌, ◌≤◌, ◌++◌, List, length, IfOk, OnErr};
-ghost use Rattle.dw_library.specs.declared.index.Rule.{Rule as TheRule};
-ghost use Rattle.dw_library.specs.Answers.{target_of};
-ghost use Rattle.dw_library.specs.Index.{over};
-ghost use Rattle.dw_library.specs.Looks.{AreLooks, IsLook, Look, TellsLooks, ToldRows};
-ghost use Rattle.dw_library.specs.Inner.Looks.{IsLeft, status_of};
+ghost use Rattle.dw_library.specs.{Answers.target_of, Index.over, Looks.{AreLooks, IsLook, Look, TellsLooks, ToldRows}};
+ghost use Rattle.dw_library.specs.{declared.index.Rule.{Rule as TheRule}, Inner.Looks.{IsLeft, status_of}};
 
 use crate::answer::{
     BAD_ARGUMENT, OK, OUT_OF_MEMORY, Refused, Section, TOO_SHORT, not_refused, refuse, target_of,

@@ -1,12 +1,9 @@
 //! The names of statuses, of refusals and of faults.
 
 ghost use Rattle.std.specs.Prelude.{◌≡◌, MatchOption, length};
-ghost use Rattle.dw_num.specs.Codes.{code_entry};
-ghost use Rattle.dw_num.specs.declared.refusal.Code.{Code as TheCode};
-ghost use Rattle.dw_eval.specs.Kinds.{kind_entry};
-ghost use Rattle.dw_eval.specs.declared.error.Kind.{Kind as TheKind};
-ghost use Rattle.dw_library.specs.declared.names.Status.{Status as TheStatus};
-ghost use Rattle.dw_library.specs.Named.{HoldsText, IsNamed, IsNamedBy, status_entry};
+ghost use Rattle.dw_num.specs.{Codes.code_entry, declared.refusal.Code.{Code as TheCode}};
+ghost use Rattle.dw_eval.specs.{Kinds.kind_entry, declared.error.Kind.{Kind as TheKind}};
+ghost use Rattle.dw_library.specs.{Named.{HoldsText, IsNamed, IsNamedBy, status_entry}, declared.names.Status.{Status as TheStatus}};
 
 use dw_eval::Kind;
 use dw_num::Code;

@@ -1,11 +1,9 @@
 //! Memory that a caller lends: windows of addresses over one buffer.
 
-ghost use Rattle.std.specs.Prelude.{◌≡◌, ℕ, ◌+◌, ◌<◌, ◌≤◌, true, false, IfSome, Some, None, ⊤, length};
-ghost use Rattle.std.specs.Bool.{MatchBool};
+ghost use Rattle.std.specs.{Prelude.{◌≡◌, ℕ, ◌+◌, ◌<◌, ◌≤◌, true, false, IfSome, Some, None, ⊤, length}, Bool.MatchBool};
 ghost use Rattle.dw_num.specs.Fixed.{fixed_number};
 ghost use Rattle.dw_eval.specs.Bytes.{bytes_from, number_in_memory};
-ghost use Rattle.dw_library.specs.Windows.{covers, byte_of, byte_among};
-ghost use Rattle.dw_library.specs.Inner.Windows.{Spells};
+ghost use Rattle.dw_library.specs.{Windows.{covers, byte_of, byte_among}, Inner.Windows.Spells};
 
 use byteorder::{BigEndian, ByteOrder, LittleEndian};
 use dw_eval::{Memory, ReadFault};

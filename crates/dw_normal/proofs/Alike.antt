@@ -1,7 +1,6 @@
 -- Two tables side by side.
-use Rattle.dw_normal.proofs.Words.{◌≡◌, ℕ, ◌≤◌, Bool, true, false, List, [], ◌∷◌, length, take, Option, Some, None, Ok, refl, sym, ap, ◌∙◌, arith, Decides, take_all, not, is_some, Result, Err, IfOk, Rules, Fde, Changing, GivesAddress}
-use Rattle.dw_normal.proofs.Words.{Member, fde_of, changes_of, row_or_blank, shown_row}
-use Rattle.dw_normal.proofs.ChangesToCome.{Given, given, head_same, none_given, tail_same}
+use Rattle.dw_normal.proofs.Words.{◌≡◌, ℕ, ◌≤◌, Bool, true, false, List, [], ◌∷◌, length, take, Option, Some, None, Ok, refl, sym, ap, ◌∙◌, arith, Decides, take_all, not, is_some, Result, Err}
+use Rattle.dw_normal.proofs.{Words.{IfOk, Rules, Fde, Changing, GivesAddress, Member, fde_of, changes_of, row_or_blank, shown_row}, ChangesToCome.{Given, given, head_same, none_given, tail_same}}
 
 -- ---- answers
 

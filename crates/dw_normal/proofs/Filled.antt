@@ -1,7 +1,6 @@
 -- What stands behind the length of an FDE, as it is built.
-use Rattle.dw_normal.proofs.Words.{◌≡◌, ℕ, ◌+◌, ◌-◌, List, ◌++◌, length, Result, Ok, Err, sym, ap, ◌∙◌, append_assoc, OnOk, replicate, length-append, Target, Rules, Fde, fde_instrs, initial_of, difference, later_changes, Member}
-use Rattle.dw_normal.proofs.Words.{program_bytes, fde, nop_count, filled, contents, missing, fde_field_bytes, IsBegun, later_bytes, shown_row, Begun, Size}
-use Rattle.dw_normal.proofs.Passes.{program_more}
+use Rattle.dw_normal.proofs.Words.{◌≡◌, ℕ, ◌+◌, ◌-◌, List, ◌++◌, length, Result, Ok, Err, sym, ap, ◌∙◌, append_assoc, OnOk, replicate, length-append, Target, Rules, Fde, fde_instrs, initial_of, difference}
+use Rattle.dw_normal.proofs.{Words.{later_changes, Member, program_bytes, fde, nop_count, filled, contents, missing, fde_field_bytes, IsBegun, later_bytes, shown_row, Begun, Size}, Passes.program_more}
 
 -- room, fields, a program behind them, and the nops
 filled_is : (size : Size) (room fields program out new : List ℕ) → length room ≡ 4 → out ≡ room ++ (fields ++ program) → new ≡ out ++ replicate (missing size (length out)) 0

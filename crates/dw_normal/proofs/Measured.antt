@@ -1,7 +1,6 @@
 -- The room that an FDE leaves is that of what is written.
-use Rattle.dw_normal.proofs.Words.{◌≡◌, ℕ, ◌+◌, ◌*◌, ◌<◌, List, ◌++◌, length, None, ap, ◌∙◌, arith, [], length-append, Target, byte_count, Instr, Rules, Changing, difference, later_changes, program_bytes, fde, entry_bytes, missing}
-use Rattle.dw_normal.proofs.Words.{fde_length, FdeLeaves, later_bytes, shown_row}
-use Rattle.dw_normal.proofs.Passes.{program_more}
+use Rattle.dw_normal.proofs.Words.{◌≡◌, ℕ, ◌+◌, ◌*◌, ◌<◌, List, ◌++◌, length, None, ap, ◌∙◌, arith, [], length-append, Target, byte_count, Instr, Rules, Changing}
+use Rattle.dw_normal.proofs.{Words.{difference, later_changes, program_bytes, fde, entry_bytes, missing, fde_length, FdeLeaves, later_bytes, shown_row}, Passes.program_more}
 
 fde_long : (t : Target) (c b n : ℕ) (instrs : List Instr) (program : List ℕ) → length (entry_bytes t (fde c b n instrs program)) ≡ 8 + 2 * byte_count t.size + length program + missing t.size (8 + 2 * byte_count t.size + length program)
 fde_long t c b n instrs program = fde_length t c b n instrs program

@@ -1,7 +1,6 @@
 -- What is left of a program, and what it is put behind.
-use Rattle.dw_normal.proofs.Words.{◌≡◌, ℕ, ◌<◌, List, [], ◌∷◌, ◌++◌, length, sym, ap, ◌∙◌, subst, arith, append_assoc, AllByRecursion, flat_map, append-nil, Target, Instr, Rules, either, difference, cfa_difference, rule_difference}
-use Rattle.dw_normal.proofs.Words.{InstrFits, instr_bytes, program_bytes, rules_from}
-use Rattle.dw_normal.proofs.{Passes.{program_more, both_halves}, RegistersBehind.from_first}
+use Rattle.dw_normal.proofs.Words.{◌≡◌, ℕ, ◌<◌, List, [], ◌∷◌, ◌++◌, length, sym, ap, ◌∙◌, subst, arith, append_assoc, AllByRecursion, flat_map, append-nil, Target, Instr, Rules, either}
+use Rattle.dw_normal.proofs.{Words.{difference, cfa_difference, rule_difference, InstrFits, instr_bytes, program_bytes, rules_from}, Passes.{program_more, both_halves}, RegistersBehind.from_first}
 
 -- what is put before a program's rest
 pub record PutBefore (t : Target) (all rest : List Instr) (before now : List ℕ) : Type 0 where

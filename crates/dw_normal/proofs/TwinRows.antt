@@ -1,7 +1,6 @@
 -- The first rows of two FDEs, each beside the row of its CIE.
-use Rattle.dw_normal.proofs.Words.{◌≡◌, ℕ, Bool, true, false, List, Option, Some, None, refl, sym, ap, ◌∙◌, subst, arith, IfSome, is_some, not, Decides, AreBytes, Target, AreSpecified, Rules, rule, FirstDifference, Changing, row_or_blank}
-use Rattle.dw_normal.proofs.Words.{◌||◌, same_rows, Registers, SameBeside, has, CieLeaves, AreBeside, IsUnion, StandsBy}
-use Rattle.dw_normal.proofs.Alike.{not_so}
+use Rattle.dw_normal.proofs.Words.{◌≡◌, ℕ, Bool, true, false, List, Option, Some, None, refl, sym, ap, ◌∙◌, subst, arith, IfSome, is_some, not, Decides, AreBytes, Target, AreSpecified}
+use Rattle.dw_normal.proofs.{Words.{Rules, rule, FirstDifference, Changing, row_or_blank, ◌||◌, same_rows, Registers, SameBeside, has, CieLeaves, AreBeside, IsUnion, StandsBy}, Alike.not_so}
 
 -- ---- rows that are told by the first difference
 

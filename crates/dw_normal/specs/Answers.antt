@@ -1,17 +1,12 @@
 -- What calls over normal forms answer.
-use Rattle.std.specs.Prelude.{◌≡◌, ◌⊎◌, ℕ, ◌<◌, ◌≤◌, List, length, Option, take, Result, Ok, Err}
-use Rattle.std.specs.Io.KnownBytes.{Appends, Keeps}
-use Rattle.dw_num.specs.declared.refusal.Code.TheVariants.{NormalTooLong}
-use Rattle.dw_num.specs.declared.refusal.Refusal.{Refusal}
-use Rattle.dw_num.specs.declared.target.Target.{Target}
+use Rattle.std.specs.{Prelude.{◌≡◌, ◌⊎◌, ℕ, ◌<◌, ◌≤◌, List, length, Option, take, Result, Ok, Err}, Io.KnownBytes.{Appends, Keeps}}
+use Rattle.dw_num.specs.declared.{refusal.Code.TheVariants.NormalTooLong, refusal.Refusal.Refusal, target.Target.Target}
 use Rattle.dw_op.specs.Faults.{IsWithin}
 use Rattle.dw_section.specs.Accepted.{CheckFault, Accepted}
-use Rattle.dw_normal.specs.declared.error.SameError.{SameError}
-use Rattle.dw_normal.specs.declared.error.SameError.TheVariants as same_error
-use Rattle.dw_normal.specs.declared.error.Which.TheVariants.{First, Second}
-use Rattle.dw_normal.specs.declared.error.WriteError.{WriteError}
-use Rattle.dw_normal.specs.declared.error.WriteError.TheVariants as write_error
 use Rattle.dw_canon.specs.Normal.{IsNormalForm}
+use Rattle.dw_normal.specs.declared.error.{SameError.SameError, Which.TheVariants.{First, Second}, WriteError.WriteError}
+use Rattle.dw_normal.specs.declared.error.SameError.TheVariants as same_error
+use Rattle.dw_normal.specs.declared.error.WriteError.TheVariants as write_error
 
 -- the refusal of a normal form that is longer than its cap
 abbrev pub too_long : Refusal

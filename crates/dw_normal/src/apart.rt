@@ -1,13 +1,8 @@
 //! The registers to which the row at an FDE's begin and the initial row of its group give different rules.
 
-ghost use Rattle.std.specs.Prelude.{◌≡◌, ℕ, false, None, IfSome, OnOk};
-ghost use Rattle.std.specs.BTreeMap.{get};
-ghost use Rattle.std.specs.Ordering.{nat_cmp};
-ghost use Rattle.dw_cfa.specs.RegisterSets.{SameBeside};
-ghost use Rattle.dw_cfa.specs.Rows.{Rules};
-ghost use Rattle.dw_normal.specs.Inner.Apart.{NotesSame, StandsApart};
-ghost use Rattle.dw_normal.specs.Inner.Differences.{Tells};
-ghost use Rattle.dw_normal.specs.Inner.Known.{HoldsAt, Notes};
+ghost use Rattle.std.specs.{Prelude.{◌≡◌, ℕ, false, None, IfSome, OnOk}, BTreeMap.get, Ordering.nat_cmp};
+ghost use Rattle.dw_cfa.specs.{RegisterSets.SameBeside, Rows.Rules};
+ghost use Rattle.dw_normal.specs.Inner.{Apart.{NotesSame, StandsApart}, Differences.Tells, Known.{HoldsAt, Notes}};
 
 use crate::differences::Differences;
 use crate::known::Known;

@@ -1,18 +1,11 @@
 //! An FDE behind its begin: what the walks over its later changes start from.
 
 ghost use Rattle.std.specs.Prelude.{◌≡◌, ◌<◌, List, length, slice_index_or, Some, IfSome, IsSome, OnOk};
-ghost use Rattle.dw_cfa.specs.RegisterSets.{SameBeside};
-ghost use Rattle.dw_cfa.specs.Rows.{Rules};
-ghost use Rattle.dw_section.specs.declared.lookup.Fde.{Fde as TheFde};
-ghost use Rattle.dw_section.specs.Meaning.{AreFdes};
-ghost use Rattle.dw_section.specs.Opening.{CieLeaves};
+ghost use Rattle.dw_cfa.specs.{RegisterSets.SameBeside, Rows.Rules};
+ghost use Rattle.dw_section.specs.{Meaning.AreFdes, Opening.CieLeaves, declared.lookup.Fde.{Fde as TheFde}};
 ghost use Rattle.dw_canon.specs.Members.{Member, AreMembers};
-ghost use Rattle.dw_normal.specs.Inner.Apart.{NotesSame, StandsApart};
-ghost use Rattle.dw_normal.specs.Inner.Begun.{IsBegun, IsReady, SharesIn};
-ghost use Rattle.dw_normal.specs.Inner.ChangeWalk.{IsShown, ShownBehind, shown_row};
-ghost use Rattle.dw_normal.specs.Inner.Groups.{row_of};
-ghost use Rattle.dw_normal.specs.Inner.Known.{HoldsAt};
-ghost use Rattle.dw_normal.specs.Inner.Listed.{AreInitial, IsListed};
+ghost use Rattle.dw_normal.specs.Inner.{Apart.{NotesSame, StandsApart}, Begun.{IsBegun, IsReady, SharesIn}};
+ghost use Rattle.dw_normal.specs.Inner.{ChangeWalk.{IsShown, ShownBehind, shown_row}, Groups.row_of, Known.HoldsAt, Listed.{AreInitial, IsListed}};
 
 use crate::apart::Apart;
 use crate::groups::go_behind_first;

@@ -1,17 +1,10 @@
 //! An entry, built in a buffer, with room for its length.
 
-ghost use Rattle.std.specs.Prelude.{◌≡◌, ◌+◌, ◌++◌, ◌<◌, ◌≤◌, ◌^◌, ◌-◌, List, drop, length, replicate, OnOk};
-ghost use Rattle.std.specs.List.{AllByRecursion};
-ghost use Rattle.dw_num.specs.Fixed.{fixed_bytes};
-ghost use Rattle.dw_num.specs.Target.{address_limit};
-ghost use Rattle.dw_canon.specs.Inner.Canon.{cie_instrs, fde_instrs, initial_of};
-ghost use Rattle.dw_canon.specs.Inner.Fits.{InstrFits};
-ghost use Rattle.dw_canon.specs.Members.{Member};
-ghost use Rattle.dw_canon.specs.Inner.Spelling.{program_bytes};
-ghost use Rattle.dw_canon.specs.Inner.Written.{fde, contents};
-ghost use Rattle.dw_canon.specs.Written.{missing, cie_field_bytes, fde_field_bytes};
-ghost use Rattle.dw_normal.specs.Inner.Begun.{IsBegun, IsReady};
-ghost use Rattle.dw_normal.specs.Inner.Lengths.{cie_with};
+ghost use Rattle.std.specs.{Prelude.{◌≡◌, ◌+◌, ◌++◌, ◌<◌, ◌≤◌, ◌^◌, ◌-◌, List, drop, length, replicate, OnOk}, List.AllByRecursion};
+ghost use Rattle.dw_num.specs.{Fixed.fixed_bytes, Target.address_limit};
+ghost use Rattle.dw_canon.specs.{Members.Member, Written.{missing, cie_field_bytes, fde_field_bytes}};
+ghost use Rattle.dw_canon.specs.Inner.{Canon.{cie_instrs, fde_instrs, initial_of}, Fits.InstrFits, Spelling.program_bytes, Written.{fde, contents}};
+ghost use Rattle.dw_normal.specs.Inner.{Begun.{IsBegun, IsReady}, Lengths.cie_with};
 
 use crate::begun::Begun;
 use crate::differences::Differences;

@@ -1,7 +1,6 @@
 //! The registers to which two rows give different rules, found by what costs least.
 
-ghost use Rattle.dw_cfa.specs.Difference.{FirstDifference, place_behind};
-ghost use Rattle.dw_cfa.specs.Rows.{AreSpecified};
+ghost use Rattle.dw_cfa.specs.{Difference.{FirstDifference, place_behind}, Rows.AreSpecified};
 ghost use Rattle.dw_normal.specs.Inner.Differences.{Tells};
 
 use dw_cfa::{RegisterSet, Row};

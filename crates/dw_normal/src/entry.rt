@@ -1,21 +1,13 @@
 //! The entries of a normal form, put into a sink one after another. One entry is held at a time.
 
-ghost use Rattle.std.specs.Prelude.{◌≡◌, ℕ, ◌+◌, ◌-◌, ◌<◌, ◌≤◌, ◌^◌, [], ◌++◌, List, length, drop, slice_index_or, Some, IsSome, OnOk};
-ghost use Rattle.std.specs.List.{AllByRecursion};
-ghost use Rattle.dw_num.specs.Fixed.{fixed_bytes};
-ghost use Rattle.dw_num.specs.declared.target.Form.TheVariants.{Dwarf32};
+ghost use Rattle.std.specs.{Prelude.{◌≡◌, ℕ, ◌+◌, ◌-◌, ◌<◌, ◌≤◌, ◌^◌, [], ◌++◌, List, length, drop, slice_index_or, Some, IsSome, OnOk}, List.AllByRecursion};
+ghost use Rattle.dw_num.specs.{Fixed.fixed_bytes, declared.target.Form.TheVariants.Dwarf32};
 ghost use Rattle.dw_cfa.specs.Rows.{Rules};
 ghost use Rattle.dw_section.specs.Cut.{entry, item_bytes};
-ghost use Rattle.dw_canon.specs.Inner.Canon.{canon, cie_instrs};
-ghost use Rattle.dw_canon.specs.Inner.Fits.{InstrFits};
 ghost use Rattle.dw_canon.specs.Members.{Member, AreMembers};
-ghost use Rattle.dw_canon.specs.Inner.Written.{contents, entry_bytes};
-ghost use Rattle.dw_normal.specs.Inner.Begun.{SharesIn};
-ghost use Rattle.dw_normal.specs.Inner.Writing.{StandsIn};
-ghost use Rattle.dw_normal.specs.Inner.Lengths.{cie_with, cies_bytes, fdes_bytes};
-ghost use Rattle.dw_normal.specs.Inner.Places.{place_in, RowsRise, fde_with};
-ghost use Rattle.dw_normal.specs.Inner.Puts.{Puts, taken_by, after};
-ghost use Rattle.dw_normal.specs.Inner.Listed.{AreInitial, AreListed, ArePlaces, IsListed, IsSmall, OfMembers};
+ghost use Rattle.dw_canon.specs.Inner.{Canon.{canon, cie_instrs}, Fits.InstrFits, Written.{contents, entry_bytes}};
+ghost use Rattle.dw_normal.specs.Inner.{Begun.SharesIn, Lengths.{cie_with, cies_bytes, fdes_bytes}, Listed.{AreInitial, AreListed, ArePlaces, IsListed}};
+ghost use Rattle.dw_normal.specs.Inner.{Listed.{IsSmall, OfMembers}, Places.{place_in, RowsRise, fde_with}, Puts.{Puts, taken_by, after}, Writing.StandsIn};
 
 use crate::begun::{Begun, begin_fde, room_for};
 use crate::contents::{fill_cie, fill_fde};

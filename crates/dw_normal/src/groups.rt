@@ -1,19 +1,12 @@
 //! The initial row of each return address register, found in one pass over the FDEs.
 
-ghost use Rattle.std.specs.Prelude.{◌≡◌, ℕ, [], ◌≤◌, length, take, None, Some, IfOk, IfSome, IsTrue, OnOk};
-ghost use Rattle.std.specs.BTreeMap.{get, insert_entry};
-ghost use Rattle.std.specs.Ordering.{nat_cmp};
-ghost use Rattle.dw_cfa.specs.RegisterSets.{AgreesBeside, SameBeside};
-ghost use Rattle.dw_cfa.specs.Rows.{Rules};
-ghost use Rattle.dw_section.specs.Changes.{kept_by};
-ghost use Rattle.dw_section.specs.declared.opening.CieRow.{CieRow as TheRow};
-ghost use Rattle.dw_section.specs.Opening.{CieLeaves, OpensBehind};
-ghost use Rattle.dw_canon.specs.Inner.Canon.{canon};
+ghost use Rattle.std.specs.{Prelude.{◌≡◌, ℕ, [], ◌≤◌, length, take, None, Some, IfOk, IfSome, IsTrue, OnOk}, BTreeMap.{get, insert_entry}, Ordering.nat_cmp};
+ghost use Rattle.dw_cfa.specs.{RegisterSets.{AgreesBeside, SameBeside}, Rows.Rules};
 ghost use Rattle.dw_cfa.specs.Inner.Agreement.{agreed};
-ghost use Rattle.dw_normal.specs.Inner.Groups.{HasJoined, joined_by, with_member, initial_rows};
-ghost use Rattle.dw_normal.specs.Inner.ChangeWalk.{BehindFirst, IsShown, ShownBehind, shown_row};
-ghost use Rattle.dw_normal.specs.Inner.Known.{Agree, HoldsAt, Notes};
-ghost use Rattle.dw_normal.specs.Inner.Listed.{IsListed, OfFde, OfMember, OfMembers};
+ghost use Rattle.dw_section.specs.{Changes.kept_by, Opening.{CieLeaves, OpensBehind}, declared.opening.CieRow.{CieRow as TheRow}};
+ghost use Rattle.dw_canon.specs.Inner.Canon.{canon};
+ghost use Rattle.dw_normal.specs.Inner.{ChangeWalk.{BehindFirst, IsShown, ShownBehind, shown_row}, Groups.{HasJoined, joined_by, with_member, initial_rows}};
+ghost use Rattle.dw_normal.specs.Inner.{Known.{Agree, HoldsAt, Notes}, Listed.{IsListed, OfFde, OfMember, OfMembers}};
 
 use crate::bound::add_share;
 use crate::known::Known;

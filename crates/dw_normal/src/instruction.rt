@@ -1,15 +1,12 @@
 //! Instructions as the normal form spells them.
 
-ghost use Rattle.std.specs.Prelude.{◌≡◌, ◌∷◌, ◌++◌, ◌<◌, ◌≤◌, neg_ℤ, unsigned_abs, if◌then◌else◌, OnOk};
-ghost use Rattle.std.specs.Int.{is_positive};
+ghost use Rattle.std.specs.{Prelude.{◌≡◌, ◌∷◌, ◌++◌, ◌<◌, ◌≤◌, neg_ℤ, unsigned_abs, if◌then◌else◌, OnOk}, Int.is_positive};
 ghost use Rattle.dw_num.specs.Shortest.{shortest_uleb, shortest_sleb};
-ghost use Rattle.dw_cfa.specs.InstrSpells.{IsOffset};
-ghost use Rattle.dw_cfa.specs.Rows.{rule};
-ghost use Rattle.dw_section.specs.Fits.{HasBlock, RuleFits};
+ghost use Rattle.dw_cfa.specs.{InstrSpells.IsOffset, Rows.rule};
 ghost use Rattle.dw_cfa.specs.declared.instr.Instr.TheVariants.{SetLoc, DefCfa, DefCfaRegister, DefCfaOffset, DefCfaExpression};
-ghost use Rattle.dw_canon.specs.Inner.Fits.{InstrFits};
-ghost use Rattle.dw_canon.specs.Inner.Spelling.{expression_bytes, rule_bytes, instr_bytes};
+ghost use Rattle.dw_section.specs.Fits.{HasBlock, RuleFits};
 ghost use Rattle.dw_canon.specs.Spelling.{advance_bytes, packed};
+ghost use Rattle.dw_canon.specs.Inner.{Fits.InstrFits, Spelling.{expression_bytes, rule_bytes, instr_bytes}};
 
 use crate::opcode::{
     ADVANCE_LOC, ADVANCE_LOC1, ADVANCE_LOC2, ADVANCE_LOC4, DEF_CFA, DEF_CFA_EXPRESSION,

@@ -1,12 +1,9 @@
 //! What is known of CIEs with long programs (6.4.1): how the row of a group stands to the rows that they leave. So an FDE's row at its
 //! begin is compared with its group's by what its program set, and not by all registers of the CIE.
 
-ghost use Rattle.std.specs.Prelude.{◌≡◌, ℕ, None, Some, IfSome, OnOk};
-ghost use Rattle.std.specs.BTreeMap.{get};
-ghost use Rattle.std.specs.Ordering.{nat_cmp};
+ghost use Rattle.std.specs.{Prelude.{◌≡◌, ℕ, None, Some, IfSome, OnOk}, BTreeMap.get, Ordering.nat_cmp};
+ghost use Rattle.dw_cfa.specs.{RegisterSets.{AgreesBeside, SameBeside}, Rows.Rules};
 ghost use Rattle.dw_cfa.specs.Inner.Agreement.{agreed};
-ghost use Rattle.dw_cfa.specs.RegisterSets.{AgreesBeside, SameBeside};
-ghost use Rattle.dw_cfa.specs.Rows.{Rules};
 ghost use Rattle.dw_normal.specs.Inner.Known.{AreLess, HoldsAt, Notes, Puts};
 
 use dw_cfa::{RegisterSet, Row};

@@ -1,14 +1,11 @@
 //! How long a normal form is. Each entry takes its length from the room that is left, and the first that does not fit ends the
 //! walk: no sum can wrap, and no program behind it is run.
 
-ghost use Rattle.std.specs.Prelude.{◌≡◌, ℕ, ◌<◌, ◌≤◌, ◌^◌, List, length, slice_index_or, IfOk, OnOk};
-ghost use Rattle.std.specs.List.{AllByRecursion};
+ghost use Rattle.std.specs.{Prelude.{◌≡◌, ℕ, ◌<◌, ◌≤◌, ◌^◌, List, length, slice_index_or, IfOk, OnOk}, List.AllByRecursion};
 ghost use Rattle.dw_cfa.specs.Rows.{Rules};
-ghost use Rattle.dw_canon.specs.Inner.Canon.{canon, cie_instrs};
-ghost use Rattle.dw_canon.specs.Inner.Fits.{InstrFits};
 ghost use Rattle.dw_canon.specs.Members.{Member, AreMembers};
-ghost use Rattle.dw_normal.specs.Inner.Begun.{SharesIn};
-ghost use Rattle.dw_normal.specs.Inner.Lengths.{Leaves, MemberLeaves, Measures, cies_bytes, fdes_bytes};
+ghost use Rattle.dw_canon.specs.Inner.{Canon.{canon, cie_instrs}, Fits.InstrFits};
+ghost use Rattle.dw_normal.specs.Inner.{Begun.SharesIn, Lengths.{Leaves, MemberLeaves, Measures, cies_bytes, fdes_bytes}};
 ghost use Rattle.dw_normal.specs.Inner.Listed.{AreInitial, AreListed, IsListed, OfMembers};
 
 use crate::begun::{Begun, begin_fde, room_for};

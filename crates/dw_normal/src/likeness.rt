@@ -1,14 +1,11 @@
 //! Whether two tables say the same.
 
-ghost use Rattle.std.specs.Prelude.{◌≡◌, ◌↔◌, ℕ, List, Some, slice_index_or, IsTrue, IfOk, OnOk};
-ghost use Rattle.std.specs.Bool.{Decides};
+ghost use Rattle.std.specs.{Prelude.{◌≡◌, ◌↔◌, ℕ, List, Some, slice_index_or, IsTrue, IfOk, OnOk}, Bool.Decides};
 ghost use Rattle.dw_num.specs.Input.{AreBytes};
 ghost use Rattle.dw_cfa.specs.Rows.{Rules, rule};
 ghost use Rattle.dw_section.specs.Changes.{GoesOn};
 ghost use Rattle.dw_canon.specs.Members.{Member, AreMembers};
-ghost use Rattle.dw_normal.specs.Inner.ChangeWalk.{IsShown};
-ghost use Rattle.dw_normal.specs.Inner.Twins.{AreTwins, BeginTogether, StandsBy};
-ghost use Rattle.dw_normal.specs.Inner.Listed.{AreListed, IsListed};
+ghost use Rattle.dw_normal.specs.Inner.{ChangeWalk.IsShown, Listed.{AreListed, IsListed}, Twins.{AreTwins, BeginTogether, StandsBy}};
 
 use crate::twins::{Twins, same_behind};
 use dw_cfa::Row;

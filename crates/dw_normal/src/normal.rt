@@ -1,17 +1,14 @@
 //! Normal forms, and whether two sections say the same.
 
-ghost use Rattle.std.specs.Prelude.{◌≡◌, ◌⊎◌, ℕ, ◌<◌, ◌≤◌, ◌-◌, ◌^◌, List, length, true, IfOk, IfErr, MatchResult};
-ghost use Rattle.std.specs.Bool.{Decides};
-ghost use Rattle.dw_num.specs.declared.error.ReadError.TheVariants as TheError;
+ghost use Rattle.std.specs.{Prelude.{◌≡◌, ◌⊎◌, ℕ, ◌<◌, ◌≤◌, ◌-◌, ◌^◌, List, length, true, IfOk, IfErr, MatchResult}, Bool.Decides};
 ghost use Rattle.dw_num.specs.Refusals.{Refuses};
+ghost use Rattle.dw_num.specs.declared.error.ReadError.TheVariants as TheError;
 ghost use Rattle.dw_op.specs.Faults.{IsWithin};
-ghost use Rattle.dw_section.specs.Accepted.{Accepted};
-ghost use Rattle.dw_normal.specs.declared.error.SameError.TheVariants as TheSameError;
+ghost use Rattle.dw_section.specs.{Accepted.Accepted, Meanings.SameMeaning};
 ghost use Rattle.dw_canon.specs.Normal.{IsNormalForm};
 ghost use Rattle.dw_normal.specs.Answers.{FitsCap, IsWithinEither, NormalFault, RefusesWithin, SameFault, Writes, too_long};
-ghost use Rattle.dw_normal.specs.Inner.Answers.{LengthFault, blamed, unread, unwritten};
-ghost use Rattle.dw_normal.specs.Inner.Puts.{put_is};
-ghost use Rattle.dw_section.specs.Meanings.{SameMeaning};
+ghost use Rattle.dw_normal.specs.Inner.{Answers.{LengthFault, blamed, unread, unwritten}, Puts.put_is};
+ghost use Rattle.dw_normal.specs.declared.error.SameError.TheVariants as TheSameError;
 
 use crate::entry::{PutError, write_entries};
 use crate::error::{SameError, Which, WriteError};

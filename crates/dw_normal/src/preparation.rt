@@ -1,11 +1,9 @@
 //! A section on the way to its normal form: checked, found short enough, and with its initial rows.
 
 ghost use Rattle.std.specs.Prelude.{◌≡◌, ◌≤◌, List, IfOk, IfErr};
-ghost use Rattle.dw_canon.specs.Members.{Member, AreMembers};
-ghost use Rattle.dw_normal.specs.Inner.Groups.{initial_rows};
 ghost use Rattle.dw_num.specs.Refusals.{Refuses};
-ghost use Rattle.dw_normal.specs.Answers.{IsTooLong, NormalFault, too_long};
-ghost use Rattle.dw_normal.specs.Inner.Answers.{IsShort, IsPrepared, IsMeasured};
+ghost use Rattle.dw_canon.specs.Members.{Member, AreMembers};
+ghost use Rattle.dw_normal.specs.{Answers.{IsTooLong, NormalFault, too_long}, Inner.Answers.{IsShort, IsPrepared, IsMeasured}, Inner.Groups.initial_rows};
 
 use crate::bound::is_short;
 use crate::groups::initial_rows;

@@ -1,19 +1,14 @@
 //! Programs of the normal form, appended.
 
-ghost use Rattle.std.specs.Prelude.{◌≡◌, ◌++◌, ◌<◌, OnOk};
+ghost use Rattle.std.specs.{Prelude.{◌≡◌, ◌++◌, ◌<◌, OnOk}, List.AllByRecursion};
 ghost use Rattle.dw_num.specs.Target.{address_limit};
-ghost use Rattle.std.specs.List.{AllByRecursion};
-ghost use Rattle.dw_canon.specs.Difference.{move};
-ghost use Rattle.dw_canon.specs.Inner.Difference.{difference, cfa_difference, rule_to};
-ghost use Rattle.dw_cfa.specs.Inner.Agreement.{same_cfa, same_rule};
 ghost use Rattle.dw_cfa.specs.Rows.{rule};
-ghost use Rattle.dw_normal.specs.Inner.Apart.{StandsApart};
-ghost use Rattle.dw_normal.specs.Inner.Differences.{Tells};
-ghost use Rattle.dw_normal.specs.Inner.RegisterWalk.{rules_from};
-ghost use Rattle.dw_normal.specs.Inner.ChangeWalk.{HasBefore, IsShown, Stand, later_bytes, row_or_blank, shown_row};
-ghost use Rattle.dw_canon.specs.Inner.Fits.{InstrFits};
-ghost use Rattle.dw_canon.specs.Inner.Spelling.{instr_bytes, program_bytes, rule_bytes};
+ghost use Rattle.dw_cfa.specs.Inner.Agreement.{same_cfa, same_rule};
 ghost use Rattle.dw_section.specs.Fits.{RuleFits};
+ghost use Rattle.dw_canon.specs.Difference.{move};
+ghost use Rattle.dw_canon.specs.Inner.{Difference.{difference, cfa_difference, rule_to}, Fits.InstrFits, Spelling.{instr_bytes, program_bytes, rule_bytes}};
+ghost use Rattle.dw_normal.specs.Inner.{Apart.StandsApart, ChangeWalk.{HasBefore, IsShown, Stand, later_bytes, row_or_blank, shown_row}};
+ghost use Rattle.dw_normal.specs.Inner.{Differences.Tells, RegisterWalk.rules_from};
 
 use crate::apart::Apart;
 use crate::differences::Differences;

@@ -1,16 +1,9 @@
 //! How much room the entries of the normal form leave: they are written, counted and forgotten, an FDE change by change. The room
 //! gets less with each, so that no sum wraps.
 
-ghost use Rattle.std.specs.Prelude.{◌≡◌, ◌+◌, ◌<◌, ◌^◌, length, IfOk};
-ghost use Rattle.std.specs.List.{AllByRecursion};
-ghost use Rattle.dw_canon.specs.Inner.Canon.{cie_instrs};
-ghost use Rattle.dw_canon.specs.Inner.Difference.{difference};
-ghost use Rattle.dw_canon.specs.Inner.Fits.{InstrFits};
-ghost use Rattle.dw_canon.specs.Inner.Spelling.{program_bytes};
-ghost use Rattle.dw_canon.specs.Inner.Written.{entry_bytes};
-ghost use Rattle.dw_normal.specs.Inner.Apart.{StandsApart};
-ghost use Rattle.dw_normal.specs.Inner.Lengths.{Leaves, FdeLeaves, cie_with};
-ghost use Rattle.dw_normal.specs.Inner.ChangeWalk.{IsShown, Stand, later_bytes, shown_row};
+ghost use Rattle.std.specs.{Prelude.{◌≡◌, ◌<◌, ◌^◌, length, IfOk}, List.AllByRecursion};
+ghost use Rattle.dw_canon.specs.Inner.{Canon.cie_instrs, Difference.difference, Fits.InstrFits, Spelling.program_bytes, Written.entry_bytes};
+ghost use Rattle.dw_normal.specs.Inner.{Apart.StandsApart, ChangeWalk.{IsShown, Stand, later_bytes, shown_row}, Lengths.{Leaves, FdeLeaves, cie_with}};
 
 use crate::apart::Apart;
 use crate::contents::{fill_cie, filled_len};

@@ -1,13 +1,10 @@
 //! What is known of CIEs of two sections with long programs (6.4.1): outside which registers they leave the same row. So the rows of two
 //! FDEs at their begins are compared by what their programs set, and not by all registers of their CIEs.
 
-ghost use Rattle.std.specs.Prelude.{◌≡◌, ◌↔◌, None, IfOk, IfSome, IsTrue, OnOk};
-ghost use Rattle.std.specs.BTreeMap.{get};
-ghost use Rattle.dw_cfa.specs.RegisterSets.{Registers, SameBeside};
-ghost use Rattle.dw_cfa.specs.Rows.{Rules};
+ghost use Rattle.std.specs.{Prelude.{◌≡◌, ◌↔◌, None, IfOk, IfSome, IsTrue, OnOk}, BTreeMap.get};
+ghost use Rattle.dw_cfa.specs.{RegisterSets.{Registers, SameBeside}, Rows.Rules};
 ghost use Rattle.dw_section.specs.Table.{Section};
-ghost use Rattle.dw_normal.specs.Inner.Twins.{AreBeside, AreTwins, IsUnion, pair_cmp};
-ghost use Rattle.dw_normal.specs.declared.twins.CiePair.{CiePair};
+ghost use Rattle.dw_normal.specs.{declared.twins.CiePair.CiePair, Inner.Twins.{AreBeside, AreTwins, IsUnion, pair_cmp}};
 
 use dw_cfa::{RegisterSet, Row};
 use std::alloc::{AllocError, Global};

@@ -1,7 +1,10 @@
 -- The numbers and names of the faults.
 use Rattle.std.specs.Prelude.{ℕ, List, codes}
-use Rattle.dw_num.specs.declared.refusal.Code.{Code}
-use Rattle.dw_num.specs.declared.refusal.Code.TheVariants.{Truncated, ReservedLength, EntryPastEnd, BadVersion, Augmentation, AddressSize, SegmentSelector, NumberTooLarge, RegisterTooLarge, NoSuchCie, RangeTooLarge, UnknownInstruction, NotInCie, LocationBackwards, LocationTooLarge, EmptyStateStack, StateStackFull, CfaNotRegister, OffsetTooLarge, UnknownOperation, NotInFrame, BadBranch, BadDerefSize, NoCfaRule, Overlap, SectionTooLarge, NormalTooLong}
+use Rattle.dw_num.specs.declared.refusal.{Code.Code, Code.TheVariants.{Truncated, ReservedLength, EntryPastEnd, BadVersion, Augmentation}}
+use Rattle.dw_num.specs.declared.refusal.Code.TheVariants.{AddressSize, SegmentSelector, NumberTooLarge, RegisterTooLarge, NoSuchCie}
+use Rattle.dw_num.specs.declared.refusal.Code.TheVariants.{RangeTooLarge, UnknownInstruction, NotInCie, LocationBackwards, LocationTooLarge}
+use Rattle.dw_num.specs.declared.refusal.Code.TheVariants.{EmptyStateStack, StateStackFull, CfaNotRegister, OffsetTooLarge, UnknownOperation}
+use Rattle.dw_num.specs.declared.refusal.Code.TheVariants.{NotInFrame, BadBranch, BadDerefSize, NoCfaRule, Overlap, SectionTooLarge, NormalTooLong}
 
 -- number and name of each
 abbrev pub code_entry : Code → ℕ × List ℕ

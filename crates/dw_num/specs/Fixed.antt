@@ -1,14 +1,8 @@
 -- Numbers of a fixed width, and unit lengths: DWARF 5, 7.4.
-use Rattle.std.specs.Prelude.{◌≡◌, ◌⊎◌, ℕ, ◌<◌, ◌^◌, List, ◌++◌, ℤ, FitsSigned}
-use Rattle.std.specs.Int.{Width, cast_unsigned, byte_len}
+use Rattle.std.specs.{Prelude.{◌≡◌, ◌⊎◌, ℕ, ◌<◌, ◌^◌, List, ◌++◌, ℤ, FitsSigned}, Int.{Width, cast_unsigned, byte_len}}
 use Rattle.byteorder.specs.Endian.{big_bytes, little_bytes, big_number, little_number}
-use Rattle.dw_num.specs.declared.target.Order.{Order}
-use Rattle.dw_num.specs.declared.target.Order.TheVariants.{Little, Big}
-use Rattle.dw_num.specs.declared.target.Form.{Form}
-use Rattle.dw_num.specs.declared.target.Form.TheVariants.{Dwarf32, Dwarf64}
-use Rattle.dw_num.specs.declared.target.UnitLength.{UnitLength}
-use Rattle.dw_num.specs.declared.target.Target.{Target}
-use Rattle.dw_num.specs.Target.{byte_count}
+use Rattle.dw_num.specs.{Target.byte_count, declared.target.Form.Form, declared.target.Form.TheVariants.{Dwarf32, Dwarf64}}
+use Rattle.dw_num.specs.declared.target.{Order.Order, Order.TheVariants.{Little, Big}, Target.Target, UnitLength.UnitLength}
 
 -- the n bytes of the number v
 abbrev pub fixed_bytes : Order → ℕ → ℕ → List ℕ

@@ -1,14 +1,9 @@
 -- Reading from the front of an input, with the fault of what can't be read.
-use Rattle.std.specs.Prelude.{◌≡◌, ℕ, ◌+◌, ◌^◌, List, [], ◌∷◌, length, take, Option, Some, None, option_map, Result, Ok, Err, nat_lt, Bool, ℤ, pos, negsuc, drop, ◌==◌, if◌then◌else◌}
-use Rattle.dw_num.specs.declared.refusal.Code.{Code}
-use Rattle.dw_num.specs.declared.refusal.Code.TheVariants.{Truncated, ReservedLength, NumberTooLarge, RegisterTooLarge}
-use Rattle.dw_num.specs.declared.refusal.Refusal.{Refusal}
-use Rattle.dw_num.specs.declared.target.Form.TheVariants.{Dwarf32, Dwarf64}
-use Rattle.dw_num.specs.declared.target.UnitLength.{UnitLength}
-use Rattle.dw_num.specs.Target.{byte_count}
-use Rattle.dw_num.specs.Input.{Input, behind}
-use Rattle.dw_num.specs.Fixed.{fixed_number}
-use Rattle.dw_num.specs.Leb.{groups, signed_groups}
+use Rattle.std.specs.Prelude.{◌≡◌, ℕ, ◌+◌, ◌^◌, List, [], ◌∷◌, length, take, Option, Some, None, option_map}
+use Rattle.std.specs.Prelude.{Result, Ok, Err, nat_lt, Bool, ℤ, pos, negsuc, drop, ◌==◌, if◌then◌else◌}
+use Rattle.dw_num.specs.{Fixed.fixed_number, Input.{Input, behind}, Leb.{groups, signed_groups}, Target.byte_count}
+use Rattle.dw_num.specs.declared.refusal.{Code.Code, Code.TheVariants.{Truncated, ReservedLength, NumberTooLarge, RegisterTooLarge}, Refusal.Refusal}
+use Rattle.dw_num.specs.declared.target.{Form.TheVariants.{Dwarf32, Dwarf64}, UnitLength.UnitLength}
 
 -- what reading a value gives: the value and the input behind it
 abbrev pub Read : Type 0 → Type 0

@@ -1,10 +1,7 @@
 -- What holds of reads and of spellings, for the layers above.
-use Rattle.std.specs.Prelude.{◌≡◌, ℕ, ℤ, ◌+◌, ◌^◌, ◌<◌, ◌≤◌, List, ◌++◌, length, Ok, Err, FitsSigned}
-use Rattle.std.specs.Int.{w64}
-use Rattle.dw_num.specs.Input.{Input}
+use Rattle.std.specs.{Prelude.{◌≡◌, ℕ, ℤ, ◌+◌, ◌^◌, ◌<◌, ◌≤◌, List, ◌++◌, length, Ok, Err, FitsSigned}, Int.w64}
 use Rattle.dw_num.specs.Front.{Read, take_at, fixed_at, address_at, unit_length_at, uleb_at, sleb_at, register_at}
-use Rattle.dw_num.specs.Shortest.{shortest_uleb, shortest_sleb}
-use Rattle.dw_num.specs.ShortestLeb.{PutsUleb, PutsSleb}
+use Rattle.dw_num.specs.{Input.Input, Shortest.{shortest_uleb, shortest_sleb}, ShortestLeb.{PutsUleb, PutsSleb}}
 
 -- something holds of one value and of no other
 pub record HoldsOfOne {X : Type 0} (P : X → Type 0) : Type 0 where

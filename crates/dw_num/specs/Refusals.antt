@@ -1,7 +1,5 @@
 -- What an error of a call that reads says.
-use Rattle.dw_num.specs.declared.error.ReadError.{ReadError}
-use Rattle.dw_num.specs.declared.error.ReadError.TheVariants.{Refused, OutOfMemory}
-use Rattle.dw_num.specs.declared.refusal.Refusal.{Refusal}
+use Rattle.dw_num.specs.declared.{error.ReadError.ReadError, error.ReadError.TheVariants.{Refused, OutOfMemory}, refusal.Refusal.Refusal}
 
 -- an error is such a fault, unless memory ran out
 abbrev pub Refuses : (Refusal → Type 0) → ReadError → Type 0

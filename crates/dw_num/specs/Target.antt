@@ -1,7 +1,6 @@
 -- What a target says of addresses.
 use Rattle.std.specs.Prelude.{ℕ}
-use Rattle.dw_num.specs.declared.target.Size.{Size}
-use Rattle.dw_num.specs.declared.target.Size.TheVariants.{Four, Eight}
+use Rattle.dw_num.specs.declared.target.{Size.Size, Size.TheVariants.{Four, Eight}}
 
 -- how many bytes an address has
 abbrev pub byte_count : Size → ℕ

@@ -1,10 +1,8 @@
 //! Reading numbers from a slice, from its front on.
 
 ghost use Rattle.std.specs.Prelude.{◌≡◌, ℕ, ℤ, ◌+◌, ◌<◌, ◌≤◌, ◌^◌, List, [], ◌∷◌, ◌++◌, length, IfOk};
-ghost use Rattle.dw_num.specs.Input.{Input, AreBytes, Takes, behind};
-ghost use Rattle.dw_num.specs.Fixed.{Address, Fixed, IsWidth, SpellsLength, fixed_number};
-ghost use Rattle.dw_num.specs.Leb.{Register, Sleb, Uleb};
-ghost use Rattle.dw_num.specs.Front.{Reads, fixed_at, take_at, register_at, uleb_at, sleb_at, address_at, unit_length_at};
+ghost use Rattle.dw_num.specs.{Fixed.{Address, Fixed, IsWidth, SpellsLength, fixed_number}, Front.{Reads, fixed_at, take_at, register_at}};
+ghost use Rattle.dw_num.specs.{Front.{uleb_at, sleb_at, address_at, unit_length_at}, Input.{AreBytes, Takes, behind}, Leb.{Register, Sleb, Uleb}};
 
 use crate::leb::{SlebScan, UlebScan, scan_sleb, scan_uleb};
 use crate::refusal::{Code, Refusal};

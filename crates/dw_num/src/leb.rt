@@ -1,9 +1,7 @@
 //! The LEB128 number at the front of a slice.
 
-ghost use Rattle.std.specs.Prelude.{length, Option, MatchOption, ⊤, ◌≡◌, ℕ, ◌+◌, ◌*◌, ◌%◌, ◌<◌, ◌≤◌, ◌^◌};
-ghost use Rattle.dw_num.specs.Leb.{is_negative, signed_groups};
-ghost use Rattle.dw_num.specs.Front.{leb_len};
-ghost use Rattle.dw_num.specs.Shortest.{turned};
+ghost use Rattle.std.specs.Prelude.{length, MatchOption, ⊤, ◌≡◌, ℕ, ◌+◌, ◌*◌, ◌<◌, ◌≤◌, ◌^◌};
+ghost use Rattle.dw_num.specs.{Front.leb_len, Leb.{is_negative, signed_groups}, Shortest.turned};
 ghost use Rattle.dw_num.specs.Inner.Scan.{IsUlebScan, IsSlebScan, IsTotal, IsSignedTotal, turned_from};
 
 /// The unsigned number at the front of a slice, and how many bytes spell it.

@@ -1,9 +1,7 @@
 //! Writing numbers at the end of a vector.
 
 ghost use Rattle.std.specs.Prelude.{◌≡◌, ◌++◌, ◌<◌, ◌^◌, length, take, OnOk, OnErr};
-ghost use Rattle.dw_num.specs.Fixed.{IsWidth, fixed_bytes};
-ghost use Rattle.dw_num.specs.Inner.Scan.{as_signed};
-ghost use Rattle.dw_num.specs.ShortestLeb.{PutsUleb, PutsSleb};
+ghost use Rattle.dw_num.specs.{Fixed.{IsWidth, fixed_bytes}, ShortestLeb.{PutsUleb, PutsSleb}, Inner.Scan.as_signed};
 
 use crate::leb::turn;
 use crate::target::Order;

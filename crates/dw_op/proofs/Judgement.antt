@@ -1,9 +1,8 @@
 -- Judging a block, and what an accepted one stands for.
-use Rattle.dw_op.proofs.Words.{◌≡◌, ℕ, ◌<◌, Bool, true, false, false≢true, List, [], ◌∷◌, ◌++◌, length, Option, Some, None, Result, Ok, Err, refl, sym, ap, subst, ◌∙◌, Refusal, Target, Input, AreBytes, done, Op, Frame, Step, Plain, Measure}
-use Rattle.dw_op.proofs.Words.{Operations, Walker, FrameBlock, Expression, bare, step_at, Walk, walk, sum_in, index_in, op_of, put_first, resolve, unless, block_input, decode_at, block_of, WalkSo, Walked, WalkedBad, Walks, IsAccepted}
-use Rattle.dw_op.proofs.Words.{ok_ops, ops_of, left_of, StepsSo}
-use Rattle.dw_op.proofs.{Splits.{walk_step, walk_stuck, walk_end, step_shorter}, Lent.Blocks.{block_found, block_only, answered, first_of_all, bad_branch, decoded_fault}, Lent.Lines.expression_is, Walkers.walked_block}
-use Rattle.dw_op.proofs.Decoded.{Within, within_more, OpsSo, ops_more, ops_bad, ops_all}
+use Rattle.dw_op.proofs.Words.{◌≡◌, ℕ, ◌<◌, Bool, true, false, false≢true, List, [], ◌∷◌, ◌++◌, length, Option, Some, None, Result, Ok, Err, refl, sym, ap, subst, ◌∙◌, Refusal, Target, Input, AreBytes}
+use Rattle.dw_op.proofs.Words.{done, Op, Frame, Step, Plain, Measure, Operations, Walker, FrameBlock, Expression, bare, step_at, Walk, walk, sum_in, index_in, op_of, put_first, resolve, unless, block_input}
+use Rattle.dw_op.proofs.{Words.{decode_at, block_of, WalkSo, Walked, WalkedBad, Walks, IsAccepted, ok_ops, ops_of, left_of, StepsSo}, Decoded.{Within, within_more, OpsSo, ops_more, ops_bad, ops_all}}
+use Rattle.dw_op.proofs.{Lent.Blocks.{block_found, block_only, answered, first_of_all, bad_branch, decoded_fault}, Lent.Lines.expression_is, Splits.{walk_step, walk_stuck, walk_end, step_shorter}, Walkers.walked_block}
 
 -- a block without fault in its reading is decoded as its branches are resolved
 pub resolved_is : (i : Input) (r : Result (List Op) Refusal) → (walk Frame i).fault ≡ None → resolve (index_in Frame i) (walk Frame i).items ≡ r → decode_at Frame i ≡ r

@@ -1,15 +1,14 @@
 -- The table of least constants: what each form can write, that no form beats the table's line, and that nothing else is as short.
-use Rattle.dw_op.proofs.Words.{◌≡◌, ℕ, suc, ◌+◌, ◌-◌, ◌*◌, ◌%◌, ◌^◌, ◌<◌, ◌≤◌, Bool, true, false, List, [], ◌∷◌, length, get_or, refl, sym, ap, subst, ◌∙◌, inl, inr, lit<, arith, ℤ, pos, negsuc, FitsSigned, nat_lt, nat_le, nat_eq}
-use Rattle.dw_op.proofs.Words.{if◌then◌else◌, Width, w8, w16, w32, w64, byte_len, cast_unsigned, cases_lt, lt-ltb, le-ltb, le-leb, ints, mod-eq_of_lt, Target, Order, Size, Four, Eight, address_limit, is_negative, Uleb, Sleb, fixed_bytes}
-use Rattle.dw_op.proofs.Words.{Fixed, FixedSigned, shortest_uleb, shortest_sleb, length-fixed, leb_some, groups_below, turned_within, shortest_uleb-least, shortest_sleb-least, shortest_uleb-spells, shortest_uleb-most, shortest_uleb-only}
-use Rattle.dw_op.proofs.Words.{shortest_sleb-spells, shortest_sleb-most, shortest_sleb-only, Op, Const, Spelling, Code, Unsigned, ConstForm, Const1u, Const1s, Const2u, Const2s, Const4u, Const4s, Const8u, Const8s, Constu, Consts, Lit}
-use Rattle.dw_op.proofs.Words.{Written, modulo, AtMost, spelling, operand_bytes, spelling_bytes}
 use Rattle.std.proofs.Math.Nat.{mod-le, pow-le-pow_right}
 use Rattle.dw_num.specs.Inner.Scan.{turned_from, as_signed}
 use Rattle.dw_num.proofs.Lent.Turned.{signed_groups-turned}
 use Rattle.dw_op.specs.{declared.least.Operand.Operand, Inner.LeastOf.constant}
-use Rattle.dw_op.proofs.Lent.Spellings.{LeastSo}
 use Rattle.dw_op.specs.declared.least.Operand.TheVariants as operand
+use Rattle.dw_op.proofs.Words.{◌≡◌, ℕ, suc, ◌+◌, ◌-◌, ◌*◌, ◌%◌, ◌^◌, ◌<◌, ◌≤◌, Bool, true, false, List, [], ◌∷◌, length, get_or, refl, sym, ap, subst, ◌∙◌, inl, inr, lit<, arith, ℤ, pos, negsuc, FitsSigned, nat_lt}
+use Rattle.dw_op.proofs.Words.{nat_le, nat_eq, if◌then◌else◌, Width, w8, w16, w32, w64, byte_len, cast_unsigned, cases_lt, lt-ltb, le-ltb, le-leb, ints, mod-eq_of_lt, Target, Order, Size, Four, Eight, address_limit}
+use Rattle.dw_op.proofs.Words.{is_negative, Uleb, Sleb, fixed_bytes, Fixed, FixedSigned, shortest_uleb, shortest_sleb, length-fixed, leb_some, groups_below, turned_within, shortest_uleb-least, shortest_sleb-least}
+use Rattle.dw_op.proofs.Words.{shortest_uleb-spells, shortest_uleb-most, shortest_uleb-only, shortest_sleb-spells, shortest_sleb-most, shortest_sleb-only, Op, Const, Spelling, Code, Unsigned, ConstForm, Const1u}
+use Rattle.dw_op.proofs.{Words.{Const1s, Const2u, Const2s, Const4u, Const4s, Const8u, Const8s, Constu, Consts, Lit, Written, modulo, AtMost, spelling, operand_bytes, spelling_bytes}, Lent.Spellings.LeastSo}
 
 -- ---- what a form can write
 

@@ -1,11 +1,10 @@
 -- The table of least spellings gives the least of all spellings.
-use Rattle.dw_op.proofs.Words.{◌≡◌, ℕ, ◌+◌, ◌%◌, ◌^◌, ◌<◌, ◌≤◌, suc, List, [], ◌∷◌, ◌++◌, length, refl, sym, ap, subst, ◌∙◌, inl, inr, arith, ℤ, FitsSigned, ◌⊎◌, None, Some, w64, cases_lt, length-append, mod-eq_of_lt, Target, Order, Size}
-use Rattle.dw_op.proofs.Words.{Four, Eight, byte_count, fixed_bytes, Fixed, Uleb, Sleb, Register, length-fixed, shortest_uleb, shortest_sleb, shortest_uleb-spells, shortest_uleb-least, shortest_uleb-only, shortest_sleb-least, leb_some, Op}
-use Rattle.dw_op.proofs.Words.{Addr, Const, Pick, PlusUconst, Bra, Skip, Reg, Breg, Fbreg, Piece, DerefSize, BitPiece, Implicit, Spelling, Code, Both, AnyTwo, IsSpelled, Counted, AtMost, Least, operand_bytes, spelling_bytes, register_form}
-use Rattle.dw_op.proofs.Words.{register_offset, least_spelling, least_bytes, bare, branch_target, Displaced, InRange, bits_of}
 use Rattle.dw_op.specs.Inner.LeastOf.{address}
-use Rattle.dw_op.proofs.{Lent.Spellings.{InRangeSo, LeastSo, range_so, so_least, least_so}, Lent.Ranges.modulo_below, Branches.bytes_of_two}
-use Rattle.dw_op.proofs.LeastConst.{Best, Shortest, shortest_fixed, the_uleb, the_sleb, same_head_so, by_test, constant_best}
+use Rattle.dw_op.proofs.Words.{◌≡◌, ℕ, ◌+◌, ◌%◌, ◌^◌, ◌<◌, ◌≤◌, suc, List, [], ◌∷◌, ◌++◌, length, refl, sym, ap, subst, ◌∙◌, inl, inr, arith, ℤ, FitsSigned, ◌⊎◌, None, Some, w64, cases_lt, length-append, mod-eq_of_lt, Target}
+use Rattle.dw_op.proofs.Words.{Order, Size, Four, Eight, byte_count, fixed_bytes, Fixed, Uleb, Sleb, Register, length-fixed, shortest_uleb, shortest_sleb, shortest_uleb-spells, shortest_uleb-least, shortest_uleb-only}
+use Rattle.dw_op.proofs.Words.{shortest_sleb-least, leb_some, Op, Addr, Const, Pick, PlusUconst, Bra, Skip, Reg, Breg, Fbreg, Piece, DerefSize, BitPiece, Implicit, Spelling, Code, Both, AnyTwo, IsSpelled, Counted}
+use Rattle.dw_op.proofs.{Words.{AtMost, Least, operand_bytes, spelling_bytes, register_form, register_offset, least_spelling, least_bytes, bare, branch_target, Displaced, InRange, bits_of}, Branches.bytes_of_two}
+use Rattle.dw_op.proofs.{LeastConst.{Best, Shortest, shortest_fixed, the_uleb, the_sleb, same_head_so, by_test, constant_best}, Lent.Ranges.modulo_below, Lent.Spellings.{InRangeSo, LeastSo, range_so, so_least, least_so}}
 
 -- ---- the shortest operands
 

@@ -1,13 +1,11 @@
 -- What reading an operation refuses is the fault of its code, or of the first operand field that has one.
+use Rattle.dw_num.specs.declared.target.Size.TheVariants as sizes
+use Rattle.dw_op.specs.Operands as fields
 use Rattle.dw_op.proofs.Words.{◌≡◌, ℕ, ◌+◌, ◌≤◌, true, List, [], ◌∷◌, ◌++◌, Option, Some, None, Result, Ok, Err, refl, sym, ap, subst, ◌∙◌, arith, inl, inr, Width, byte_len, pos, ints, cases_Bool, nat_tests, NotInFrame, Refusal, Order}
 use Rattle.dw_op.proofs.Words.{Target, Size, byte_count, Input, Fixed, FixedSigned, fixed_bytes, Uleb, Sleb, Read, fault, fixed_at, take_at, uleb_at, address_at, ◌>>=◌, fixed_below, byte_again, Op, Profile, Location, ByteCount, One, Plain}
 use Rattle.dw_op.proofs.Words.{Step, Opcode, FieldSpells, OpFormSpells, Field, FieldValue, OpForm, form_at, field_at, past, sized, counted, HasCode, OpFault, opcode_of, code_in_frame, allows, with_op, width_of, signed_of, with_jump}
-use Rattle.dw_op.proofs.Words.{operands_at, judged, step_at}
-use Rattle.dw_op.proofs.Signed.{int_width, count_in, signed_spelled}
-use Rattle.dw_op.proofs.{Lent.ReadingLaws.{branch_in, form_for, Wide, FormWide, opcode_known, allowed_by, signed_in, sized_in, counted_in, value_at, then_value, step_of, operands_are, form_framed}, ReadingAgain.opcode_behind}
-use Rattle.dw_op.proofs.{ResolvedSteps.plain_allows, Splits.input}
-use Rattle.dw_num.specs.declared.target.Size.TheVariants as sizes
-use Rattle.dw_op.specs.Operands as fields
+use Rattle.dw_op.proofs.{Words.{operands_at, judged, step_at}, Lent.ReadingLaws.{branch_in, form_for, Wide, FormWide, opcode_known, allowed_by, signed_in, sized_in, counted_in, value_at, then_value, step_of, operands_are, form_framed}}
+use Rattle.dw_op.proofs.{ReadingAgain.opcode_behind, ResolvedSteps.plain_allows, Signed.{int_width, count_in, signed_spelled}, Splits.input}
 
 -- ---- fields are read as operands are
 

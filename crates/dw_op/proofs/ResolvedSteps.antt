@@ -1,10 +1,9 @@
 -- Steps that are resolved are the operations that stand in a block.
-use Rattle.dw_op.proofs.Words.{◌≡◌, ℕ, ◌+◌, ◌≤◌, true, List, [], ◌∷◌, length, Option, Some, None, refl, sym, ap, subst, ◌∙◌, arith, w16, cast_unsigned, Target, Fixed, fixed_number, Input, ok_is, Op, Profile, Frame, Location, Branch, Step}
-use Rattle.dw_op.proofs.Words.{Plain, Jump, OpSpells, Code, AnyTwo, start, displacement, Displaced, Stands, branch_code, step_allowed, goes_to, find_at, branch_to, op_of, in_frame, op_allowed}
 use Rattle.dw_op.specs.declared.operation.Branch.TheVariants.{Bra, Skip}
-use Rattle.dw_op.proofs.{ReadingAgain.step_again, Lent.Spellings.{by_table, in_table}, Splits.{Spelled, spelled, input}, Branches.{goes_displaced, displaced_goes, displaced_fixed, fixed_displaced, fixed_any, any_fixed, length-two}}
-use Rattle.dw_op.proofs.Lent.ReadingLaws.{some_is}
 use Rattle.dw_op.specs.declared.op.Op.TheVariants as ops
+use Rattle.dw_op.proofs.Words.{◌≡◌, ℕ, ◌+◌, ◌≤◌, true, List, [], ◌∷◌, length, Option, Some, None, refl, sym, ap, subst, ◌∙◌, arith, w16, cast_unsigned, Target, Fixed, fixed_number, Input, ok_is, Op, Profile, Frame, Location, Branch, Step}
+use Rattle.dw_op.proofs.{Words.{Plain, Jump, OpSpells, Code, AnyTwo, start, displacement, Displaced, Stands, branch_code, step_allowed, goes_to, find_at, branch_to, op_of, in_frame, op_allowed}, Branches.{goes_displaced, displaced_goes}}
+use Rattle.dw_op.proofs.{Branches.{displaced_fixed, fixed_displaced, fixed_any, any_fixed, length-two}, Lent.ReadingLaws.some_is, Lent.Spellings.{by_table, in_table}, ReadingAgain.step_again, Splits.{Spelled, spelled, input}}
 
 -- ---- one part, one step
 

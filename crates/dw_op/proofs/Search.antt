@@ -1,9 +1,8 @@
 -- Places that rise, and which of them one is.
-use Rattle.dw_op.proofs.Words.{◌≡◌, ℕ, zero, suc, ◌+◌, ◌<◌, ◌≤◌, List, [], ◌∷◌, length, get_or, Option, Some, None, Result, Ok, Err, refl, sym, ap, subst, inl, inr, arith, MatchResult, length-append, nat_tests, cases_lt, eq-eqb, ne_eqb}
-use Rattle.dw_op.proofs.Words.{Target, Input, AreBytes, Profile, Step, joined, PlacedStep, walk, end_of, index_at, starts_of, place_index, Rises, nat_cmp}
 use Rattle.std.specs.List.Sorted.{IsBinarySearchResult}
 use Rattle.std.proofs.lemmas.List.Sorted.{searched}
-use Rattle.dw_op.proofs.Splits.{EachSpells, items_from, split_of}
+use Rattle.dw_op.proofs.Words.{◌≡◌, ℕ, zero, suc, ◌+◌, ◌<◌, ◌≤◌, List, [], ◌∷◌, length, get_or, Option, Some, None, Result, Ok, Err, refl, sym, ap, subst, inl, inr, arith, MatchResult, length-append, nat_tests, cases_lt}
+use Rattle.dw_op.proofs.{Words.{eq-eqb, ne_eqb, Target, Input, AreBytes, Profile, Step, joined, PlacedStep, walk, end_of, index_at, starts_of, place_index, Rises, nat_cmp}, Splits.{EachSpells, items_from, split_of}}
 
 rises_lower : (low lower : ℕ) (ps : List ℕ) → lower ≤ low → Rises low ps → Rises lower ps
 rises_lower low lower [] le h = tt

@@ -1,9 +1,8 @@
 -- Where operations begin in their least spelling is the sum of what stands before them.
-use Rattle.dw_op.proofs.Words.{◌≡◌, ℕ, suc, ◌+◌, List, [], ◌∷◌, length, Option, Some, None, refl, sym, ap, subst, ◌∙◌, arith, inl, inr, cases_eq, eq-eqb, ne_eqb, length-fixed, Target, Op, Branch, Step, Plain, Jump, StepSpells, least_bytes}
-use Rattle.dw_op.proofs.Words.{least_spelling, blank_parts, branch_target, start, step_length, PlacedStep, plus, passed, goes_to, find_at, branch_to, op_of, resolve}
-use Rattle.dw_op.specs.{Inner.Walk.one, declared.operation.Branch.TheVariants.{Bra, Skip}}
-use Rattle.dw_op.proofs.Lent.{Blocks.{answered, first_of_all}, ReadingLaws.some_is}
+use Rattle.dw_op.specs.{declared.operation.Branch.TheVariants.{Bra, Skip}, Inner.Walk.one}
 use Rattle.dw_op.specs.declared.op.Op.TheVariants as ops
+use Rattle.dw_op.proofs.Words.{◌≡◌, ℕ, suc, ◌+◌, List, [], ◌∷◌, length, Option, Some, None, refl, sym, ap, subst, ◌∙◌, arith, inl, inr, cases_eq, eq-eqb, ne_eqb, length-fixed, Target, Op, Branch, Step, Plain, Jump, StepSpells, least_bytes}
+use Rattle.dw_op.proofs.{Words.{least_spelling, blank_parts, branch_target, start, step_length, PlacedStep, plus, passed, goes_to, find_at, branch_to, op_of, resolve}, Lent.Blocks.{answered, first_of_all}, Lent.ReadingLaws.some_is}
 
 -- where the operation of a number begins
 abbrev pub begins : List (List ℕ) → Option ℕ → Option ℕ

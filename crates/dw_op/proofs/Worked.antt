@@ -1,9 +1,8 @@
 -- Worked faults of operands and branches.
-use Rattle.dw_op.proofs.Words.{◌≡◌, ℕ, zero, suc, List, [], ◌∷◌, Option, Some, None, Result, Ok, Err, refl, subst, ◌∙◌, inl, inr, arith, w16, ints, Truncated, NumberTooLarge, RegisterTooLarge, BadDerefSize, BadBranch, Refusal, Target, Four}
-use Rattle.dw_op.proofs.Words.{Little, Input, FixedSigned, fixed_at, take_at, uleb_at, sleb_at, register_at, Bra, Const, Reg, Dup, StackValue, Location, Code, AnyTwo, displacement, Displaced, OpForm, none, form_of, form_at, BlockFault}
-use Rattle.dw_op.proofs.Words.{Leads}
-use Rattle.dw_op.proofs.Lent.{ReadingLaws.some_is, Spellings.in_table}
 use Rattle.dw_num.specs.declared.refusal.Code as codes
+use Rattle.dw_op.proofs.Words.{◌≡◌, ℕ, zero, suc, List, [], ◌∷◌, Option, Some, None, Result, Ok, Err, refl, subst, ◌∙◌, inl, inr, arith, w16, ints, Truncated, NumberTooLarge, RegisterTooLarge}
+use Rattle.dw_op.proofs.Words.{BadDerefSize, BadBranch, Refusal, Target, Four, Little, Input, FixedSigned, fixed_at, take_at, uleb_at, sleb_at, register_at, Bra, Const, Reg, Dup, StackValue}
+use Rattle.dw_op.proofs.{Words.{Location, Code, AnyTwo, displacement, Displaced, OpForm, none, form_of, form_at, BlockFault, Leads}, Lent.ReadingLaws.some_is, Lent.Spellings.in_table}
 
 abbrev narrow : Target
 narrow = record { size = Four; order = Little }

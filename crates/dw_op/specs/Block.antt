@@ -1,14 +1,7 @@
 -- A block is its operations' spellings, one after the other: DWARF 5, 2.5.1.5 and 7.7.1.
-use Rattle.std.specs.Prelude.{◌≡◌, ℕ, zero, suc, ◌+◌, ℤ, ◌≤◌, List, [], ◌∷◌, length, Option, Some, None, pos, ◌-ℤ◌}
-use Rattle.std.specs.List.{flat_map}
-use Rattle.std.specs.Int.{w16}
-use Rattle.dw_num.specs.declared.target.Target.{Target}
-use Rattle.dw_num.specs.declared.target.Order.{Order}
-use Rattle.dw_num.specs.Fixed.{FixedSigned}
-use Rattle.dw_op.specs.declared.op.Op.{Op}
-use Rattle.dw_op.specs.declared.op.Op.TheVariants.{Bra, Skip}
-use Rattle.dw_op.specs.OpSpells.{OpSpells, Code}
-use Rattle.dw_op.specs.Profile.{InFrame}
+use Rattle.std.specs.{Prelude.{◌≡◌, ℕ, zero, suc, ◌+◌, ℤ, ◌≤◌, List, [], ◌∷◌, length, Option, Some, None, pos, ◌-ℤ◌}, Int.w16, List.flat_map}
+use Rattle.dw_num.specs.{Fixed.FixedSigned, declared.target.Order.Order, declared.target.Target.Target}
+use Rattle.dw_op.specs.{OpSpells.{OpSpells, Code}, Profile.InFrame, declared.op.Op.Op, declared.op.Op.TheVariants.{Bra, Skip}}
 
 -- where part i begins: the lengths of the parts before it, together. At the list's length it is where the last one ends.
 abbrev pub start : List (List ℕ) → ℕ → ℕ

@@ -1,8 +1,7 @@
 -- A list of operations for a target.
 use Rattle.std.specs.Prelude.{List}
 use Rattle.dw_num.specs.declared.target.Target.{Target}
-use Rattle.dw_op.specs.declared.op.Op.{Op}
-use Rattle.dw_op.specs.declared.op.Op.TheVariants.{Implicit}
+use Rattle.dw_op.specs.declared.op.{Op.Op, Op.TheVariants.Implicit}
 
 -- an operation without where its bytes lie in memory
 abbrev pub bare : Op → Op

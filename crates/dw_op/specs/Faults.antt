@@ -1,17 +1,9 @@
 -- The blocks of a profile, and the first fault of bytes that are none.
-use Rattle.std.specs.Prelude.{◌≡◌, ℕ, ◌<◌, ◌≤◌, ◌⊎◌, ◌+◌, List, ◌∷◌, ◌++◌, length, slice_get, Some, Err, Bool, true, IsTrue}
-use Rattle.std.specs.List.{AllByRecursion}
-use Rattle.dw_num.specs.declared.refusal.Code.TheVariants.{BadBranch, NotInFrame, UnknownOperation}
-use Rattle.dw_num.specs.declared.refusal.Refusal.{Refusal}
-use Rattle.dw_num.specs.declared.target.Target.{Target}
-use Rattle.dw_num.specs.Input.{Input}
-use Rattle.dw_op.specs.declared.op.Op.{Op}
-use Rattle.dw_op.specs.declared.profile.Profile.{Profile}
-use Rattle.dw_op.specs.declared.profile.Profile.TheVariants.{Frame, Location}
-use Rattle.dw_op.specs.OpSpells.{OpSpells, Code, AnyTwo}
-use Rattle.dw_op.specs.Block.{start, Displaced, joined, Block, FrameBlock}
-use Rattle.dw_op.specs.Profile.{in_frame}
-use Rattle.dw_op.specs.Operands.{OpForm, form_of, form_at}
+use Rattle.std.specs.{Prelude.{◌≡◌, ℕ, ◌<◌, ◌≤◌, ◌⊎◌, ◌+◌, List, ◌∷◌, ◌++◌, length, slice_get, Some, Err, Bool, true, IsTrue}, List.AllByRecursion}
+use Rattle.dw_num.specs.{Input.Input, declared.refusal.Code.TheVariants.{BadBranch, NotInFrame, UnknownOperation}}
+use Rattle.dw_num.specs.declared.{refusal.Refusal.Refusal, target.Target.Target}
+use Rattle.dw_op.specs.{Block.{start, Displaced, joined, Block, FrameBlock}, OpSpells.{OpSpells, Code, AnyTwo}, Operands.{OpForm, form_of, form_at}}
+use Rattle.dw_op.specs.{Profile.in_frame, declared.op.Op.Op, declared.profile.Profile.Profile, declared.profile.Profile.TheVariants.{Frame, Location}}
 
 -- a block of the operations that the profile has
 abbrev pub IsBlock : Profile → Target → List Op → List ℕ → Type 0

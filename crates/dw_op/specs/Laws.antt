@@ -1,15 +1,8 @@
 -- What holds of blocks and of least blocks.
-use Rattle.std.specs.Prelude.{◌≡◌, ℕ, ◌≤◌, List, length, IsTrue}
-use Rattle.std.specs.List.{AllByRecursion}
-use Rattle.dw_num.specs.declared.refusal.Refusal.{Refusal}
-use Rattle.dw_num.specs.declared.target.Target.{Target}
-use Rattle.dw_op.specs.declared.op.Op.{Op}
-use Rattle.dw_op.specs.declared.profile.Profile.{Profile}
-use Rattle.dw_op.specs.Block.{Block}
-use Rattle.dw_op.specs.Faults.{IsBlock, BlockFault, IsWithin, op_allowed}
-use Rattle.dw_op.specs.Least.{LeastBlock}
-use Rattle.dw_op.specs.Ranges.{AllInRange}
-use Rattle.dw_op.specs.LeastBlock.{TooFar}
+use Rattle.std.specs.{Prelude.{◌≡◌, ℕ, ◌≤◌, List, length, IsTrue}, List.AllByRecursion}
+use Rattle.dw_num.specs.declared.{refusal.Refusal.Refusal, target.Target.Target}
+use Rattle.dw_op.specs.{Block.Block, Faults.{IsBlock, BlockFault, IsWithin, op_allowed}, Least.LeastBlock}
+use Rattle.dw_op.specs.{LeastBlock.TooFar, Ranges.AllInRange, declared.op.Op.Op, declared.profile.Profile.Profile}
 
 -- the operations of a block are in range
 abbrev pub BlockInRange : Type 0

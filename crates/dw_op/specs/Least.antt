@@ -1,9 +1,7 @@
 -- The least spelling of operations.
 use Rattle.std.specs.Prelude.{◌≡◌, ℕ, ◌<◌, ◌≤◌, ◌⊎◌, List, length, slice_index}
 use Rattle.dw_num.specs.declared.target.Target.{Target}
-use Rattle.dw_op.specs.declared.op.Op.{Op}
-use Rattle.dw_op.specs.OpSpells.{OpSpells}
-use Rattle.dw_op.specs.Block.{EachPart, Stands, joined}
+use Rattle.dw_op.specs.{Block.{EachPart, Stands, joined}, OpSpells.OpSpells, declared.op.Op.Op}
 
 -- a is shorter than b, or as long with an opcode that is not greater
 abbrev pub AtMost : List ℕ → List ℕ → Type 0

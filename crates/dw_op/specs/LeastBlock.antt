@@ -1,12 +1,8 @@
 -- Blocks of least spellings, and branches that are too far for any block.
-use Rattle.std.specs.Prelude.{◌≡◌, ℕ, ◌<◌, List, ◌++◌, slice_get, Some, FitsSigned}
-use Rattle.std.specs.Int.{w16}
+use Rattle.std.specs.{Prelude.{◌≡◌, ℕ, ◌<◌, List, ◌++◌, slice_get, Some, FitsSigned}, Int.w16}
 use Rattle.dw_num.specs.declared.target.Target.{Target}
-use Rattle.dw_op.specs.declared.op.Op.{Op}
-use Rattle.dw_op.specs.declared.least_block.EncodeError.{EncodeError}
-use Rattle.dw_op.specs.declared.least_block.EncodeError.TheVariants.{BranchTooFar, OutOfMemory}
-use Rattle.dw_op.specs.Block.{EachPart, branch_target, displacement}
-use Rattle.dw_op.specs.Least.{Least}
+use Rattle.dw_op.specs.{Block.{EachPart, branch_target, displacement}, Least.Least}
+use Rattle.dw_op.specs.declared.{least_block.EncodeError.EncodeError, least_block.EncodeError.TheVariants.{BranchTooFar, OutOfMemory}, op.Op.Op}
 
 -- over these parts, operation k is a branch whose displacement sixteen bits do not hold
 abbrev pub IsFar : List Op → List (List ℕ) → ℕ → Type 0

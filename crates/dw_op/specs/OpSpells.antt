@@ -1,11 +1,8 @@
 -- The spellings of each operation: DWARF 5, 7.7.1.
 use Rattle.std.specs.Prelude.{◌≡◌, ℕ, ◌<◌, ◌≤◌, List, [], ◌∷◌, ◌++◌, length, Some}
-use Rattle.dw_num.specs.declared.target.Target.{Target}
-use Rattle.dw_num.specs.Target.{byte_count}
-use Rattle.dw_num.specs.Leb.{Register, Uleb, Sleb}
-use Rattle.dw_num.specs.Fixed.{Fixed, FixedSigned, Address}
-use Rattle.dw_op.specs.declared.op.Op.{Op}
+use Rattle.dw_num.specs.{Fixed.{Fixed, FixedSigned, Address}, Leb.{Register, Uleb, Sleb}, Target.byte_count, declared.target.Target.Target}
 use Rattle.dw_op.specs.Operands.{Field, fixed, twos, address, unsigned, signed, register, size, block, FieldValue, OpForm, none, one, two, branch, form_of}
+use Rattle.dw_op.specs.declared.op.Op.{Op}
 
 -- a code, and after it what spells the operands
 pub record Code (code : ℕ) (Operands : List ℕ → Type 0) (bytes : List ℕ) : Type 0 where

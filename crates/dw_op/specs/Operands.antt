@@ -1,14 +1,11 @@
 -- Codes of operations, and the operand fields behind each: DWARF 5, 2.5.1, 2.6.1 and 7.7.1. Spelling and fault both go by this table.
-use Rattle.std.specs.Prelude.{ℕ, ◌-◌, ◌%◌, List, [], ◌∷◌, Option, Some, None, Result, Ok, Err, nat_le, nat_lt, nat_eq, ◌&&◌, if◌then◌else◌, Bool, ℤ, pos, negsuc}
-use Rattle.std.specs.Int.{Width, w8, w16, w32, w64, byte_len}
-use Rattle.dw_num.specs.declared.refusal.Code.TheVariants.{BadDerefSize}
-use Rattle.dw_num.specs.declared.refusal.Refusal.{Refusal}
-use Rattle.dw_num.specs.declared.target.Target.{Target}
-use Rattle.dw_num.specs.Target.{byte_count, address_limit}
-use Rattle.dw_num.specs.Input.{Input}
-use Rattle.dw_num.specs.Front.{Read, fault, fixed_at, take_at, uleb_at, sleb_at, register_at, ◌>>=◌}
-use Rattle.dw_op.specs.declared.op.Op.{Op}
-use Rattle.dw_op.specs.declared.op.Op.TheVariants.{Addr, Deref, Const, Dup, Drop, Over, Pick, Swap, Rot, Abs, And, Div, Minus, Mod, Mul, Neg, Not, Or, Plus, PlusUconst, Shl, Shr, Shra, Xor, Bra, Eq, Ge, Gt, Le, Lt, Ne, Skip, Reg, Breg, Fbreg, Piece, DerefSize, Nop, PushObjectAddress, CallFrameCfa, BitPiece, Implicit, StackValue}
+use Rattle.std.specs.Prelude.{ℕ, ◌-◌, ◌%◌, List, [], ◌∷◌, Option, Some, None, Result, Ok, Err, nat_le, nat_lt, nat_eq}
+use Rattle.std.specs.{Prelude.{◌&&◌, if◌then◌else◌, Bool, ℤ, pos, negsuc}, Int.{Width, w8, w16, w32, w64, byte_len}}
+use Rattle.dw_num.specs.{Front.{Read, fault, fixed_at, take_at, uleb_at, sleb_at, register_at, ◌>>=◌}, Input.Input, Target.{byte_count, address_limit}}
+use Rattle.dw_num.specs.declared.{refusal.Code.TheVariants.BadDerefSize, refusal.Refusal.Refusal, target.Target.Target}
+use Rattle.dw_op.specs.declared.op.{Op.Op, Op.TheVariants.{Addr, Deref, Const, Dup, Drop, Over, Pick, Swap, Rot, Abs, And, Div, Minus, Mod, Mul}}
+use Rattle.dw_op.specs.declared.op.Op.TheVariants.{Neg, Not, Or, Plus, PlusUconst, Shl, Shr, Shra, Xor, Bra, Eq, Ge, Gt, Le, Lt, Ne, Skip, Reg, Breg}
+use Rattle.dw_op.specs.declared.op.Op.TheVariants.{Fbreg, Piece, DerefSize, Nop, PushObjectAddress, CallFrameCfa, BitPiece, Implicit, StackValue}
 
 -- ---- fields
 

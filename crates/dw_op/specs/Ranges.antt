@@ -1,10 +1,7 @@
 -- Lists of operations that a target has.
-use Rattle.std.specs.Prelude.{◌≡◌, ℕ, ◌<◌, ◌≤◌, List, length, slice_get, Option, Some, None}
-use Rattle.std.specs.List.{AllByRecursion}
+use Rattle.std.specs.{Prelude.{◌≡◌, ℕ, ◌<◌, ◌≤◌, List, length, slice_get, Option, Some, None}, List.AllByRecursion}
 use Rattle.dw_num.specs.declared.target.Target.{Target}
-use Rattle.dw_op.specs.declared.op.Op.{Op}
-use Rattle.dw_op.specs.OpSpells.{OpSpells}
-use Rattle.dw_op.specs.Block.{branch_target}
+use Rattle.dw_op.specs.{Block.branch_target, OpSpells.OpSpells, declared.op.Op.Op}
 
 -- a branch names an operation of a list of this length, or its end
 abbrev pub TargetWithin : ℕ → Option ℕ → Type 0

@@ -1,13 +1,9 @@
 //! Blocks as lists of operations.
 
-ghost use Rattle.std.specs.Prelude.{◌≡◌, ◌<◌, ◌+◌, ◌^◌, List, map, length, Some, None, MatchOption, MatchResult, IfOk, IfErr, ◌-◌, ◌⊎◌, Ok, Err};
-ghost use Rattle.dw_num.specs.declared.refusal.Refusal.{Refusal};
-ghost use Rattle.dw_num.specs.Refusals.{Refuses};
-ghost use Rattle.dw_op.specs.declared.op.Op.{Op};
-ghost use Rattle.dw_op.specs.Expression.{bare};
-ghost use Rattle.dw_op.specs.Inner.FrontOp.{bare_step};
-ghost use Rattle.dw_op.specs.Inner.Walk.{walk, starts_of, goes_to, place_index, op_of, branch_to, block_input, decode_at, Rises};
-ghost use Rattle.dw_op.specs.Faults.{IsBlock, BlockFault, IsWithin};
+ghost use Rattle.std.specs.Prelude.{◌≡◌, ◌<◌, ◌^◌, List, map, length, Some, None, MatchOption, MatchResult, IfOk, IfErr, ◌-◌, ◌⊎◌, Ok, Err};
+ghost use Rattle.dw_num.specs.{Refusals.Refuses, declared.refusal.Refusal.Refusal};
+ghost use Rattle.dw_op.specs.{Expression.bare, Faults.{IsBlock, BlockFault, IsWithin}, declared.op.Op.Op};
+ghost use Rattle.dw_op.specs.Inner.{FrontOp.bare_step, Walk.{walk, starts_of, goes_to, place_index, op_of, branch_to, block_input, decode_at, Rises}};
 
 use crate::list::OpList;
 use crate::op::Op;

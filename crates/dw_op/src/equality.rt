@@ -1,7 +1,6 @@
 //! Equality of expressions, and their hash.
 
-ghost use Rattle.std.specs.Prelude.{◌≡◌, ◌++◌, [], pos, IsTrue, ◌↔◌, map};
-ghost use Rattle.std.specs.List.{fold};
+ghost use Rattle.std.specs.{Prelude.{◌≡◌, ◌++◌, [], pos, IsTrue, ◌↔◌, map}, List.fold};
 ghost use Rattle.std.specs.Hash as fed;
 ghost use Rattle.dw_op.specs.Expression.{bare};
 ghost use Rattle.dw_op.specs.Inner.Equality.{line, alone, op_line, order_number, target_line, sign_of, size_of, line_fed, lines_fed, line_of};

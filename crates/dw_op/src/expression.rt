@@ -2,14 +2,8 @@
 
 ghost use Rattle.std.specs.Prelude.{◌≡◌, ℕ, List, [], ◌∷◌, IfOk, IfErr, MatchOption, MatchResult, OnOk, OnErr, IsTrue, ◌↔◌, length, take};
 ghost use Rattle.std.specs.Iterator.{YieldsFirstBy, item_count};
-ghost use Rattle.dw_op.specs.declared.op.Op.{Op};
-ghost use Rattle.dw_op.specs.declared.profile.Profile.TheVariants.{Frame};
-ghost use Rattle.dw_op.specs.Expression.{bare};
-ghost use Rattle.dw_op.specs.Block.{FrameBlock};
-ghost use Rattle.dw_op.specs.Least.{LeastBlock};
-ghost use Rattle.dw_op.specs.Faults.{BlockFault, IsWithin};
-ghost use Rattle.dw_op.specs.LeastBlock.{IsAppended};
-ghost use Rattle.dw_op.specs.Inner.Accepted.{IsAccepted, ops_of};
+ghost use Rattle.dw_op.specs.{Block.FrameBlock, Expression.bare, Faults.{BlockFault, IsWithin}, Least.LeastBlock, LeastBlock.IsAppended};
+ghost use Rattle.dw_op.specs.{declared.op.Op.Op, declared.profile.Profile.TheVariants.Frame, Inner.Accepted.{IsAccepted, ops_of}};
 
 use crate::block::decode;
 use crate::equality::{feed_steps, feed_target, same_steps};
@@ -229,8 +223,7 @@ impl<'a> Clone for ExprRef<'a> {
 
 impl<'a> PartialEq for ExprRef<'a> {
     ghost use Rattle.std.specs.Prelude.{◌≡◌, IsTrue, ◌↔◌};
-    ghost use Rattle.dw_op.specs.Inner.Equality.{same_expression};
-    ghost use Rattle.dw_op.specs.Inner.EqualityLaws.{same_laws};
+    ghost use Rattle.dw_op.specs.Inner.{Equality.same_expression, EqualityLaws.same_laws};
 
     ghost eq = { same_expression };
 
@@ -253,8 +246,7 @@ impl<'a> Eq for ExprRef<'a> {
 }
 
 impl<'a> Hash for ExprRef<'a> {
-    ghost use Rattle.dw_op.specs.Inner.Equality.{expression_fed};
-    ghost use Rattle.dw_op.specs.Inner.EqualityLaws.{fed_alike};
+    ghost use Rattle.dw_op.specs.Inner.{Equality.expression_fed, EqualityLaws.fed_alike};
 
     ghost hash_input = { expression_fed };
 

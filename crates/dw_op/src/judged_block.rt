@@ -1,9 +1,7 @@
 //! Judging a block of the frame profile without memory.
 
-ghost use Rattle.std.specs.Prelude.{◌≡◌, None, Some, Ok, Err, IfOk, IfErr, false};
-ghost use Rattle.dw_op.specs.declared.profile.Profile.TheVariants.{Frame};
-ghost use Rattle.dw_op.specs.Inner.Walk.{walk, block_input, decode_at};
-ghost use Rattle.dw_op.specs.Inner.Accepted.{IsAccepted};
+ghost use Rattle.std.specs.Prelude.{◌≡◌, None, Some, Err, IfOk, IfErr, false};
+ghost use Rattle.dw_op.specs.{declared.profile.Profile.TheVariants.Frame, Inner.Accepted.IsAccepted, Inner.Walk.{walk, block_input, decode_at}};
 
 use crate::operation::{Step, next_step};
 use crate::profile::Profile;

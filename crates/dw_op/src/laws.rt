@@ -1,6 +1,7 @@
 //! Laws of blocks, for the layers above. The functions do nothing: their contracts are proved.
 
-ghost use Rattle.dw_op.specs.Laws.{BlockInRange, LeastExists, LeastIsBlock, LeastIsShortest, LeastIsOne, FarHasNoBlock, LeastGivesBack, DecodedIsNear, BlockFaultsWithin};
+ghost use Rattle.dw_op.specs.Laws.{BlockInRange, LeastExists, LeastIsBlock, LeastIsShortest, LeastIsOne};
+ghost use Rattle.dw_op.specs.Laws.{FarHasNoBlock, LeastGivesBack, DecodedIsNear, BlockFaultsWithin};
 
 /// What holds of the blocks and of the least blocks of a list of operations, and of the places of faults.
 pub fn block_laws()

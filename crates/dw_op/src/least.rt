@@ -1,11 +1,9 @@
 //! The least spelling of an operation.
 
-ghost use Rattle.std.specs.Prelude.{◌≡◌, ◌++◌, OnOk, OnErr, take, ℕ, ◌+◌, ◌-◌, ◌<◌, ◌^◌, negsuc, length};
-ghost use Rattle.dw_num.specs.Target.{address_limit};
-ghost use Rattle.dw_num.specs.declared.target.Order.{Order};
-ghost use Rattle.dw_num.specs.Shortest.{shortest_uleb, shortest_sleb};
-ghost use Rattle.dw_op.specs.Expression.{bare};
-ghost use Rattle.dw_op.specs.Inner.LeastOf.{spelling, address, operand_bytes, spelling_bytes, least_bytes, constant, long_constant, longest_constant, register_form, register_offset, least_spelling};
+ghost use Rattle.std.specs.Prelude.{◌≡◌, ◌++◌, OnOk, OnErr, take, ℕ, ◌-◌, ◌<◌, ◌^◌, negsuc, length};
+ghost use Rattle.dw_num.specs.{Shortest.{shortest_uleb, shortest_sleb}, Target.address_limit, declared.target.Order.Order};
+ghost use Rattle.dw_op.specs.{Expression.bare, Inner.LeastOf.{spelling, address, operand_bytes, spelling_bytes, least_bytes}};
+ghost use Rattle.dw_op.specs.Inner.LeastOf.{constant, long_constant, longest_constant, register_form, register_offset, least_spelling};
 
 use crate::op::Op;
 use crate::operation::last_address;

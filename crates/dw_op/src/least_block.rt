@@ -2,12 +2,8 @@
 
 ghost use Rattle.std.specs.Prelude.{◌≡◌, ℕ, ◌+◌, ◌-◌, ◌-ℤ◌, ◌<◌, List, length, map, pos, FitsSigned, ◌++◌, take, MatchOption, IfOk, IfErr, OnOk};
 ghost use Rattle.std.specs.Int.{w16, cast_unsigned};
-ghost use Rattle.dw_op.specs.declared.least_block.EncodeError.TheVariants.{OutOfMemory};
-ghost use Rattle.dw_op.specs.Expression.{bare};
-ghost use Rattle.dw_op.specs.Block.{Block, branch_target};
-ghost use Rattle.dw_op.specs.Least.{LeastBlock};
-ghost use Rattle.dw_op.specs.Ranges.{AllInRange, TargetWithin};
-ghost use Rattle.dw_op.specs.LeastBlock.{IsAppended, IsEncodeError};
+ghost use Rattle.dw_op.specs.{Block.{Block, branch_target}, Expression.bare, Least.LeastBlock, LeastBlock.{IsAppended, IsEncodeError}};
+ghost use Rattle.dw_op.specs.{Ranges.{AllInRange, TargetWithin}, declared.least_block.EncodeError.TheVariants.OutOfMemory};
 ghost use Rattle.dw_op.specs.Inner.LeastBlock.{blank_parts, least_block, AreStarts, AreBits, EachFits};
 
 use crate::least::{op_least_len, put_op};

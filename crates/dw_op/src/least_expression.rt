@@ -1,11 +1,8 @@
 //! Expressions in their least spelling.
 
 ghost use Rattle.std.specs.Prelude.{◌≡◌, ◌<◌, ◌^◌, ◌++◌, length, take, OnOk};
-ghost use Rattle.dw_op.specs.Block.{branch_target};
-ghost use Rattle.dw_op.specs.Expression.{bare};
-ghost use Rattle.dw_op.specs.Inner.Accepted.{IsAccepted, ops_of};
-ghost use Rattle.dw_op.specs.Inner.LeastBlock.{least_block, least_len};
-ghost use Rattle.dw_op.specs.Inner.Sums.{IsNear, bits_to};
+ghost use Rattle.dw_op.specs.{Block.branch_target, Expression.bare, Inner.Accepted.{IsAccepted, ops_of}};
+ghost use Rattle.dw_op.specs.Inner.{LeastBlock.{least_block, least_len}, Sums.{IsNear, bits_to}};
 
 use crate::expression::OpSteps;
 use crate::least::{op_least_len, put_op};

@@ -2,9 +2,7 @@
 
 ghost use Rattle.std.specs.Prelude.{◌≡◌, ◌≤◌, length, map, ◌<◌, IsTrue, ◌↔◌, MatchOption, IfOk, IfErr, IsOk, []};
 ghost use Rattle.dw_num.specs.Target.{byte_count, address_limit};
-ghost use Rattle.dw_op.specs.Expression.{Expression, bare};
-ghost use Rattle.dw_op.specs.Ranges.{InRange, AllInRange, FirstBadOperand};
-ghost use Rattle.dw_op.specs.Inner.Ranges.{Fits};
+ghost use Rattle.dw_op.specs.{Expression.bare, Ranges.{InRange, AllInRange, FirstBadOperand}, Inner.Ranges.Fits};
 
 use crate::equality::same_ops;
 use crate::op::{Op, are_typed};
@@ -24,10 +22,8 @@ pub struct OpList<'a> {
 }
 
 impl<'a> Model for OpList<'a> {
-    ghost use Rattle.dw_op.specs.Expression.{Expression, bare};
     ghost use Rattle.std.specs.Prelude.{map};
-    ghost use Rattle.dw_op.specs.Ranges.{AllInRange};
-    ghost use Rattle.dw_op.specs.Inner.Ranges.{Fits};
+    ghost use Rattle.dw_op.specs.{Expression.{Expression, bare}, Ranges.AllInRange};
 
     ghost Value = { Expression };
 
@@ -151,8 +147,7 @@ impl<'a> OpList<'a> {
 // wherever they lie.
 impl<'a> PartialEq for OpList<'a> {
     ghost use Rattle.std.specs.Prelude.{◌≡◌, IsTrue, ◌↔◌};
-    ghost use Rattle.dw_op.specs.Inner.Equality.{same_expression};
-    ghost use Rattle.dw_op.specs.Inner.EqualityLaws.{same_laws};
+    ghost use Rattle.dw_op.specs.Inner.{Equality.same_expression, EqualityLaws.same_laws};
 
     ghost eq = { same_expression };
 

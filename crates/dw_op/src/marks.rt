@@ -1,11 +1,8 @@
 //! Marks along a block: operations that a search can begin at, and the sum of those before each.
 
-ghost use Rattle.std.specs.Prelude.{◌≡◌, ◌<◌, ◌≤◌, ◌+◌, ◌++◌, ◌∷◌, [], Some, None, IfSome, length, slice_get};
+ghost use Rattle.std.specs.Prelude.{◌≡◌, ◌<◌, ◌≤◌, ◌++◌, ◌∷◌, [], Some, None, IfSome, length, slice_get};
 ghost use Rattle.dw_num.specs.Input.{AreBytes, behind};
-ghost use Rattle.dw_op.specs.declared.profile.Profile.TheVariants.{Frame};
-ghost use Rattle.dw_op.specs.Inner.Sums.{sum_in};
-ghost use Rattle.dw_op.specs.Inner.Walk.{walk};
-ghost use Rattle.dw_op.specs.Inner.Windows.{AreMarks};
+ghost use Rattle.dw_op.specs.{declared.profile.Profile.TheVariants.Frame, Inner.Sums.sum_in, Inner.Walk.walk, Inner.Windows.AreMarks};
 
 use crate::walk::{Measure, advance, copied, sum_from};
 use dw_num::Cursor;

@@ -1,7 +1,6 @@
 //! Operations of DWARF expressions.
 
-ghost use Rattle.std.specs.Prelude.{◌<◌, ◌^◌, length, FitsSigned};
-ghost use Rattle.std.specs.Int.{w64};
+ghost use Rattle.std.specs.{Prelude.{◌<◌, ◌^◌, length, FitsSigned}, Int.w64};
 ghost use Rattle.dw_op.specs.Inner.Ranges.{IsTyped};
 
 /// An operation (2.5.1, 2.6.1, 7.7.1). A branch names the operation that it goes to by its index in the list, which is

@@ -1,9 +1,8 @@
 //! The operation at the front of what is left of a block.
 
 ghost use Rattle.std.specs.Prelude.{◌≡◌, ◌+◌, ◌%◌, ◌^◌, ◌<◌, ◌≤◌, length};
+ghost use Rattle.dw_num.specs.{Fixed.{IsWidth, fixed_number}, Target.address_limit};
 ghost use Rattle.dw_num.specs.Inner.Front.{Gives};
-ghost use Rattle.dw_num.specs.Target.{address_limit, byte_count};
-ghost use Rattle.dw_num.specs.Fixed.{IsWidth, fixed_number};
 ghost use Rattle.dw_op.specs.Operands.{modulo};
 ghost use Rattle.dw_op.specs.Inner.FrontOp.{bare_step, width_of, half_of, signed_of, plain_op, opcode_of, allows, operands_at, deref_size_at, step_at};
 

@@ -1,12 +1,9 @@
 //! The operations of a block one after another, without memory.
 
-ghost use Rattle.std.specs.Prelude.{◌≡◌, ◌<◌, ◌≤◌, ◌+◌, ◌-◌, Some, None, IfSome, length};
+ghost use Rattle.std.specs.Prelude.{◌≡◌, ◌≤◌, None, IfSome, length};
 ghost use Rattle.dw_num.specs.Input.{AreBytes};
-ghost use Rattle.dw_op.specs.declared.profile.Profile.TheVariants.{Frame};
-ghost use Rattle.dw_op.specs.Inner.FrontOp.{bare_step};
-ghost use Rattle.dw_op.specs.Inner.Sums.{step_length, weight, sum_in};
-ghost use Rattle.dw_op.specs.Inner.Walk.{walk, end_of, goes_to, find_at, block_input};
-ghost use Rattle.dw_op.specs.Inner.Windows.{Shifted, block_of, WalkSo, SoughtSo, Walks};
+ghost use Rattle.dw_op.specs.{declared.profile.Profile.TheVariants.Frame, Inner.FrontOp.bare_step, Inner.Sums.{step_length, weight, sum_in}};
+ghost use Rattle.dw_op.specs.Inner.{Walk.{walk, end_of, goes_to, find_at, block_input}, Windows.{Shifted, block_of, WalkSo, SoughtSo, Walks}};
 
 use crate::block::{goal, named};
 use crate::least::op_least_len;

@@ -1,6 +1,5 @@
 -- A walk between the items that it has seen and those that are left.
-use Rattle.dw_section.proofs.Words.{◌≡◌, List, [], ◌∷◌, ◌++◌, refl, sym, ap, subst, ◌∙◌, append_assoc, append-nil, AllByRecursion, Refusal, FirstStuck, IsAmong}
-use Rattle.dw_section.proofs.Stages.{among_here, holds_at}
+use Rattle.dw_section.proofs.{Words.{◌≡◌, List, [], ◌∷◌, ◌++◌, refl, sym, ap, subst, ◌∙◌, append_assoc, append-nil, AllByRecursion, Refusal, FirstStuck, IsAmong}, Stages.{among_here, holds_at}}
 
 pub record Between {X : Type 0} (Left Front : List X → Type 0) (xs : List X) : Type 0 where
   pub front : List X

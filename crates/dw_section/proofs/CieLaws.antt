@@ -1,6 +1,5 @@
 -- The CIE at a place of a section is one.
-use Rattle.dw_section.proofs.Words.{◌≡◌, ℕ, List, ◌∙◌, refl, sym, ap, subst, Target, Led, Head, cie, fde, FoundFde, IsFoundIn, LedBy, Section, led_to, unled, NamesCie}
-use Rattle.dw_section.proofs.Lent.{HeaderLaws.one_headers, Heads.{heads_rise, one_among}}
+use Rattle.dw_section.proofs.{Words.{◌≡◌, ℕ, List, ◌∙◌, refl, sym, ap, subst, Target, Led, Head, cie, fde, FoundFde, IsFoundIn, LedBy, Section, led_to, unled, NamesCie}, Lent.HeaderLaws.one_headers, Lent.Heads.{heads_rise, one_among}}
 
 -- what a walk is led to by a CIE's head
 abbrev led_in : Target → Head → Led

@@ -1,6 +1,5 @@
 -- How long the program of an FDE of a table and that of its CIE are.
-use Rattle.dw_section.proofs.Words.{ℕ, List, length, refl, Target, FoundFde, HasLengths, IsFoundIn, fde_of}
-use Rattle.dw_section.proofs.RowLookup.{program_so, says_so}
+use Rattle.dw_section.proofs.{Words.{ℕ, List, length, refl, Target, FoundFde, HasLengths, IsFoundIn, fde_of}, RowLookup.{program_so, says_so}}
 
 pub found_lengths : (target : Target) (s : List ℕ) (e : FoundFde) → IsFoundIn target s e → HasLengths target s (fde_of e) (length e.program.bytes.now) (length e.cie_program.bytes.now)
 found_lengths target s e h =

@@ -1,7 +1,6 @@
 -- The walk that reads the fields of FDEs and runs their programs.
-use Rattle.dw_section.proofs.Words.{◌≡◌, ◌≤◌, ℕ, List, Option, Some, None, sym, ap, subst, ◌∙◌, inl, inr, IfSome, AllByRecursion, Form, Target, Refusal, Piece, Pieces, cie_places, FirstStuck, Head, Has, Headers, HeadersFault, FdeHolds}
-use Rattle.dw_section.proofs.Words.{FdeStuck, FdeFits, FdeEntry, SaysFde, Tells, entry_in, Initial, AreCies}
-use Rattle.dw_section.proofs.{Items.one_pieces, Left.headers_so, Lent.HeaderLaws.{has_fde, has_one, heads_of}, Lent.Heads.{has_at, has_fits}}
+use Rattle.dw_section.proofs.Words.{◌≡◌, ◌≤◌, ℕ, List, Option, Some, None, sym, ap, subst, ◌∙◌, inl, inr, IfSome, AllByRecursion, Form, Target, Refusal, Piece, Pieces, cie_places, FirstStuck, Head, Has, Headers, HeadersFault}
+use Rattle.dw_section.proofs.{Words.{FdeHolds, FdeStuck, FdeFits, FdeEntry, SaysFde, Tells, entry_in, Initial, AreCies}, Items.one_pieces, Left.headers_so, Lent.HeaderLaws.{has_fde, has_one, heads_of}, Lent.Heads.{has_at, has_fits}}
 
 -- ---- a piece
 

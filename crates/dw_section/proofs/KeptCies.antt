@@ -1,9 +1,8 @@
 -- What is kept of CIEs as they are read, and what running their programs tells.
-use Rattle.dw_section.proofs.Words.{◌≡◌, ◌≤◌, ℕ, List, [], ◌∷◌, ◌++◌, length, refl, sym, ap, ◌∙◌, subst, arith, inl, inr, length-append, map, cons_option, Dwarf32, AllByRecursion, AllZip, Form, Target, Refusal, Kind, Piece, CieHead, Head}
-use Rattle.dw_section.proofs.Words.{cie, fde, Has, Headers, Pieces, cie_places, place_if, place_of, CieHolds, CieStuck, CieRuns, CieBroken, FirstStuck, IsAmong, Initial, initial_head, initial_in, cie_pieces, if_cie, IsRead, AreCies, AreOf}
-use Rattle.dw_section.proofs.Words.{AreInitials, IsInitial, StandsIn}
-use Rattle.dw_section.proofs.{Between.{Between, between_among}, Items.one_pieces, StandLaws.stands_in, Lent.HeaderLaws.{has_cie, has_one}, Lent.Heads.has_at, Stages.all_from_zip}
 use Rattle.dw_section.specs.declared.entry.Kind.TheVariants as kind
+use Rattle.dw_section.proofs.Words.{◌≡◌, ◌≤◌, ℕ, List, [], ◌∷◌, ◌++◌, length, refl, sym, ap, ◌∙◌, subst, arith, inl, inr, length-append, map, cons_option, Dwarf32, AllByRecursion, AllZip, Form, Target, Refusal, Kind, Piece, CieHead}
+use Rattle.dw_section.proofs.Words.{Head, cie, fde, Has, Headers, Pieces, cie_places, place_if, place_of, CieHolds, CieStuck, CieRuns, CieBroken, FirstStuck, IsAmong, Initial, initial_head, initial_in, cie_pieces, if_cie, IsRead}
+use Rattle.dw_section.proofs.{Words.{AreCies, AreOf, AreInitials, IsInitial, StandsIn}, Between.{Between, between_among}, Items.one_pieces, Lent.HeaderLaws.{has_cie, has_one}, Lent.Heads.has_at, Stages.all_from_zip, StandLaws.stands_in}
 
 -- ---- as they are read
 

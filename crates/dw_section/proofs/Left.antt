@@ -1,8 +1,7 @@
 -- A walk over a section that has a cut gives its pieces, and one over a section that has headers gives these.
-use Rattle.dw_section.proofs.Words.{◌≡◌, ℕ, ◌+◌, ◌<◌, ◌≤◌, List, [], ◌∷◌, length, Err, refl, sym, ap, subst, ◌∙◌, arith, length-append, AllZip, cons_option, Form, Order, Target, Refusal, length_bytes, Input, Takes, Kind, Item, gap, entry}
-use Rattle.dw_section.proofs.Words.{IsItem, item_bytes, is_cie, Piece, piece_of, pieces, item_at, Pieces, cie_places, Head, Has, Headers, PiecesLeft, HeadsLeft}
 use Rattle.dw_section.specs.Inner.Left.{Stays}
-use Rattle.dw_section.proofs.Items.{item_some, stuck_before, left_by, none_by}
+use Rattle.dw_section.proofs.Words.{◌≡◌, ℕ, ◌+◌, ◌<◌, ◌≤◌, List, [], ◌∷◌, length, Err, refl, sym, ap, subst, ◌∙◌, arith, length-append, AllZip, cons_option, Form, Order, Target, Refusal, length_bytes, Input, Takes, Kind, Item}
+use Rattle.dw_section.proofs.{Words.{gap, entry, IsItem, item_bytes, is_cie, Piece, piece_of, pieces, item_at, Pieces, cie_places, Head, Has, Headers, PiecesLeft, HeadsLeft}, Items.{item_some, stuck_before, left_by, none_by}}
 
 pub left_item : (old new : Input) (item : Item) (ps : List Piece) → IsItem item → Takes old (item_bytes old.target.order item) new → PiecesLeft old ps
     → (rest : List Piece) × (ps ≡ cons_option (piece_of old.target.order old.at item) rest) × PiecesLeft new rest

@@ -1,9 +1,8 @@
 -- How the program of an FDE of a table begins.
-use Rattle.dw_section.proofs.Words.{◌≡◌, ℕ, ◌+◌, List, Option, Some, None, refl, ap, ◌∙◌, arith, IfSome, ℤ, Target, AreBytes, Instr, ProgramSpells, first_row, row_with, FoundFde, Accepted, CieRow, OpensBehind, found_cie, IsFoundIn, fde_of}
-use Rattle.dw_section.proofs.Words.{IsSome}
 use Rattle.dw_cfa.specs.declared.opening.{FirstRow.FirstRow, FirstRow.TheVariants.{Initial, CfaOffset, Other}}
 use Rattle.dw_section.specs.Inner.Opening.{row_behind}
-use Rattle.dw_section.proofs.{RowLookup.{program_so, says_so}, Lent.Sections.one_programs}
+use Rattle.dw_section.proofs.Words.{◌≡◌, ℕ, ◌+◌, List, Option, Some, None, refl, ap, ◌∙◌, arith, IfSome, ℤ, Target, AreBytes, Instr, ProgramSpells, first_row, row_with}
+use Rattle.dw_section.proofs.{Words.{FoundFde, Accepted, CieRow, OpensBehind, found_cie, IsFoundIn, fde_of, IsSome}, Lent.Sections.one_programs, RowLookup.{program_so, says_so}}
 
 -- an answer to how a program begins
 abbrev pub Opens : Target → FoundFde → Option CieRow → Type 0

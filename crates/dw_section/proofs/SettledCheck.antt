@@ -1,11 +1,10 @@
 -- A section is accepted, or has a first fault.
-use Rattle.dw_section.proofs.Words.{◌≡◌, ℕ, zero, suc, ◌+◌, ◌<◌, ◌≤◌, ◌⊎◌, true, List, [], ◌∷◌, ◌++◌, refl, sym, ap, subst, ◌∙◌, append_assoc, append-nil, arith, inl, inr, Option, Some, None, Result, Ok, Err, AllByRecursion, cases_lt}
-use Rattle.dw_section.proofs.Words.{eqb_tells, AreBytes, Target, Refusal, NoCfaRule, Overlap, input_of, Factors, Instr, CfaRule, Unset, ProgramSpells, Rules, Outcome, cfa_after, initial_cfa, counts_exists, one_count, address_limit, IsAmong}
-use Rattle.dw_section.proofs.Words.{is_among, Head, cie, fde, CieHead, FdeHead, Headers, HasBytes, cie_ats, HeadsRise, factors_of, CieRuns, CieBroken, FdeRuns, FdeBroken, HasRules, LacksRule, HasCfa, InitialInstrs, HeadersFault}
-use Rattle.dw_section.proofs.Words.{CieProgramsFault, FdeProgramsFault, RulesFault, CheckFault, CiesRun, FdesRun, RulesHold, Indexed, Accepted, Range, nonempty, Precedes, Ascends, IsIndex, AreApart, FirstOverlap, end_of, PlacesRise, Input}
-use Rattle.dw_section.proofs.Words.{LeavesTo, RunsBehind, CieKept, behind_where_fault, one_behind, one_initial, LacksCfa}
-use Rattle.dw_section.proofs.{Cfa.row_of, Ordered.apart_more, Settled.{Settled, answered, heads_settled, next_settled}, Stages.all_weaker, Tables.nonempty_rise, Lent.CheckFirst.{Known, known}, Lent.Heads.heads_rise}
-use Rattle.dw_section.proofs.Lent.Index.{all_from, all_in}
+use Rattle.dw_section.proofs.Words.{◌≡◌, ℕ, zero, suc, ◌+◌, ◌<◌, ◌≤◌, ◌⊎◌, true, List, [], ◌∷◌, ◌++◌, refl, sym, ap, subst, ◌∙◌, append_assoc, append-nil, arith, inl, inr, Option, Some, None, Result, Ok, Err}
+use Rattle.dw_section.proofs.Words.{AllByRecursion, cases_lt, eqb_tells, AreBytes, Target, Refusal, NoCfaRule, Overlap, input_of, Factors, Instr, CfaRule, Unset, ProgramSpells, Rules, Outcome, cfa_after, initial_cfa}
+use Rattle.dw_section.proofs.Words.{counts_exists, one_count, address_limit, IsAmong, is_among, Head, cie, fde, CieHead, FdeHead, Headers, HasBytes, cie_ats, HeadsRise, factors_of, CieRuns, CieBroken, FdeRuns, FdeBroken}
+use Rattle.dw_section.proofs.Words.{HasRules, LacksRule, HasCfa, InitialInstrs, HeadersFault, CieProgramsFault, FdeProgramsFault, RulesFault, CheckFault, CiesRun, FdesRun, RulesHold, Indexed, Accepted, Range, nonempty}
+use Rattle.dw_section.proofs.{Words.{Precedes, Ascends, IsIndex, AreApart, FirstOverlap, end_of, PlacesRise, Input, LeavesTo, RunsBehind, CieKept, behind_where_fault, one_behind, one_initial, LacksCfa}, Cfa.row_of}
+use Rattle.dw_section.proofs.{Lent.CheckFirst.{Known, known}, Lent.Heads.heads_rise, Lent.Index.{all_from, all_in}, Ordered.apart_more, Settled.{Settled, answered, heads_settled, next_settled}, Stages.all_weaker, Tables.nonempty_rise}
 
 -- ---- programs of CIEs
 

@@ -1,10 +1,9 @@
 -- What is refused where an entry stands is its first fault.
-use Rattle.dw_section.proofs.Words.{◌≡◌, ℕ, ◌+◌, ◌≤◌, List, [], ◌∷◌, length, drop, take, Some, Err, refl, sym, subst, ◌∙◌, inl, inr, None, le-ltb, take-append-drop, NoSuchCie, Refusal, ReadError, Refuses, Outcome, Target, Input, input_of}
-use Rattle.dw_section.proofs.Words.{Piece, id_width, Head, Has, FdeStuck, cie_at, fde_at, fixed_at, fixed_only, BothStuck, NamesCieAt, RefusesAs, StandsAs}
-use Rattle.dw_section.specs.declared.standing_fde.{LookUpError.LookUpError, LookUpError.TheVariants.{Refused, BadIndex, OutOfMemory}}
-use Rattle.dw_section.proofs.Lent.HeaderLaws.{cie_faulty, fde_faulty, has_fde}
 use Rattle.dw_num.specs.declared.error.ReadError.TheVariants as reading
+use Rattle.dw_section.specs.declared.standing_fde.{LookUpError.LookUpError, LookUpError.TheVariants.{Refused, BadIndex, OutOfMemory}}
 use Rattle.dw_section.specs.declared.entry.Kind.TheVariants as kind
+use Rattle.dw_section.proofs.Words.{◌≡◌, ℕ, ◌+◌, ◌≤◌, List, [], ◌∷◌, length, drop, take, Some, Err, refl, sym, subst, ◌∙◌, inl, inr, None, le-ltb, take-append-drop, NoSuchCie, Refusal, ReadError, Refuses, Outcome, Target}
+use Rattle.dw_section.proofs.{Words.{Input, input_of, Piece, id_width, Head, Has, FdeStuck, cie_at, fde_at, fixed_at, fixed_only, BothStuck, NamesCieAt, RefusesAs, StandsAs}, Lent.HeaderLaws.{cie_faulty, fde_faulty, has_fde}}
 
 -- ---- the first field
 

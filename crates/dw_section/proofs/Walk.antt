@@ -1,7 +1,6 @@
 -- A walk over a section: it stays there, and of whatever list is known to be the section's it is between two items.
-use Rattle.dw_section.proofs.Words.{◌≡◌, List, [], ◌∷◌, ◌++◌, refl, AllByRecursion, Input, Refusal, FirstStuck}
 use Rattle.dw_section.specs.Inner.Left.{Stays}
-use Rattle.dw_section.proofs.{Between.{Between, between_start, between_next, between_end, between_stuck}, Left.stays_then}
+use Rattle.dw_section.proofs.{Words.{◌≡◌, List, [], ◌∷◌, ◌++◌, refl, AllByRecursion, Input, Refusal, FirstStuck}, Between.{Between, between_start, between_next, between_end, between_stuck}, Left.stays_then}
 
 pub record Walk {X : Type 0} (Left : Input → List X → Type 0) (Known : List X → Type 0) (Front : List X → List X → Type 0) (start now : Input) : Type 0 where
   pub stays : Stays start now

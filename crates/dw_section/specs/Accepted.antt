@@ -1,12 +1,8 @@
 -- Which sections are accepted, and the first fault of one that is not.
-use Rattle.std.specs.Prelude.{ℕ, List}
-use Rattle.std.specs.List.{AllByRecursion}
-use Rattle.dw_num.specs.declared.target.Target.{Target}
-use Rattle.dw_num.specs.declared.refusal.Refusal.{Refusal}
-use Rattle.dw_section.specs.Stage.{FirstStuck, Then}
-use Rattle.dw_section.specs.Headers.{Head, Headers, HeadersFault}
-use Rattle.dw_section.specs.Programs.{CieRuns, CieBroken, FdeRuns, FdeBroken, HasRules, LacksRule}
-use Rattle.dw_section.specs.Overlap.{Range, IsIndex, AreApart, FirstOverlap}
+use Rattle.std.specs.{Prelude.{ℕ, List}, List.AllByRecursion}
+use Rattle.dw_num.specs.declared.{refusal.Refusal.Refusal, target.Target.Target}
+use Rattle.dw_section.specs.{Headers.{Head, Headers, HeadersFault}, Overlap.{Range, IsIndex, AreApart, FirstOverlap}}
+use Rattle.dw_section.specs.{Programs.{CieRuns, CieBroken, FdeRuns, FdeBroken, HasRules, LacksRule}, Stage.{FirstStuck, Then}}
 
 -- ---- the stages, each behind those before
 

@@ -1,14 +1,9 @@
 -- The first fault in the way of a cut.
 use Rattle.std.specs.Prelude.{◌≡◌, ℕ, ◌<◌, ◌≤◌, ◌==◌, ◌&&◌, ◌⊎◌, Bool, true, false, List, ◌++◌, length, take, Ok, Err, nat_lt, if◌then◌else◌}
 use Rattle.std.specs.List.{AllByRecursion}
-use Rattle.dw_num.specs.declared.target.Target.{Target}
-use Rattle.dw_num.specs.declared.target.Form.{Form}
-use Rattle.dw_num.specs.declared.target.Form.TheVariants.{Dwarf32, Dwarf64}
-use Rattle.dw_num.specs.declared.target.UnitLength.{UnitLength}
-use Rattle.dw_num.specs.declared.refusal.Code.TheVariants.{Truncated, EntryPastEnd, SectionTooLarge}
-use Rattle.dw_num.specs.declared.refusal.Refusal.{Refusal}
-use Rattle.dw_num.specs.Input.{Input, behind}
-use Rattle.dw_num.specs.Front.{Read, fault, unit_length_at, ◌>>=◌}
+use Rattle.dw_num.specs.{Front.{Read, fault, unit_length_at, ◌>>=◌}, Input.{Input, behind}}
+use Rattle.dw_num.specs.declared.refusal.{Code.TheVariants.{Truncated, EntryPastEnd, SectionTooLarge}, Refusal.Refusal}
+use Rattle.dw_num.specs.declared.target.{Form.Form, Form.TheVariants.{Dwarf32, Dwarf64}, Target.Target, UnitLength.UnitLength}
 use Rattle.dw_section.specs.Cut.{Item, gap, entry, IsItem, id_width, all_bytes}
 
 abbrev pub is_32 : Form → Bool

@@ -1,21 +1,12 @@
 -- The fields of entries, with what is refused in each: DWARF 5, 6.4.1, and versions 1 and 3 before it.
-use Rattle.std.specs.Prelude.{◌≡◌, ◌⊎◌, ℕ, zero, suc, ◌+◌, ◌==◌, ◌||◌, Bool, List, [], ◌∷◌, Option, Some, None, Ok, Err, ℤ, nat_le, nat_lt, position, if◌then◌else◌}
-use Rattle.std.specs.List.{list_any}
-use Rattle.dw_num.specs.declared.refusal.Code.{Code}
-use Rattle.dw_num.specs.declared.refusal.Code.TheVariants.{Truncated, BadVersion, Augmentation, AddressSize, SegmentSelector, RegisterTooLarge, NoSuchCie, RangeTooLarge}
-use Rattle.dw_num.specs.declared.refusal.Refusal.{Refusal}
-use Rattle.dw_num.specs.declared.target.Form.{Form}
-use Rattle.dw_num.specs.declared.target.Size.{Size}
-use Rattle.dw_num.specs.declared.target.Target.{Target}
-use Rattle.dw_num.specs.Input.{Input, behind}
-use Rattle.dw_num.specs.Target.{address_limit, byte_count}
+use Rattle.std.specs.Prelude.{◌≡◌, ◌⊎◌, ℕ, zero, suc, ◌+◌, ◌==◌, ◌||◌, Bool, List, [], ◌∷◌, Option, Some}
+use Rattle.std.specs.{Prelude.{None, Ok, Err, ℤ, nat_le, nat_lt, position, if◌then◌else◌}, List.list_any}
+use Rattle.dw_num.specs.{Fixed.Fixed, Front.{Read, fixed_at, uleb_at, sleb_at}, Input.{Input, behind}, Leb.{Uleb, Sleb}, Target.{address_limit, byte_count}}
+use Rattle.dw_num.specs.declared.refusal.{Code.Code, Code.TheVariants.{Truncated, BadVersion, Augmentation, AddressSize, SegmentSelector}}
+use Rattle.dw_num.specs.declared.refusal.{Code.TheVariants.{RegisterTooLarge, NoSuchCie, RangeTooLarge}, Refusal.Refusal}
+use Rattle.dw_num.specs.declared.target.{Form.Form, Size.Size, Target.Target}
 use Rattle.dw_op.specs.OpSpells.{Both}
-use Rattle.dw_num.specs.Fixed.{Fixed}
-use Rattle.dw_num.specs.Leb.{Uleb, Sleb}
-use Rattle.dw_num.specs.Front.{Read, fixed_at, uleb_at, sleb_at}
-use Rattle.dw_section.specs.Cut.{id_width}
-use Rattle.dw_section.specs.declared.fields.CieFields.{CieFields}
-use Rattle.dw_section.specs.declared.fields.FdeFields.{FdeFields}
+use Rattle.dw_section.specs.{Cut.id_width, declared.fields.CieFields.CieFields, declared.fields.FdeFields.FdeFields}
 
 -- ---- numbers
 

@@ -1,26 +1,11 @@
 -- Laws of sections, for the layers above.
-use Rattle.std.specs.Prelude.{◌≡◌, ◌↔◌, ◌⊎◌, ℕ, ◌<◌, ◌≤◌, List, ◌∷◌, ◌++◌, length, map}
-use Rattle.std.specs.List.{AllByRecursion, AllZip}
-use Rattle.dw_num.specs.declared.target.Target.{Target}
-use Rattle.dw_num.specs.Input.{AreBytes}
-use Rattle.dw_cfa.specs.declared.instr.Instr.{Instr}
-use Rattle.dw_cfa.specs.Location.{row_starts}
-use Rattle.dw_cfa.specs.Rows.{Rules}
-use Rattle.dw_section.specs.declared.lookup.Fde.{Fde}
-use Rattle.dw_num.specs.declared.refusal.Refusal.{Refusal}
-use Rattle.dw_section.specs.Accepted.{Accepted, CheckFault}
+use Rattle.std.specs.{Prelude.{◌≡◌, ◌↔◌, ◌⊎◌, ℕ, ◌<◌, ◌≤◌, List, ◌∷◌, ◌++◌, length, map}, List.{AllByRecursion, AllZip}}
+use Rattle.dw_num.specs.{Input.AreBytes, declared.refusal.Refusal.Refusal, declared.target.Target.Target}
 use Rattle.dw_op.specs.Faults.{IsWithin}
-use Rattle.dw_section.specs.Changes.{AreChanges}
-use Rattle.dw_section.specs.Fits.{RowFits}
-use Rattle.dw_section.specs.Faults.{CutFault}
-use Rattle.dw_section.specs.Headers.{Head, Headers, HeadersFault}
-use Rattle.dw_section.specs.Pieces.{Entries}
-use Rattle.dw_section.specs.declared.entry.Entry.{Entry}
-use Rattle.dw_section.specs.Meaning.{FdeSays, AreFdes, Covers, RulesAt, ChangesOf, RowStarts, total}
-use Rattle.dw_section.specs.Meanings.{SameMeaning}
-use Rattle.dw_section.specs.Among.{IsAmong}
-use Rattle.dw_section.specs.Opening.{CieLeaves}
-use Rattle.dw_cfa.specs.declared.rule.CfaRule.TheVariants.{Unset}
+use Rattle.dw_cfa.specs.{Location.row_starts, Rows.Rules, declared.instr.Instr.Instr, declared.rule.CfaRule.TheVariants.Unset}
+use Rattle.dw_section.specs.{Accepted.{Accepted, CheckFault}, Among.IsAmong, Changes.AreChanges, Faults.CutFault, Fits.RowFits}
+use Rattle.dw_section.specs.{Headers.{Head, Headers, HeadersFault}, Meaning.{FdeSays, AreFdes, Covers, RulesAt, ChangesOf, RowStarts, total}}
+use Rattle.dw_section.specs.{Meanings.SameMeaning, Opening.CieLeaves, Pieces.Entries, declared.entry.Entry.Entry, declared.lookup.Fde.Fde}
 
 -- a section has entries, headers and a table, or a first fault in the way of each
 abbrev pub SomeEntries : Type 0

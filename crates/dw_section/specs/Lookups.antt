@@ -1,10 +1,7 @@
 -- Look-ups one after another.
 use Rattle.std.specs.Prelude.{◌≡◌, ℕ, List, Bool, true, false, Option, Some, None}
 use Rattle.dw_cfa.specs.Rows.{Rules}
-use Rattle.dw_section.specs.declared.lookup.Fde.{Fde}
-use Rattle.dw_section.specs.Meaning.{Covers, NoneCovers, RulesAt}
-use Rattle.dw_section.specs.Among.{IsAmong}
-use Rattle.dw_section.specs.Table.{Section}
+use Rattle.dw_section.specs.{Among.IsAmong, Meaning.{Covers, NoneCovers, RulesAt}, Table.Section, declared.lookup.Fde.Fde}
 
 -- a section, and the FDE and the row of the last look-up, where one was found
 pub record Finding : Type 0 where

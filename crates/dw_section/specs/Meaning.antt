@@ -1,17 +1,9 @@
 -- What a section says: DWARF 5, 6.4.1. Its nonempty FDEs, and the rules at each address that they cover.
-use Rattle.std.specs.Prelude.{◌≡◌, ℕ, ◌+◌, ◌<◌, ◌≤◌, List, [], ◌∷◌, length}
-use Rattle.std.specs.List.{AllByRecursion, AllZip}
+use Rattle.std.specs.{Prelude.{◌≡◌, ℕ, ◌+◌, ◌<◌, ◌≤◌, List, [], ◌∷◌, length}, List.{AllByRecursion, AllZip}}
 use Rattle.dw_num.specs.declared.target.Target.{Target}
-use Rattle.dw_cfa.specs.declared.instr.Instr.{Instr}
-use Rattle.dw_cfa.specs.InitialRules.{HoldsAfter}
-use Rattle.dw_cfa.specs.Location.{Counts, row_starts}
-use Rattle.dw_cfa.specs.Rows.{Rules}
-use Rattle.dw_section.specs.declared.lookup.Fde.{Fde}
-use Rattle.dw_section.specs.Changes.{AreChanges}
-use Rattle.dw_section.specs.Headers.{CieHead, FdeHead, Head, cie, fde, Headers}
-use Rattle.dw_section.specs.Overlap.{Range, range_of, IsIndex, end_of}
-use Rattle.dw_section.specs.Programs.{Instrs}
-use Rattle.dw_section.specs.Among.{IsAmong}
+use Rattle.dw_cfa.specs.{InitialRules.HoldsAfter, Location.{Counts, row_starts}, Rows.Rules, declared.instr.Instr.Instr}
+use Rattle.dw_section.specs.{Among.IsAmong, Changes.AreChanges, Headers.{CieHead, FdeHead, Head, cie, fde, Headers}}
+use Rattle.dw_section.specs.{Overlap.{Range, range_of, IsIndex, end_of}, Programs.Instrs, declared.lookup.Fde.Fde}
 
 -- ---- the FDEs
 

@@ -1,18 +1,10 @@
 -- How an FDE's program begins: DWARF 5, 6.4.3.
 use Rattle.std.specs.Prelude.{◌≡◌, ℕ, true, List, Ok}
-use Rattle.dw_num.specs.declared.target.Target.{Target}
-use Rattle.dw_num.specs.Span.{input_of}
-use Rattle.dw_cfa.specs.declared.instr.Instr.{Instr}
-use Rattle.dw_cfa.specs.Opening.{first_row, row_with}
-use Rattle.dw_cfa.specs.Behind.{LeavesTo}
-use Rattle.dw_cfa.specs.RegisterSets.{Registers, SameBeside, has}
-use Rattle.dw_cfa.specs.Rows.{Rules, rule}
-use Rattle.dw_section.specs.declared.lookup.Fde.{Fde}
-use Rattle.dw_section.specs.declared.opening.CieRow.{CieRow}
-use Rattle.dw_section.specs.Among.{IsAmong}
-use Rattle.dw_section.specs.Headers.{CieHead, Head, Headers, cie}
-use Rattle.dw_section.specs.Meaning.{FdeSays}
-use Rattle.dw_section.specs.Programs.{InitialInstrs, factors_of}
+use Rattle.dw_num.specs.{Span.input_of, declared.target.Target.Target}
+use Rattle.dw_cfa.specs.{Behind.LeavesTo, Opening.{first_row, row_with}, RegisterSets.{Registers, SameBeside, has}}
+use Rattle.dw_cfa.specs.{Rows.{Rules, rule}, declared.instr.Instr.Instr}
+use Rattle.dw_section.specs.{Among.IsAmong, Headers.{CieHead, Head, Headers, cie}, Meaning.FdeSays, Programs.{InitialInstrs, factors_of}}
+use Rattle.dw_section.specs.declared.{lookup.Fde.Fde, opening.CieRow.CieRow}
 
 -- the FDE's CIE stands at the place of the row, and by its own program its first row is the one that the CIE's program leaves, with
 -- the row's offset of the CFA where it has one

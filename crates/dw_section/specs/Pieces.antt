@@ -1,8 +1,7 @@
 -- The entries of a section with their contents.
 use Rattle.std.specs.Prelude.{◌≡◌, ℕ, ◌≤◌, List, length, map}
 use Rattle.dw_num.specs.declared.target.Target.{Target}
-use Rattle.dw_section.specs.declared.entry.Entry.{Entry}
-use Rattle.dw_section.specs.Cut.{Item, Piece, pieces, Cut}
+use Rattle.dw_section.specs.{Cut.{Item, Piece, pieces, Cut}, declared.entry.Entry.Entry}
 
 -- these are the pieces of the section
 pub record Pieces (target : Target) (s : List ℕ) (ps : List Piece) : Type 0 where

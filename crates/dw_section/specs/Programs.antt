@@ -1,21 +1,10 @@
 -- Entries whose programs are judged too: DWARF 5, 6.4.2 and 6.4.3.
 use Rattle.std.specs.Prelude.{◌≡◌, ℕ, ◌+◌, ◌<◌, ◌≤◌, List}
-use Rattle.dw_num.specs.declared.target.Target.{Target}
-use Rattle.dw_num.specs.declared.refusal.Code.TheVariants.{NoCfaRule}
-use Rattle.dw_num.specs.declared.refusal.Refusal.{Refusal}
-use Rattle.dw_num.specs.Span.{Span, input_of}
-use Rattle.dw_num.specs.Target.{address_limit}
-use Rattle.dw_cfa.specs.declared.instr.Factors.{Factors}
-use Rattle.dw_cfa.specs.declared.instr.Instr.{Instr}
-use Rattle.dw_cfa.specs.declared.rule.CfaRule.TheVariants.{Unset}
-use Rattle.dw_cfa.specs.InstrSpells.{ProgramSpells}
-use Rattle.dw_cfa.specs.Location.{Counts}
-use Rattle.dw_cfa.specs.Column.{cfa_after}
-use Rattle.dw_cfa.specs.Kept.{CieKept, FdeKept}
-use Rattle.dw_cfa.specs.Faults.{CieFault, FdeFault}
-use Rattle.dw_cfa.specs.InitialRules.{initial_cfa}
-use Rattle.dw_section.specs.Among.{IsAmong}
-use Rattle.dw_section.specs.Headers.{CieHead, Head, cie, fde}
+use Rattle.dw_num.specs.{Span.{Span, input_of}, Target.address_limit}
+use Rattle.dw_num.specs.declared.{refusal.Code.TheVariants.NoCfaRule, refusal.Refusal.Refusal, target.Target.Target}
+use Rattle.dw_cfa.specs.{Column.cfa_after, Faults.{CieFault, FdeFault}, InitialRules.initial_cfa, InstrSpells.ProgramSpells, Kept.{CieKept, FdeKept}}
+use Rattle.dw_cfa.specs.{Location.Counts, declared.instr.Factors.Factors, declared.instr.Instr.Instr, declared.rule.CfaRule.TheVariants.Unset}
+use Rattle.dw_section.specs.{Among.IsAmong, Headers.{CieHead, Head, cie, fde}}
 
 abbrev pub factors_of : CieHead → Factors
 factors_of c = record { code_factor = c.code_factor; data_factor = c.data_factor }

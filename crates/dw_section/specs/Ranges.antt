@@ -1,13 +1,8 @@
 -- An index: a list of FDEs' ranges, each with the place of its FDE. It need not be that of a section.
-use Rattle.std.specs.Prelude.{◌≡◌, ℕ, ◌+◌, ◌<◌, ◌≤◌, List, length, map, slice_index_or}
-use Rattle.std.specs.List.{AllByRecursion}
+use Rattle.std.specs.{Prelude.{◌≡◌, ℕ, ◌+◌, ◌<◌, ◌≤◌, List, length, map, slice_index_or}, List.AllByRecursion}
 use Rattle.dw_num.specs.declared.target.Target.{Target}
-use Rattle.dw_section.specs.declared.fde_range.Ranged.{Ranged}
-use Rattle.dw_section.specs.declared.lookup.Fde.{Fde}
-use Rattle.dw_section.specs.Accepted.{RulesHold}
-use Rattle.dw_section.specs.Headers.{Head}
-use Rattle.dw_section.specs.Meaning.{Covers, NoneCovers, Returns}
-use Rattle.dw_section.specs.Overlap.{Range, Ascends, AreApart, IsIndex}
+use Rattle.dw_section.specs.{Accepted.RulesHold, Headers.Head, Meaning.{Covers, NoneCovers, Returns}, Overlap.{Range, Ascends, AreApart, IsIndex}}
+use Rattle.dw_section.specs.declared.{fde_range.Ranged.Ranged, lookup.Fde.Fde}
 
 abbrev pub range_in : Ranged → Range
 range_in e = record { at = e.at; begin = e.begin; range = e.range }

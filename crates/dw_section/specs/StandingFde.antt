@@ -9,30 +9,14 @@
 -- 6. the program of the CIE, and then that of the FDE up to the address.
 -- Whatever stands elsewhere in the bytes is not judged. `check` judges the fields of all CIEs before those of any FDE.
 use Rattle.std.specs.Prelude.{◌≡◌, ◌⊎◌, ℕ, ◌+◌, ◌<◌, ◌≤◌, List, [], ◌∷◌, ◌++◌, length, take, drop, Option, Some, None, Err}
-use Rattle.dw_num.specs.declared.refusal.Code.TheVariants.{SectionTooLarge}
-use Rattle.dw_num.specs.declared.refusal.Refusal.{Refusal}
-use Rattle.dw_num.specs.declared.target.Order.{Order}
-use Rattle.dw_num.specs.declared.target.Target.{Target}
-use Rattle.dw_num.specs.Fixed.{Fixed}
-use Rattle.dw_num.specs.Span.{input_of}
-use Rattle.dw_cfa.specs.Faults.{FaultUpTo, NoFaultUpTo}
-use Rattle.dw_cfa.specs.Gives.{RunsTo}
-use Rattle.dw_cfa.specs.RuleAt.{last_at}
-use Rattle.dw_cfa.specs.Rows.{Rules}
-use Rattle.dw_cfa.specs.Runs.{Outcome}
-use Rattle.dw_section.specs.declared.entry.Kind.{Kind}
+use Rattle.dw_num.specs.{Fixed.Fixed, Span.input_of, declared.refusal.Code.TheVariants.SectionTooLarge}
+use Rattle.dw_num.specs.declared.{refusal.Refusal.Refusal, target.Order.Order, target.Target.Target}
+use Rattle.dw_cfa.specs.{Faults.{FaultUpTo, NoFaultUpTo}, Gives.RunsTo, Rows.Rules, RuleAt.last_at, Runs.Outcome}
+use Rattle.dw_section.specs.{Cut.{Item, IsItem, Piece, id_width, item_bytes, piece_of}, Faults.item_at}
+use Rattle.dw_section.specs.{Headers.{CieHead, FdeHead, Has, cie, fde, CieStuck, FdeHolds, FdeStuck}, Meaning.Covers, Programs.factors_of}
+use Rattle.dw_section.specs.{Ranges.LeadsTo, Stage.Then, declared.entry.Kind.Kind, declared.fde_range.Ranged.Ranged, declared.lookup.Fde.Fde}
+use Rattle.dw_section.specs.declared.standing_fde.{LookUpError.LookUpError, LookUpError.TheVariants.{Refused, BadIndex, OutOfMemory}}
 use Rattle.dw_section.specs.declared.entry.Kind.TheVariants as kind
-use Rattle.dw_section.specs.declared.lookup.Fde.{Fde}
-use Rattle.dw_section.specs.declared.standing_fde.LookUpError.{LookUpError}
-use Rattle.dw_section.specs.declared.standing_fde.LookUpError.TheVariants.{Refused, BadIndex, OutOfMemory}
-use Rattle.dw_section.specs.declared.fde_range.Ranged.{Ranged}
-use Rattle.dw_section.specs.Cut.{Item, IsItem, Piece, id_width, item_bytes, piece_of}
-use Rattle.dw_section.specs.Faults.{item_at}
-use Rattle.dw_section.specs.Headers.{CieHead, FdeHead, Has, cie, fde, CieStuck, FdeHolds, FdeStuck}
-use Rattle.dw_section.specs.Meaning.{Covers}
-use Rattle.dw_section.specs.Programs.{factors_of}
-use Rattle.dw_section.specs.Ranges.{LeadsTo}
-use Rattle.dw_section.specs.Stage.{Then}
 
 -- an entry stands at its place
 pub record StandsIn (order : Order) (s : List ℕ) (p : Piece) : Type 0 where

@@ -1,22 +1,12 @@
 //! The addresses at which the rules of an FDE change (6.4.3), one at a time.
 
 ghost use Rattle.std.specs.Prelude.{◌≡◌, ◌+◌, ◌<◌, ◌↔◌, ℕ, List, [], IsTrue, Ok, Some, None, true, IsErr, IfOk, IfSome, OnErr, OnOk, MatchOption};
-ghost use Rattle.dw_num.specs.Input.{AreBytes};
-ghost use Rattle.dw_num.specs.Target.{address_limit};
-ghost use Rattle.dw_cfa.specs.Difference.{FirstDifference, place_behind};
-ghost use Rattle.dw_cfa.specs.Agreement.{kept};
-ghost use Rattle.dw_cfa.specs.Behind.{LeavesTo};
-ghost use Rattle.dw_cfa.specs.RegisterSets.{SameBeside, has};
-ghost use Rattle.dw_cfa.specs.RowWalk.{AllKeep, StandsOn};
-ghost use Rattle.dw_cfa.specs.Rows.{AreSpecified, Rules, is_specified, rule};
-ghost use Rattle.dw_section.specs.Changes.{GivesAddress, GivesChange, GoesOn, before_then, kept_by};
-ghost use Rattle.dw_section.specs.Opening.{AreChanged, CieLeaves};
+ghost use Rattle.dw_num.specs.{Input.AreBytes, Target.address_limit};
+ghost use Rattle.dw_cfa.specs.{Agreement.kept, Behind.LeavesTo, Difference.{FirstDifference, place_behind}, RegisterSets.{SameBeside, has}};
+ghost use Rattle.dw_cfa.specs.{RowWalk.{AllKeep, StandsOn}, Rows.{AreSpecified, Rules, is_specified, rule}, declared.execution.LocatedRow.LocatedRow};
+ghost use Rattle.dw_section.specs.{Changes.{GivesAddress, GivesChange, GoesOn, before_then, kept_by}, Opening.{AreChanged, CieLeaves}};
 ghost use Rattle.dw_section.specs.Inner.Changes.{Before, FindsChange, FindsFirst, ShownBehind, changing};
-ghost use Rattle.dw_section.specs.Inner.NarrowRow.{ChangesKeep};
-ghost use Rattle.dw_section.specs.Inner.Shown.{shown_if, shown_of};
-ghost use Rattle.dw_section.specs.Inner.Index.{led_to};
-ghost use Rattle.dw_section.specs.Inner.Lookup.{AreRowsOf, LedBy};
-ghost use Rattle.dw_cfa.specs.declared.execution.LocatedRow.{LocatedRow};
+ghost use Rattle.dw_section.specs.Inner.{Index.led_to, Lookup.{AreRowsOf, LedBy}, NarrowRow.ChangesKeep, Shown.{shown_if, shown_of}};
 
 use crate::listed_fde::{FoundFde, lead};
 use crate::walks::{is_long, turn_walk};
@@ -204,9 +194,7 @@ pub struct Changes<'a> {
 }
 
 impl<'a> Model for Changes<'a> {
-    ghost use Rattle.dw_section.specs.Changes.{Changing};
-    ghost use Rattle.dw_section.specs.Inner.Shown.{shown_if, shown_of, before_of};
-    ghost use Rattle.dw_section.specs.Inner.Changes.{ChangesSo, changes_among};
+    ghost use Rattle.dw_section.specs.{Changes.Changing, Inner.Changes.{ChangesSo, changes_among}, Inner.Shown.{shown_if, shown_of, before_of}};
 
     ghost Value = { Changing };
 

@@ -1,25 +1,12 @@
 //! Cutting a section into its entries (6.4.1, 7.4).
 
-ghost use Rattle.std.specs.Prelude.{◌≡◌, ℕ, ◌+◌, ◌<◌, ◌≤◌, ◌==◌, List, [], ◌∷◌, ◌++◌, length, take, MatchResult, IfOk, IfErr, IfSome, OnOk};
-ghost use Rattle.std.specs.List.{list_all};
-ghost use Rattle.dw_num.specs.declared.target.Order.{Order};
-ghost use Rattle.dw_num.specs.declared.target.Target.{Target};
-ghost use Rattle.dw_num.specs.declared.refusal.Refusal.{Refusal};
-ghost use Rattle.dw_num.specs.declared.refusal.Code.TheVariants.{SectionTooLarge};
-ghost use Rattle.dw_num.specs.Input.{Takes};
-ghost use Rattle.dw_section.specs.Inner.Reads.{Gives};
-ghost use Rattle.dw_num.specs.Refusals.{Refuses};
-ghost use Rattle.dw_num.specs.declared.error.ReadError.TheVariants.{OutOfMemory};
-ghost use Rattle.dw_section.specs.Cut.{Cut, Item, IsItem, Piece, item_bytes, is_cie, id_width};
-ghost use Rattle.dw_section.specs.Inner.Counts.{ArePlaced};
-ghost use Rattle.dw_section.specs.Inner.Left.{PiecesLeft, GivesPiece, GoesOn};
-ghost use Rattle.dw_section.specs.Pieces.{Pieces, Entries};
-ghost use Rattle.dw_section.specs.Inner.Pieces.{IsPlaced};
-ghost use Rattle.dw_section.specs.Faults.{item_at, CutFault};
-ghost use Rattle.dw_section.specs.Laws.{SomeEntries};
-ghost use Rattle.dw_section.specs.Inner.Faults.{item_of};
+ghost use Rattle.std.specs.{Prelude.{◌≡◌, ℕ, ◌+◌, ◌<◌, ◌≤◌, ◌==◌, List, [], ◌∷◌, ◌++◌, length, take, MatchResult, IfOk, IfErr, IfSome, OnOk}, List.list_all};
+ghost use Rattle.dw_num.specs.{Input.Takes, Refusals.Refuses, declared.error.ReadError.TheVariants.OutOfMemory};
+ghost use Rattle.dw_num.specs.declared.{refusal.Code.TheVariants.SectionTooLarge, refusal.Refusal.Refusal, target.Order.Order, target.Target.Target};
 ghost use Rattle.dw_op.specs.Faults.{IsWithin};
-ghost use Rattle.dw_section.specs.declared.entry.Entry.{Entry};
+ghost use Rattle.dw_section.specs.{Cut.{Cut, Item, IsItem, Piece, item_bytes, is_cie, id_width}, Faults.{item_at, CutFault}};
+ghost use Rattle.dw_section.specs.{Laws.SomeEntries, Pieces.{Pieces, Entries}, declared.entry.Entry.Entry};
+ghost use Rattle.dw_section.specs.Inner.{Counts.ArePlaced, Faults.item_of, Left.{PiecesLeft, GivesPiece, GoesOn}, Pieces.IsPlaced, Reads.Gives};
 
 use dw_num::{Code, Cursor, Form, Program, ReadError, Refusal, Target};
 use std::alloc::{AllocError, Global};

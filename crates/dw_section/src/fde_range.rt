@@ -1,27 +1,14 @@
 //! Nonempty FDEs in the order of their begins, and those that share an address.
 
-ghost use Rattle.std.specs.Prelude.{◌≡◌, ◌+◌, ◌<◌, ◌≤◌, ℕ, true, None, List, [], ◌∷◌, ◌++◌, length, slice_index_or, map, IfOk, IfErr, IfSome, OnOk, MatchOption};
-ghost use Rattle.std.specs.List.{AllByRecursion};
-ghost use Rattle.dw_num.specs.declared.refusal.Code.TheVariants.{Overlap};
-ghost use Rattle.dw_num.specs.declared.target.Form.{Form as TheForm};
-ghost use Rattle.dw_num.specs.declared.target.Target.{Target as TheTarget};
-ghost use Rattle.dw_num.specs.Refusals.{Refuses};
-ghost use Rattle.dw_section.specs.declared.fde_range.Ranged.{Ranged as TheRanged};
-ghost use Rattle.dw_section.specs.Cut.{Piece};
-ghost use Rattle.dw_section.specs.Pieces.{Pieces};
-ghost use Rattle.dw_section.specs.Fields.{is_among};
-ghost use Rattle.dw_section.specs.Headers.{Head, Headers};
-ghost use Rattle.dw_section.specs.Programs.{FdeBroken};
-ghost use Rattle.dw_section.specs.Inner.Heads.{FdeFits};
-ghost use Rattle.dw_section.specs.Inner.PieceHeader.{Tells, entry_in};
-ghost use Rattle.dw_section.specs.Inner.Index.{AreJudged};
-ghost use Rattle.dw_section.specs.Inner.Table.{AreRanges};
-ghost use Rattle.dw_section.specs.Ranges.{AreIndexed, IsRanged, range_in};
-ghost use Rattle.dw_section.specs.Inner.Initials.{place_of, or_place, AreCies, AreOf, IsInitial, IsRunner, AreInitials};
-ghost use Rattle.dw_section.specs.Overlap.{nonempty, AreApart, FirstOverlap};
-ghost use Rattle.dw_section.specs.Inner.Places.{Rises};
-ghost use Rattle.dw_section.specs.Accepted.{RulesFault};
-ghost use Rattle.dw_section.specs.Among.{IsAmong};
+ghost use Rattle.std.specs.Prelude.{◌≡◌, ◌+◌, ◌<◌, ◌≤◌, ℕ, true, None, List, [], ◌∷◌, ◌++◌, length, slice_index_or};
+ghost use Rattle.std.specs.{Prelude.{map, IfOk, IfErr, IfSome, OnOk, MatchOption}, List.AllByRecursion};
+ghost use Rattle.dw_num.specs.{Refusals.Refuses, declared.refusal.Code.TheVariants.Overlap};
+ghost use Rattle.dw_num.specs.declared.target.{Form.{Form as TheForm}, Target.{Target as TheTarget}};
+ghost use Rattle.dw_section.specs.{Accepted.RulesFault, Among.IsAmong, Cut.Piece, Fields.is_among, Headers.{Head, Headers}};
+ghost use Rattle.dw_section.specs.{Overlap.{nonempty, AreApart, FirstOverlap}, Pieces.Pieces, Programs.FdeBroken};
+ghost use Rattle.dw_section.specs.{Ranges.{AreIndexed, IsRanged, range_in}, declared.fde_range.Ranged.{Ranged as TheRanged}};
+ghost use Rattle.dw_section.specs.Inner.{Heads.FdeFits, Index.AreJudged, Initials.{place_of, or_place, AreCies, AreOf, IsInitial, IsRunner, AreInitials}};
+ghost use Rattle.dw_section.specs.Inner.{PieceHeader.{Tells, entry_in}, Places.Rises, Table.AreRanges};
 
 use crate::entry::next_piece;
 use crate::header::{Cies, FdeEntry, Initial, fde_of, or_fields_fault};

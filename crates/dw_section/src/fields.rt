@@ -1,13 +1,10 @@
 //! The fields of CIEs and FDEs.
 
-ghost use Rattle.std.specs.Prelude.{◌≡◌, ◌<◌, nat_le, ◌+◌, ◌||◌, ℕ, Ok, position, ◌==◌};
-ghost use Rattle.dw_section.specs.Inner.Places.{Rises};
-ghost use Rattle.dw_section.specs.Inner.Reads.{Gives};
-ghost use Rattle.dw_num.specs.Target.{address_limit};
+ghost use Rattle.std.specs.Prelude.{◌≡◌, nat_le, ◌+◌, ◌||◌, ℕ, Ok, position, ◌==◌};
+ghost use Rattle.dw_num.specs.{Target.address_limit, declared.refusal.Code.TheVariants.BadVersion};
 ghost use Rattle.dw_section.specs.Fields.{Fields, fde_fields, field, fixed, unless, empty_string, sizes, return_register, factors, is_among};
 ghost use Rattle.dw_section.specs.declared.fields.CieFields.{CieFields as TheCieFields};
-ghost use Rattle.dw_num.specs.declared.refusal.Code.TheVariants.{BadVersion};
-ghost use Rattle.dw_section.specs.Inner.Fields.{Passes, behind_id, fields_at};
+ghost use Rattle.dw_section.specs.Inner.{Fields.{Passes, behind_id, fields_at}, Places.Rises, Reads.Gives};
 
 use crate::entry::width_of;
 use dw_num::{Code, Cursor, Form, Refusal, Size};

@@ -1,29 +1,14 @@
 //! The headers of a section: the fields of its entries.
 
-ghost use Rattle.std.specs.Prelude.{◌≡◌, ◌⊎◌, ℕ, ◌+◌, ◌≤◌, List, [], ◌∷◌, ◌++◌, length, map, IfOk, IfErr, OnOk, MatchResult};
-ghost use Rattle.dw_section.specs.Counts.{AreCounts};
-ghost use Rattle.dw_section.specs.Cut.{Piece};
-ghost use Rattle.std.specs.List.{AllByRecursion};
-ghost use Rattle.dw_num.specs.Span.{span_of};
-ghost use Rattle.dw_num.specs.declared.error.ReadError.TheVariants.{OutOfMemory};
-ghost use Rattle.dw_num.specs.Refusals.{Refuses};
-ghost use Rattle.dw_section.specs.declared.entry.Kind.TheVariants as kind;
-ghost use Rattle.dw_num.specs.declared.target.Target.{Target};
-ghost use Rattle.dw_num.specs.declared.refusal.Refusal.{Refusal};
-ghost use Rattle.dw_section.specs.Overlap.{Range, IsIndex};
-ghost use Rattle.dw_section.specs.Inner.Stage.{Answers};
+ghost use Rattle.std.specs.{Prelude.{◌≡◌, ◌⊎◌, ℕ, ◌+◌, ◌≤◌, List, length, map, IfOk, IfErr, MatchResult}, List.AllByRecursion};
+ghost use Rattle.dw_num.specs.{Refusals.Refuses, Span.span_of, declared.error.ReadError.TheVariants.OutOfMemory};
+ghost use Rattle.dw_num.specs.declared.{refusal.Refusal.Refusal, target.Target.Target};
 ghost use Rattle.dw_op.specs.Faults.{IsWithin};
-ghost use Rattle.dw_section.specs.Pieces.{Pieces};
-ghost use Rattle.dw_section.specs.Inner.Pieces.{piece_in};
-ghost use Rattle.dw_section.specs.Places.{cie_places};
-ghost use Rattle.dw_section.specs.Inner.Places.{Rises};
-ghost use Rattle.dw_section.specs.Inner.Initials.{AreCies, IsRead};
-ghost use Rattle.dw_section.specs.StandingFde.{StandsIn};
-ghost use Rattle.dw_section.specs.Inner.Left.{PiecesLeft};
-ghost use Rattle.dw_section.specs.Inner.PieceHeader.{SaysFde, cie_at, fde_at, initial_in, entry_in, program_of};
-ghost use Rattle.dw_section.specs.Headers.{Head, Has, Headers, head_in, CieHolds, CieStuck, CiesHold, FdeHolds, FdeStuck, CieFieldsFault, HeadersFault};
-ghost use Rattle.dw_section.specs.Stage.{FirstStuck};
-ghost use Rattle.dw_section.specs.Laws.{SomeHeaders};
+ghost use Rattle.dw_section.specs.{Counts.AreCounts, Cut.Piece, Headers.{Head, Has, Headers, head_in, CieHolds, CieStuck, CiesHold, FdeHolds}};
+ghost use Rattle.dw_section.specs.{Headers.{FdeStuck, CieFieldsFault, HeadersFault}, Laws.SomeHeaders, Overlap.{Range, IsIndex}, Pieces.Pieces};
+ghost use Rattle.dw_section.specs.{Places.cie_places, Stage.FirstStuck, StandingFde.StandsIn, Inner.Initials.{AreCies, IsRead}, Inner.Left.PiecesLeft};
+ghost use Rattle.dw_section.specs.Inner.{PieceHeader.{SaysFde, cie_at, fde_at, initial_in, entry_in, program_of}, Pieces.piece_in, Places.Rises, Stage.Answers};
+ghost use Rattle.dw_section.specs.declared.entry.Kind.TheVariants as kind;
 
 use crate::entry::{EntryCounts, Kind, Placed, cut, next_piece, width_of};
 use crate::fields::{read_cie, read_fde};

@@ -1,20 +1,11 @@
 //! The FDEs of a table, read again at their places.
 
 ghost use Rattle.std.specs.Prelude.{◌≡◌, ◌<◌, ℕ, List, length, slice_index_or, None};
-ghost use Rattle.dw_section.specs.declared.lookup.Fde.{Fde as TheFde};
-ghost use Rattle.dw_num.specs.Span.{Span, span_of};
-ghost use Rattle.dw_section.specs.declared.fields.FdeFields.{FdeFields};
-ghost use Rattle.dw_section.specs.Headers.{Head, Headers, IsFde};
-ghost use Rattle.dw_section.specs.Inner.Index.{IsFound, led_to};
-ghost use Rattle.dw_section.specs.Ranges.{IsRanged, fde_in};
-ghost use Rattle.dw_section.specs.Inner.Initials.{AreInitials};
-ghost use Rattle.dw_section.specs.Inner.Pieces.{piece_in};
-ghost use Rattle.dw_section.specs.Inner.Lookup.{AreRowsOf, fde_of, IsFoundIn, LedBy, LedSo};
-ghost use Rattle.dw_section.specs.Table.{Section};
-ghost use Rattle.dw_num.specs.Target.{address_limit};
-ghost use Rattle.dw_cfa.specs.RowSteps.{stepping};
-ghost use Rattle.dw_cfa.specs.declared.execution.LocatedRow.{LocatedRow};
-ghost use Rattle.dw_section.specs.Meaning.{AreFdes};
+ghost use Rattle.dw_num.specs.{Span.{Span, span_of}, Target.address_limit};
+ghost use Rattle.dw_cfa.specs.{RowSteps.stepping, declared.execution.LocatedRow.LocatedRow};
+ghost use Rattle.dw_section.specs.{Headers.{Head, Headers, IsFde}, Meaning.AreFdes, Ranges.{IsRanged, fde_in}, Table.Section};
+ghost use Rattle.dw_section.specs.declared.{fields.FdeFields.FdeFields, lookup.Fde.{Fde as TheFde}};
+ghost use Rattle.dw_section.specs.Inner.{Index.{IsFound, led_to}, Initials.AreInitials, Lookup.{AreRowsOf, fde_of, IsFoundIn, LedBy, LedSo}, Pieces.piece_in};
 
 use crate::entry::{Placed, width_of};
 use crate::fde_range::Ranged;

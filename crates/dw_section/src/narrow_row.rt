@@ -1,10 +1,8 @@
 //! A row narrowed to the registers that all changes of an FDE specify.
 
 ghost use Rattle.std.specs.Prelude.{◌≡◌, ◌⊎◌, true, Some, OnErr, OnOk};
-ghost use Rattle.dw_cfa.specs.Agreement.{kept};
-ghost use Rattle.dw_cfa.specs.Rows.{Rules};
-ghost use Rattle.dw_section.specs.Changes.{behind_all, kept_by};
-ghost use Rattle.dw_section.specs.Inner.NarrowRow.{NarrowedBy};
+ghost use Rattle.dw_cfa.specs.{Agreement.kept, Rows.Rules};
+ghost use Rattle.dw_section.specs.{Changes.{behind_all, kept_by}, Inner.NarrowRow.NarrowedBy};
 
 use crate::change::Changes;
 use dw_cfa::Row;

@@ -1,15 +1,9 @@
 //! How an FDE's program begins.
 
-ghost use Rattle.std.specs.Prelude.{◌≡◌, ◌<◌, List, length, slice_index_or, IfSome};
-ghost use Rattle.std.specs.Option.{IsSome};
-ghost use Rattle.dw_cfa.specs.declared.instr.Instr.{Instr};
-ghost use Rattle.dw_cfa.specs.InstrSpells.{ProgramSpells};
-ghost use Rattle.dw_cfa.specs.Opening.{first_row};
-ghost use Rattle.dw_section.specs.declared.lookup.Fde.{Fde as TheFde};
-ghost use Rattle.dw_section.specs.Meaning.{AreFdes, HasLengths};
-ghost use Rattle.dw_section.specs.Opening.{OpensBehind};
-ghost use Rattle.dw_section.specs.declared.opening.CieRow.{CieRow as TheRow};
-ghost use Rattle.dw_section.specs.Inner.Opening.{row_behind};
+ghost use Rattle.std.specs.{Prelude.{◌≡◌, ◌<◌, List, length, slice_index_or, IfSome}, Option.IsSome};
+ghost use Rattle.dw_cfa.specs.{InstrSpells.ProgramSpells, Opening.first_row, declared.instr.Instr.Instr};
+ghost use Rattle.dw_section.specs.{Meaning.{AreFdes, HasLengths}, Opening.OpensBehind, declared.lookup.Fde.{Fde as TheFde}};
+ghost use Rattle.dw_section.specs.{declared.opening.CieRow.{CieRow as TheRow}, Inner.Opening.row_behind};
 
 use crate::listed_fde::FoundFde;
 use crate::lookup::FdeRef;

@@ -1,29 +1,14 @@
 //! Running the programs of a section's entries (6.4.2, 6.4.3).
 
-ghost use Rattle.std.specs.Prelude.{◌≡◌, ◌+◌, ◌<◌, ℕ, true, false, List, [], ◌∷◌, ◌++◌, length, slice_index_or, map, Some, None, IfOk, IfErr, IfSome, OnOk};
-ghost use Rattle.std.specs.List.{AllByRecursion};
-ghost use Rattle.dw_num.specs.declared.target.Form.{Form as TheForm};
-ghost use Rattle.dw_num.specs.Refusals.{Refuses};
-ghost use Rattle.dw_num.specs.declared.target.Target.{Target as TheTarget};
-ghost use Rattle.dw_section.specs.declared.header.Initial.{Initial as TheInitial};
-ghost use Rattle.dw_section.specs.declared.program.Long.{Long as TheLong};
-ghost use Rattle.dw_num.specs.Span.{span_of, input_of};
-ghost use Rattle.dw_num.specs.Target.{address_limit};
-ghost use Rattle.dw_cfa.specs.declared.instr.Instr.{Instr};
-ghost use Rattle.dw_cfa.specs.declared.execution.LocatedRow.{LocatedRow};
-ghost use Rattle.dw_cfa.specs.RulesBehind.{RulesBehind};
-ghost use Rattle.dw_cfa.specs.Faults.{FdeFault};
-ghost use Rattle.dw_cfa.specs.CieMachine.{with_steps};
-ghost use Rattle.dw_cfa.specs.Coverage.{Lacks};
-ghost use Rattle.std.specs.Bool.{MatchBool};
-ghost use Rattle.dw_section.specs.Fields.{is_among};
-ghost use Rattle.dw_section.specs.Headers.{Head, fde};
-ghost use Rattle.dw_section.specs.Inner.PieceHeader.{initial_in};
-ghost use Rattle.dw_section.specs.Inner.Initials.{place_of, AreOf, IsInitial, IsBehind, IsLong, IsRunner, AreInitials, HasOrLacks};
-ghost use Rattle.dw_section.specs.Inner.Places.{Rises};
-ghost use Rattle.dw_section.specs.Programs.{CieRuns, CieBroken, FdeRuns, FdeBroken};
-ghost use Rattle.dw_section.specs.Among.{IsAmong};
-ghost use Rattle.dw_section.specs.Stage.{FirstStuck};
+ghost use Rattle.std.specs.Prelude.{◌≡◌, ◌+◌, ◌<◌, ℕ, true, List, length, slice_index_or, map, Some, IfOk, IfErr, IfSome, OnOk};
+ghost use Rattle.std.specs.{Bool.MatchBool, List.AllByRecursion};
+ghost use Rattle.dw_num.specs.{Refusals.Refuses, Span.{span_of, input_of}, Target.address_limit};
+ghost use Rattle.dw_num.specs.declared.target.{Form.{Form as TheForm}, Target.{Target as TheTarget}};
+ghost use Rattle.dw_cfa.specs.{CieMachine.with_steps, Coverage.Lacks, Faults.FdeFault, RulesBehind.RulesBehind};
+ghost use Rattle.dw_cfa.specs.declared.{execution.LocatedRow.LocatedRow, instr.Instr.Instr};
+ghost use Rattle.dw_section.specs.{Among.IsAmong, Fields.is_among, Headers.{Head, fde}, Programs.{CieRuns, CieBroken, FdeRuns, FdeBroken}, Stage.FirstStuck};
+ghost use Rattle.dw_section.specs.{declared.header.Initial.{Initial as TheInitial}, declared.program.Long.{Long as TheLong}, Inner.Initials.{place_of, AreOf}};
+ghost use Rattle.dw_section.specs.Inner.{Initials.{IsInitial, IsBehind, IsLong, IsRunner, AreInitials, HasOrLacks}, PieceHeader.initial_in, Places.Rises};
 
 use crate::header::Initial;
 use dw_cfa::{CieMachine, Row, behind_laws};

@@ -1,8 +1,7 @@
 //! How long the programs of an FDE are.
 
 ghost use Rattle.std.specs.Prelude.{◌≡◌, ◌<◌, List, length, slice_index_or};
-ghost use Rattle.dw_section.specs.declared.lookup.Fde.{Fde as TheFde};
-ghost use Rattle.dw_section.specs.Meaning.{AreFdes, HasLengths};
+ghost use Rattle.dw_section.specs.{Meaning.{AreFdes, HasLengths}, declared.lookup.Fde.{Fde as TheFde}};
 
 use crate::listed_fde::FoundFde;
 use crate::lookup::FdeRef;

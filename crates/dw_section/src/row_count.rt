@@ -1,14 +1,9 @@
 //! Counting the rows that programs start (6.4.3).
 
-ghost use Rattle.std.specs.Prelude.{◌≡◌, ◌+◌, ◌≤◌, ℕ, List, length, map};
-ghost use Rattle.std.specs.List.{AllByRecursion, AllZip};
+ghost use Rattle.std.specs.{Prelude.{◌≡◌, ◌+◌, ◌≤◌, ℕ, List, length, map}, List.{AllByRecursion, AllZip}};
 ghost use Rattle.dw_cfa.specs.Listing.{answers};
-ghost use Rattle.dw_section.specs.Inner.Counted.{starts_row, moves_in, IsProgram, StartsOf};
-ghost use Rattle.dw_section.specs.Meaning.{RowStarts, Starts, total};
-ghost use Rattle.dw_section.specs.Accepted.{RulesHold};
-ghost use Rattle.dw_section.specs.Headers.{Head};
-ghost use Rattle.dw_section.specs.Ranges.{IsRanged, range_in};
-ghost use Rattle.dw_section.specs.Inner.Initials.{AreInitials};
+ghost use Rattle.dw_section.specs.{Accepted.RulesHold, Headers.Head, Meaning.{RowStarts, Starts, total}, Ranges.{IsRanged, range_in}};
+ghost use Rattle.dw_section.specs.Inner.{Counted.{starts_row, moves_in, IsProgram, StartsOf}, Initials.AreInitials};
 
 use crate::fde_range::Ranged;
 use crate::header::Initial;

@@ -1,32 +1,18 @@
 //! FDEs that are read at their places in bytes that were not checked (6.4.1).
 
-ghost use Rattle.std.specs.Prelude.{◌≡◌, ◌+◌, ◌<◌, ◌≤◌, ℕ, List, length, map, slice_index_or, Some, None, IfOk, IfErr, IfSome, IsSome, OnOk, MatchOption, MatchResult};
-ghost use Rattle.dw_cfa.specs.RuleAt.{last_at};
-ghost use Rattle.dw_cfa.specs.Faults.{FaultUpTo, NoFaultUpTo};
-ghost use Rattle.dw_cfa.specs.Runs.{Outcome};
-ghost use Rattle.dw_section.specs.Cut.{Piece, id_width};
-ghost use Rattle.dw_section.specs.declared.entry.Kind.TheVariants as kind;
-ghost use Rattle.dw_num.specs.declared.refusal.Refusal.{Refusal as TheRefusal};
-ghost use Rattle.dw_num.specs.Refusals.{Refuses};
-ghost use Rattle.dw_num.specs.Span.{span_of, input_of};
-ghost use Rattle.dw_num.specs.Target.{address_limit};
-ghost use Rattle.dw_section.specs.Fits.{RowFits};
-ghost use Rattle.dw_section.specs.Headers.{FdeHead, Has, Head, fde};
-ghost use Rattle.dw_section.specs.declared.fde_range.Ranged.{Ranged as TheRanged};
-ghost use Rattle.dw_section.specs.Ranges.{IsEntry, LeadsTo, Uncovered, fde_in, range_in, IsTable};
-ghost use Rattle.dw_section.specs.Inner.Lookup.{RunsSo, fde_of};
-ghost use Rattle.dw_section.specs.Meaning.{AreFdes, Covers, NoneCovers, Returns, RulesAt};
-ghost use Rattle.dw_section.specs.Among.{IsAmong};
-ghost use Rattle.dw_section.specs.Accepted.{RulesHold};
-ghost use Rattle.dw_section.specs.declared.lookup.Fde.{Fde as TheFde};
-ghost use Rattle.dw_section.specs.declared.standing_fde.LookUpError.TheVariants as LookUpError;
-ghost use Rattle.dw_section.specs.Overlap.{Ascends, Range};
-ghost use Rattle.std.specs.Bool.{MatchBool};
-ghost use Rattle.dw_section.specs.Inner.Pieces.{piece_in};
-ghost use Rattle.dw_section.specs.StandingFde.{ItemFault, LookUpFault, Misleads, NamesCieAt, NoneStands, PairFault, RefusesAs, RulesOf, StandingFault, StandsAs, StandsIn};
-ghost use Rattle.dw_section.specs.Stage.{Then};
+ghost use Rattle.std.specs.Prelude.{◌≡◌, ◌+◌, ◌<◌, ◌≤◌, ℕ, List, length, map, slice_index_or, Some, None, IfOk};
+ghost use Rattle.std.specs.{Prelude.{IfErr, IfSome, IsSome, OnOk, MatchOption, MatchResult}, Bool.MatchBool};
+ghost use Rattle.dw_num.specs.{Refusals.Refuses, Span.{span_of, input_of}, Target.address_limit, declared.refusal.Refusal.{Refusal as TheRefusal}};
 ghost use Rattle.dw_op.specs.Faults.{IsWithin};
-ghost use Rattle.dw_section.specs.Inner.StandingFde.{AreJoined, FoundStands, LiesInPrograms, StandsAt, of_steps};
+ghost use Rattle.dw_cfa.specs.{Faults.{FaultUpTo, NoFaultUpTo}, RuleAt.last_at, Runs.Outcome};
+ghost use Rattle.dw_section.specs.{Accepted.RulesHold, Among.IsAmong, Cut.{Piece, id_width}, Fits.RowFits, Headers.{FdeHead, Has, Head, fde}};
+ghost use Rattle.dw_section.specs.{Meaning.{AreFdes, Covers, NoneCovers, Returns, RulesAt}, Overlap.{Ascends, Range}};
+ghost use Rattle.dw_section.specs.{Ranges.{IsEntry, LeadsTo, Uncovered, fde_in, range_in, IsTable}, Stage.Then, StandingFde.ItemFault};
+ghost use Rattle.dw_section.specs.StandingFde.{LookUpFault, Misleads, NamesCieAt, NoneStands, PairFault, RefusesAs, RulesOf, StandingFault, StandsAs, StandsIn};
+ghost use Rattle.dw_section.specs.declared.{fde_range.Ranged.{Ranged as TheRanged}, lookup.Fde.{Fde as TheFde}};
+ghost use Rattle.dw_section.specs.Inner.{Lookup.{RunsSo, fde_of}, Pieces.piece_in, StandingFde.{AreJoined, FoundStands, LiesInPrograms, StandsAt, of_steps}};
+ghost use Rattle.dw_section.specs.declared.entry.Kind.TheVariants as kind;
+ghost use Rattle.dw_section.specs.declared.standing_fde.LookUpError.TheVariants as LookUpError;
 
 use crate::entry::{Kind, MOST, Part, Placed, kind_in, next_part, width_of};
 use crate::fde_range::Ranged;

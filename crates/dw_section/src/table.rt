@@ -1,23 +1,12 @@
 //! Sections that are checked whole (6.4.1).
 
 ghost use Rattle.std.specs.Prelude.{◌≡◌, ℕ, List, IfOk, IfErr, MatchResult};
-ghost use Rattle.dw_num.specs.Input.{AreBytes};
-ghost use Rattle.dw_num.specs.declared.refusal.Refusal.{Refusal as TheRefusal};
-ghost use Rattle.dw_num.specs.declared.target.Target.{Target as TheTarget};
+ghost use Rattle.dw_num.specs.{Input.AreBytes, Refusals.Refuses, declared.error.ReadError.TheVariants.OutOfMemory};
+ghost use Rattle.dw_num.specs.declared.{refusal.Refusal.{Refusal as TheRefusal}, target.Target.{Target as TheTarget}};
 ghost use Rattle.dw_num.specs.declared.error.ReadError.TheVariants as TheError;
-ghost use Rattle.dw_num.specs.declared.error.ReadError.TheVariants.{OutOfMemory};
-ghost use Rattle.dw_num.specs.Refusals.{Refuses};
-ghost use Rattle.dw_section.specs.Accepted.{RulesFault, CheckFault, Accepted};
-ghost use Rattle.dw_section.specs.Counts.{AreCounts};
-ghost use Rattle.dw_section.specs.Cut.{Piece};
 ghost use Rattle.dw_op.specs.Faults.{IsWithin};
-ghost use Rattle.dw_section.specs.declared.lookup.Fde.{Fde as TheFde};
-ghost use Rattle.dw_section.specs.Meaning.{AreFdes};
-ghost use Rattle.dw_section.specs.Pieces.{Pieces};
-ghost use Rattle.dw_section.specs.Table.{Section};
-ghost use Rattle.dw_section.specs.Inner.Table.{AreRanges, IsKept};
-ghost use Rattle.dw_section.specs.Ranges.{IsTable};
-ghost use Rattle.dw_section.specs.Laws.{SomeCheck};
+ghost use Rattle.dw_section.specs.{Accepted.{RulesFault, CheckFault, Accepted}, Counts.AreCounts, Cut.Piece, Laws.SomeCheck, Meaning.AreFdes};
+ghost use Rattle.dw_section.specs.{Pieces.Pieces, Ranges.IsTable, declared.lookup.Fde.{Fde as TheFde}, Inner.Table.{AreRanges, IsKept}};
 
 use crate::entry::EntryCounts;
 use crate::fde_range::{Ranged, first_overlap, put_in_order, run_fdes};
@@ -39,9 +28,7 @@ pub struct Table<'a> {
 }
 
 impl<'a> Model for Table<'a> {
-    ghost use Rattle.dw_section.specs.Table.{Section};
-    ghost use Rattle.dw_section.specs.Inner.Table.{IsKept};
-    ghost use Rattle.dw_section.specs.Ranges.{IsTable};
+    ghost use Rattle.dw_section.specs.{Ranges.IsTable, Table.Section, Inner.Table.IsKept};
 
     ghost Value = { Section };
 

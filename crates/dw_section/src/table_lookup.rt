@@ -1,10 +1,7 @@
 //! Look-ups of addresses in a table, one after another (6.4.1).
 
-ghost use Rattle.std.specs.Prelude.{◌≡◌, ℕ, false, List, Some, None, IfOk, OnErr, OnOk, MatchOption};
-ghost use Rattle.dw_section.specs.declared.lookup.Fde.{Fde as TheFde};
-ghost use Rattle.dw_section.specs.Lookups.{FindsFde, LooksUp};
-ghost use Rattle.dw_section.specs.Inner.Lookup.{RunsTo};
-ghost use Rattle.dw_section.specs.Meaning.{AreFdes, RulesAt};
+ghost use Rattle.std.specs.Prelude.{◌≡◌, ℕ, List, Some, None, IfOk, OnErr, OnOk, MatchOption};
+ghost use Rattle.dw_section.specs.{Lookups.{FindsFde, LooksUp}, Meaning.{AreFdes, RulesAt}, declared.lookup.Fde.{Fde as TheFde}, Inner.Lookup.RunsTo};
 
 use crate::listed_fde::{FoundFde, go_to_rows};
 use crate::standing_fde::{StandingFde, standing_fde};
@@ -42,8 +39,7 @@ pub struct Lookups<'t, 'a> {
 }
 
 impl<'t, 'a> Model for Lookups<'t, 'a> {
-    ghost use Rattle.dw_section.specs.Lookups.{Finding};
-    ghost use Rattle.dw_section.specs.Inner.Shown.{shown_if};
+    ghost use Rattle.dw_section.specs.{Lookups.Finding, Inner.Shown.shown_if};
 
     ghost Value = { Finding };
 

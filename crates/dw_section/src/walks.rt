@@ -1,8 +1,6 @@
 //! The walks of CIEs with long programs, put away while FDEs of other CIEs are gone to.
 
-ghost use Rattle.dw_section.specs.Inner.Changes.{AreLed};
-ghost use Rattle.dw_section.specs.Inner.Lookup.{LedBy, LedSo};
-ghost use Rattle.dw_section.specs.Table.{Section};
+ghost use Rattle.dw_section.specs.{Table.Section, Inner.Changes.AreLed, Inner.Lookup.{LedBy, LedSo}};
 
 use dw_cfa::RowWalk;
 use dw_num::{Program, Target};

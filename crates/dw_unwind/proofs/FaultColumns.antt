@@ -1,10 +1,9 @@
 -- A fault of an unwinding names a column of the frame.
-use Rattle.dw_unwind.proofs.Words.{◌≡◌, ℕ, List, Some, None, Result, Ok, Err, refl, sym, ◌∙◌, ap, subst, inl, inr, Expression, CfaRule, RegRule, Rules, rule, EvalError, Context, Column, Cfa, Register, Frame, Policy, UnwindError, Device}
-use Rattle.dw_unwind.proofs.Words.{in_column, CfaIs, RegisterIs, ValueFails, SavedByFails, CfaFails, RegisterFails, column_of, IsInFrame, FaultsInFrame, FrameIs, FrameFails}
-use Rattle.dw_unwind.proofs.ColumnErrors.{Holds, cfa_holds, register_holds}
+use Rattle.dw_eval.specs.declared.error.EvalError.TheVariants as eval
 use Rattle.dw_cfa.specs.declared.rule.CfaRule.TheVariants as cfa
 use Rattle.dw_cfa.specs.declared.rule.RegRule.TheVariants as rules
-use Rattle.dw_eval.specs.declared.error.EvalError.TheVariants as eval
+use Rattle.dw_unwind.proofs.Words.{◌≡◌, ℕ, List, Some, None, Result, Ok, Err, refl, sym, ◌∙◌, ap, subst, inl, inr, Expression, CfaRule, RegRule, Rules, rule, EvalError, Context, Column, Cfa, Register, Frame, Policy, UnwindError}
+use Rattle.dw_unwind.proofs.{Words.{Device, in_column, CfaIs, RegisterIs, ValueFails, SavedByFails, CfaFails, RegisterFails, column_of, IsInFrame, FaultsInFrame, FrameIs, FrameFails}, ColumnErrors.{Holds, cfa_holds, register_holds}}
 
 -- no other column is named than this
 abbrev Names : Column → UnwindError → Type 0

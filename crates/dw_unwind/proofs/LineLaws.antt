@@ -1,8 +1,7 @@
 -- Lines, one after the other.
-use Rattle.dw_unwind.proofs.Words.{◌≡◌, ℕ, zero, suc, ◌+◌, ◌<◌, ◌≤◌, Bool, true, false, List, [], ◌∷◌, ◌++◌, length, take, drop, refl, sym, ap, ◌∙◌, arith, add-one, inl, inr, append_assoc, length-append, length-drop, ◌==◌, eqb_tells}
-use Rattle.dw_unwind.proofs.Words.{Gathered, SaysWithin, Keeps, lines_of, in_front, len_until, Statement}
 use Rattle.dw_unwind.specs.Inner.Gathered.{SoFar}
-use Rattle.dw_unwind.proofs.Elements.{zip_push}
+use Rattle.dw_unwind.proofs.Words.{◌≡◌, ℕ, zero, suc, ◌+◌, ◌<◌, ◌≤◌, Bool, true, false, List, [], ◌∷◌, ◌++◌, length, take, drop, refl, sym, ap, ◌∙◌, arith, add-one, inl, inr}
+use Rattle.dw_unwind.proofs.{Words.{append_assoc, length-append, length-drop, ◌==◌, eqb_tells, Gathered, SaysWithin, Keeps, lines_of, in_front, len_until, Statement}, Elements.zip_push}
 
 first_line : (text : List ℕ) → 0 < length text → lines_of text ≡ take (len_until 10 text) text ∷ lines_of (drop (suc (len_until 10 text)) text)
 first_line [] some = absurd (omega arith)

@@ -1,10 +1,9 @@
 -- What a fault of an unwinding asks for is missing.
-use Rattle.dw_unwind.proofs.Words.{ℕ, List, Result, Ok, Err, sym, subst, inl, inr, Target, Expression, Rules, rule, EvalError, Context, Evaluates, WantedByValue, Policy, UnwindAtError, Column, Frame, UnwindError, NoFde, OutOfMemory, in_column}
-use Rattle.dw_unwind.proofs.Words.{FaultMisses, WantedIsMissing, FrameIs, LacksRow, by_index}
+use Rattle.dw_eval.specs.declared.error.EvalError.TheVariants as eval
 use Rattle.dw_section.specs.declared.fde_range.Ranged.{Ranged}
 use Rattle.dw_unwind.specs.declared.by_index.UnwindAtError.TheVariants.{Unwind}
-use Rattle.dw_eval.specs.declared.error.EvalError.TheVariants as eval
-use Rattle.dw_unwind.proofs.ColumnErrors.{Holds, cfa_holds, register_holds}
+use Rattle.dw_unwind.proofs.Words.{ℕ, List, Result, Ok, Err, sym, subst, inl, inr, Target, Expression, Rules, rule, EvalError, Context, Evaluates, WantedByValue, Policy, UnwindAtError, Column}
+use Rattle.dw_unwind.proofs.{Words.{Frame, UnwindError, NoFde, OutOfMemory, in_column, FaultMisses, WantedIsMissing, FrameIs, LacksRow, by_index}, ColumnErrors.{Holds, cfa_holds, register_holds}}
 
 module _ (c : Context) (wanted : WantedByValue) (limit : ℕ) where
   evaluated : (column : Column) (e : Expression) (first : List ℕ) (answer : Result ℕ EvalError) → Evaluates e.ops c first limit answer → Holds (FaultMisses c) (in_column column answer)

@@ -1,9 +1,7 @@
 -- The numbers and names of faults.
 use Rattle.std.specs.Prelude.{ℕ, List, codes, Option, Some, None}
-use Rattle.dw_unwind.specs.declared.fault.DumpCode.{DumpCode}
-use Rattle.dw_unwind.specs.declared.fault.DumpCode.TheVariants.{BadLine, ValueTooLarge, Repeated}
-use Rattle.dw_unwind.specs.declared.frame.UnwindError.{UnwindError}
-use Rattle.dw_unwind.specs.declared.frame.UnwindError.TheVariants.{NoFde, Eval, Unreadable, Device, NoRegister, OutOfMemory}
+use Rattle.dw_unwind.specs.declared.fault.{DumpCode.DumpCode, DumpCode.TheVariants.{BadLine, ValueTooLarge, Repeated}}
+use Rattle.dw_unwind.specs.declared.frame.{UnwindError.UnwindError, UnwindError.TheVariants.{NoFde, Eval, Unreadable, Device, NoRegister, OutOfMemory}}
 
 -- number and name of each fault of a dump
 abbrev pub code_entry : DumpCode → ℕ × List ℕ

@@ -1,23 +1,15 @@
 -- The value of each column of a row, or its fault: DWARF 5, 6.4.1.
-use Rattle.std.specs.Prelude.{◌≡◌, ◌⊎◌, ◌≤◌, ℕ, ◌+◌, ◌%◌, List, [], Option, Some, None, option_map, ℤ, pos, ◌+ℤ◌, Result, Ok, Err}
-use Rattle.std.specs.Option.{ok_or}
+use Rattle.std.specs.{Prelude.{◌≡◌, ◌⊎◌, ◌≤◌, ℕ, ◌+◌, ◌%◌, List, [], Option, Some, None, option_map, ℤ, pos, ◌+ℤ◌, Result, Ok, Err}, Option.ok_or}
 use Rattle.dw_num.specs.Target.{address_limit, byte_count}
-use Rattle.dw_op.specs.Expression.{Expression}
-use Rattle.dw_op.specs.Operands.{modulo}
-use Rattle.dw_cfa.specs.declared.rule.CfaRule.{CfaRule}
-use Rattle.dw_cfa.specs.declared.rule.CfaRule.TheVariants as cfa
-use Rattle.dw_cfa.specs.declared.rule.RegRule.{RegRule}
-use Rattle.dw_cfa.specs.declared.rule.RegRule.TheVariants as rules
-use Rattle.dw_eval.specs.declared.error.EvalError.{EvalError}
+use Rattle.dw_op.specs.{Expression.Expression, Operands.modulo}
+use Rattle.dw_eval.specs.{Context.{Context, read_at}, Evaluation.{first_stack, Evaluates, MayFailAt}}
+use Rattle.dw_eval.specs.declared.{error.EvalError.EvalError, policy.Policy.Policy, policy.Policy.TheVariants.{SameValue, Undefined}}
 use Rattle.dw_eval.specs.declared.error.EvalError.TheVariants as eval
 use Rattle.dw_eval.specs.declared.error.Kind.TheVariants as kinds
-use Rattle.dw_eval.specs.Context.{Context, read_at}
-use Rattle.dw_eval.specs.Evaluation.{first_stack, Evaluates, MayFailAt}
-use Rattle.dw_unwind.specs.declared.frame.Column.{Column}
-use Rattle.dw_unwind.specs.declared.frame.Column.TheVariants.{Cfa, Register}
-use Rattle.dw_eval.specs.declared.policy.Policy.{Policy}
-use Rattle.dw_eval.specs.declared.policy.Policy.TheVariants.{SameValue, Undefined}
-use Rattle.dw_unwind.specs.declared.frame.UnwindError.{UnwindError}
+use Rattle.dw_cfa.specs.declared.rule.{CfaRule.CfaRule, RegRule.RegRule}
+use Rattle.dw_cfa.specs.declared.rule.CfaRule.TheVariants as cfa
+use Rattle.dw_cfa.specs.declared.rule.RegRule.TheVariants as rules
+use Rattle.dw_unwind.specs.declared.frame.{Column.Column, Column.TheVariants.{Cfa, Register}, UnwindError.UnwindError}
 use Rattle.dw_unwind.specs.declared.frame.UnwindError.TheVariants.{Eval, Unreadable, Device, NoRegister, OutOfMemory}
 
 -- an expression's answer, as that of a column

@@ -1,12 +1,8 @@
 -- A dump of what lines say.
 use Rattle.std.specs.Prelude.{◌≡◌, ℕ, List, ⊤}
 use Rattle.dw_eval.specs.Registers.{held}
-use Rattle.dw_unwind.specs.declared.dump.Dump.{Dump}
-use Rattle.dw_unwind.specs.declared.fault.DumpError.{DumpError}
-use Rattle.dw_unwind.specs.declared.fault.DumpError.TheVariants.{Fault, OutOfMemory}
-use Rattle.dw_unwind.specs.Dump.{FirstFault}
-use Rattle.dw_unwind.specs.Ranges.{byte_in}
-use Rattle.dw_unwind.specs.Statement.{Statement, counter, register, byte, given}
+use Rattle.dw_unwind.specs.{Dump.FirstFault, Ranges.byte_in, Statement.{Statement, counter, register, byte, given}}
+use Rattle.dw_unwind.specs.declared.{dump.Dump.Dump, fault.DumpError.DumpError, fault.DumpError.TheVariants.{Fault, OutOfMemory}}
 
 -- it holds the values that statements tell, and no others
 pub record Describes (dump : Dump) (statements : List Statement) : Type 0 where

@@ -1,11 +1,7 @@
 -- What a dump says, or its first fault.
-use Rattle.std.specs.Prelude.{◌≡◌, ℕ, ◌+◌, ◌<◌, ◌≤◌, List, [], ◌∷◌, ◌++◌, length}
-use Rattle.std.specs.List.{AllZip}
-use Rattle.dw_unwind.specs.declared.fault.DumpCode.{DumpCode}
-use Rattle.dw_unwind.specs.declared.fault.DumpCode.TheVariants.{BadLine, ValueTooLarge, Repeated}
-use Rattle.dw_unwind.specs.declared.fault.DumpFault.{DumpFault}
-use Rattle.dw_unwind.specs.Spelling.{LineSays}
-use Rattle.dw_unwind.specs.Statement.{Statement, DumpItem, Fits, times}
+use Rattle.std.specs.{Prelude.{◌≡◌, ℕ, ◌+◌, ◌<◌, ◌≤◌, List, [], ◌∷◌, ◌++◌, length}, List.AllZip}
+use Rattle.dw_unwind.specs.{Spelling.LineSays, Statement.{Statement, DumpItem, Fits, times}}
+use Rattle.dw_unwind.specs.declared.fault.{DumpCode.DumpCode, DumpCode.TheVariants.{BadLine, ValueTooLarge, Repeated}, DumpFault.DumpFault}
 
 -- a line says this, and its values are below the limit of addresses
 abbrev pub SaysWithin : ℕ → List ℕ → Statement → Type 0

@@ -1,23 +1,14 @@
 -- What holds of frames and of dumps, for the layers above.
 use Rattle.std.specs.Prelude.{◌≡◌, ◌⊎◌, ◌≤◌, ℕ, List, length, Option, Some, None, Err, ⊤, IsTrue}
 use Rattle.dw_num.specs.declared.target.Target.{Target}
+use Rattle.dw_eval.specs.{Context.{Context, read_at}, Wanted.IsMissing, declared.policy.Policy.Policy}
 use Rattle.dw_cfa.specs.Rows.{Rules}
-use Rattle.dw_eval.specs.Context.{Context, read_at}
-use Rattle.dw_eval.specs.Wanted.{IsMissing}
 use Rattle.dw_section.specs.declared.fde_range.Ranged.{Ranged}
-use Rattle.dw_unwind.specs.declared.fault.DumpError.{DumpError}
-use Rattle.dw_unwind.specs.declared.fault.DumpError.TheVariants as dumps
-use Rattle.dw_unwind.specs.declared.fault.DumpFault.{DumpFault}
-use Rattle.dw_unwind.specs.declared.frame.Column.{Column}
-use Rattle.dw_unwind.specs.declared.frame.Column.TheVariants.{Cfa, Register}
-use Rattle.dw_eval.specs.declared.policy.Policy.{Policy}
-use Rattle.dw_unwind.specs.declared.frame.UnwindError.{UnwindError}
+use Rattle.dw_unwind.specs.{Dump.{Say, FirstFault}, Statement.Statement, Unwound.{IsCovered, is_listed, FrameIs, Unwound, UnwindFails}, UnwoundAt.UnwoundAt}
+use Rattle.dw_unwind.specs.declared.{by_index.UnwindAtError.TheVariants.Unwind, fault.DumpError.DumpError, fault.DumpFault.DumpFault}
+use Rattle.dw_unwind.specs.declared.frame.{Column.Column, Column.TheVariants.{Cfa, Register}, UnwindError.UnwindError}
 use Rattle.dw_unwind.specs.declared.frame.UnwindError.TheVariants.{Eval, Unreadable, Device, NoRegister}
-use Rattle.dw_unwind.specs.Dump.{Say, FirstFault}
-use Rattle.dw_unwind.specs.Statement.{Statement}
-use Rattle.dw_unwind.specs.Unwound.{IsCovered, is_listed, FrameIs, Unwound, UnwindFails}
-use Rattle.dw_unwind.specs.UnwoundAt.{UnwoundAt}
-use Rattle.dw_unwind.specs.declared.by_index.UnwindAtError.TheVariants.{Unwind}
+use Rattle.dw_unwind.specs.declared.fault.DumpError.TheVariants as dumps
 
 -- ---- frames
 

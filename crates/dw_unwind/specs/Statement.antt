@@ -1,6 +1,6 @@
 -- What the lines of a dump tell.
-use Rattle.std.specs.Option.{option_or}
 use Rattle.std.specs.Prelude.{ℕ, ◌+◌, ◌-◌, ◌<◌, ◌≤◌, ◌==◌, nat_le, if◌then◌else◌, List, [], ◌∷◌, length, Option, Some, None, is_some, slice_get, count_by, ⊤}
+use Rattle.std.specs.Option.{option_or}
 
 -- what a line says
 pub data Statement : Type 0 where

@@ -1,22 +1,12 @@
 -- One frame, unwound: DWARF 5, 6.4.1. The CFA comes first, then the listed registers, ascending; the first fault is answered.
-use Rattle.std.specs.Prelude.{◌≡◌, ◌⊎◌, ◌<◌, ◌==◌, ◌||◌, ℕ, List, Bool, true, false, Option, None, is_some, Result, Ok, Err}
-use Rattle.std.specs.List.{AllByRecursion, AllPairs}
-use Rattle.dw_num.specs.declared.target.Target.{Target}
-use Rattle.dw_num.specs.Input.{AreBytes}
-use Rattle.dw_num.specs.Laws.{HoldsOfOne}
-use Rattle.dw_cfa.specs.Rows.{Rules, rule, is_specified}
+use Rattle.std.specs.{Prelude.{◌≡◌, ◌⊎◌, ◌<◌, ◌==◌, ◌||◌, ℕ, List, Bool, true, false, Option, None, is_some, Result, Ok, Err}, List.{AllByRecursion, AllPairs}}
+use Rattle.dw_num.specs.{Input.AreBytes, Laws.HoldsOfOne, declared.target.Target.Target}
+use Rattle.dw_eval.specs.{Context.Context, Registers.held, declared.policy.Policy.Policy}
 use Rattle.dw_eval.specs.declared.error.Kind.TheVariants as kinds
-use Rattle.dw_eval.specs.Context.{Context}
-use Rattle.dw_eval.specs.Registers.{held}
-use Rattle.dw_section.specs.declared.lookup.Fde.{Fde}
-use Rattle.dw_section.specs.Accepted.{Accepted}
-use Rattle.dw_section.specs.Meaning.{AreFdes, Covers, NoneCovers, RulesAt}
-use Rattle.dw_section.specs.Among.{IsAmong}
-use Rattle.dw_unwind.specs.declared.frame.Frame.{Frame}
-use Rattle.dw_eval.specs.declared.policy.Policy.{Policy}
-use Rattle.dw_unwind.specs.declared.frame.UnwindError.{UnwindError}
-use Rattle.dw_unwind.specs.declared.frame.UnwindError.TheVariants.{NoFde, Eval, Device}
+use Rattle.dw_cfa.specs.Rows.{Rules, rule, is_specified}
+use Rattle.dw_section.specs.{Accepted.Accepted, Among.IsAmong, Meaning.{AreFdes, Covers, NoneCovers, RulesAt}, declared.lookup.Fde.Fde}
 use Rattle.dw_unwind.specs.Columns.{CfaIs, RegisterIs, CfaFails, RegisterFails}
+use Rattle.dw_unwind.specs.declared.frame.{Frame.Frame, UnwindError.UnwindError, UnwindError.TheVariants.{NoFde, Eval, Device}}
 
 -- ---- the FDE
 

@@ -2,20 +2,13 @@
 use Rattle.std.specs.Prelude.{◌≡◌, ◌⊎◌, ℕ, List, Result, Ok, Err}
 use Rattle.dw_num.specs.declared.target.Target.{Target}
 use Rattle.dw_op.specs.Faults.{IsWithin}
-use Rattle.dw_cfa.specs.declared.rule.CfaRule.TheVariants.{Unset}
-use Rattle.dw_cfa.specs.Rows.{Rules}
-use Rattle.dw_eval.specs.Context.{Context}
-use Rattle.dw_eval.specs.declared.policy.Policy.{Policy}
-use Rattle.dw_section.specs.declared.fde_range.Ranged.{Ranged}
-use Rattle.dw_section.specs.declared.lookup.Fde.{Fde}
-use Rattle.dw_section.specs.Ranges.{LeadsTo, Uncovered}
-use Rattle.dw_section.specs.StandingFde.{LookUpFault, Misleads, RulesOf}
-use Rattle.dw_unwind.specs.declared.by_index.UnwindAtError.{UnwindAtError}
-use Rattle.dw_unwind.specs.declared.by_index.UnwindAtError.TheVariants.{BadIndex, Refused, Unwind}
-use Rattle.dw_unwind.specs.declared.frame.Frame.{Frame}
-use Rattle.dw_unwind.specs.declared.frame.UnwindError.{UnwindError}
-use Rattle.dw_unwind.specs.declared.frame.UnwindError.TheVariants.{NoFde, OutOfMemory}
+use Rattle.dw_eval.specs.{Context.Context, declared.policy.Policy.Policy}
+use Rattle.dw_cfa.specs.{Rows.Rules, declared.rule.CfaRule.TheVariants.Unset}
+use Rattle.dw_section.specs.{Ranges.{LeadsTo, Uncovered}, StandingFde.{LookUpFault, Misleads, RulesOf}}
+use Rattle.dw_section.specs.declared.{fde_range.Ranged.Ranged, lookup.Fde.Fde}
 use Rattle.dw_unwind.specs.Unwound.{FrameIs, FrameFails}
+use Rattle.dw_unwind.specs.declared.by_index.{UnwindAtError.UnwindAtError, UnwindAtError.TheVariants.{BadIndex, Refused, Unwind}}
+use Rattle.dw_unwind.specs.declared.frame.{Frame.Frame, UnwindError.UnwindError, UnwindError.TheVariants.{NoFde, OutOfMemory}}
 
 -- an answer of `unwind`, as one by an index
 abbrev pub by_index : Result Frame UnwindError → Result Frame UnwindAtError

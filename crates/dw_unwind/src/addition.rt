@@ -1,10 +1,8 @@
 //! Adding what a line says to what the lines before it told.
 
-ghost use Rattle.std.specs.Prelude.{◌≡◌, ℕ, ◌+◌, ◌<◌, ◌≤◌, [], List, Some, None, IfOk, length, drop};
-ghost use Rattle.dw_unwind.specs.Inner.Gathered.{Adds, Gathers, HasBytes, Keeps, Takes};
-ghost use Rattle.dw_unwind.specs.Lines.{lines_of};
-ghost use Rattle.dw_unwind.specs.Inner.Stated.{stated};
-ghost use Rattle.dw_unwind.specs.Statement.{Statement as TheStatement, counter_is, register_is, memory_is};
+ghost use Rattle.std.specs.Prelude.{◌≡◌, ℕ, ◌+◌, ◌<◌, ◌≤◌, [], List, IfOk, length, drop};
+ghost use Rattle.dw_unwind.specs.{Lines.lines_of, Statement.{Statement as TheStatement, counter_is, register_is, memory_is}};
+ghost use Rattle.dw_unwind.specs.Inner.{Gathered.{Adds, Gathers, HasBytes, Keeps, Takes}, Stated.stated};
 
 use crate::fault::{DumpCode, DumpFault};
 use crate::line::{Statement, len_until, read_line};

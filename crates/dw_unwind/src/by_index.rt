@@ -1,17 +1,13 @@
 //! The frame of the caller by an index that was kept (6.4.1).
 
-ghost use Rattle.std.specs.Prelude.{◌≡◌, ◌⊎◌, ◌-◌, ◌^◌, ◌<◌, ◌≤◌, true, IfOk, IfErr, OnOk, MatchResult, Result, Err};
-ghost use Rattle.std.specs.Bool.{MatchBool};
+ghost use Rattle.std.specs.{Prelude.{◌≡◌, ◌⊎◌, ◌-◌, ◌^◌, ◌<◌, ◌≤◌, true, IfOk, IfErr, OnOk, MatchResult, Result, Err}, Bool.MatchBool};
 ghost use Rattle.dw_cfa.specs.declared.rule.CfaRule.TheVariants.{Unset};
-ghost use Rattle.dw_section.specs.Fits.{RowFits};
-ghost use Rattle.dw_section.specs.Ranges.{IsTable};
-ghost use Rattle.dw_unwind.specs.declared.by_index.UnwindAtError.TheVariants as TheUnwindAtError;
-ghost use Rattle.dw_unwind.specs.declared.frame.Frame.{Frame as TheFrame};
-ghost use Rattle.dw_unwind.specs.declared.frame.UnwindError.{UnwindError as TheError};
-ghost use Rattle.dw_unwind.specs.declared.frame.UnwindError.TheVariants.{NoFde, OutOfMemory};
-ghost use Rattle.dw_unwind.specs.Inner.UnwoundAt.{of_look_up};
+ghost use Rattle.dw_section.specs.{Fits.RowFits, Ranges.IsTable};
 ghost use Rattle.dw_unwind.specs.Unwound.{IsCovered, IsUncovered, Unwound, UnwindFails, is_device, stopped};
 ghost use Rattle.dw_unwind.specs.UnwoundAt.{IsLed, LacksRow, UnwoundAt, UnwindAtFails, by_index};
+ghost use Rattle.dw_unwind.specs.declared.frame.{Frame.{Frame as TheFrame}, UnwindError.{UnwindError as TheError}};
+ghost use Rattle.dw_unwind.specs.{declared.frame.UnwindError.TheVariants.{NoFde, OutOfMemory}, Inner.UnwoundAt.of_look_up};
+ghost use Rattle.dw_unwind.specs.declared.by_index.UnwindAtError.TheVariants as TheUnwindAtError;
 
 use crate::caller::unwind_row;
 use crate::frame::{Frame, UnwindError};

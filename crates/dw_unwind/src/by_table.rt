@@ -1,9 +1,8 @@
 //! The frame of the caller by the table of a section (6.4.1).
 
 ghost use Rattle.std.specs.Prelude.{◌≡◌, ◌⊎◌, ◌-◌, ◌^◌, ◌<◌, ◌≤◌, true, Err};
-ghost use Rattle.dw_unwind.specs.declared.frame.UnwindError.{UnwindError as TheError};
-ghost use Rattle.dw_unwind.specs.declared.frame.UnwindError.TheVariants.{OutOfMemory};
 ghost use Rattle.dw_unwind.specs.Unwound.{Unwound, UnwindFails, is_device, stopped};
+ghost use Rattle.dw_unwind.specs.declared.frame.{UnwindError.{UnwindError as TheError}, UnwindError.TheVariants.OutOfMemory};
 
 use crate::by_index::{UnwindAtError, row_at};
 use crate::caller::unwind_row;

@@ -1,16 +1,12 @@
 //! The frame of the caller by the rules of a row (6.4.1).
 
-ghost use Rattle.std.specs.Prelude.{◌≡◌, ◌⊎◌, ℕ, ◌+◌, ◌-◌, ◌^◌, ◌<◌, ◌≤◌, ◌||◌, ◌==◌, true, false, Option, IsTrue, OnOk, Err};
-ghost use Rattle.dw_cfa.specs.declared.rule.CfaRule.TheVariants.{Unset};
-ghost use Rattle.dw_cfa.specs.declared.rule.RegRule.TheVariants.{Unspecified};
-ghost use Rattle.dw_cfa.specs.Rows.{Rules, rule, is_specified};
-ghost use Rattle.dw_eval.specs.Context.{context};
-ghost use Rattle.dw_eval.specs.Registers.{held};
+ghost use Rattle.std.specs.Prelude.{◌≡◌, ◌⊎◌, ℕ, ◌+◌, ◌-◌, ◌^◌, ◌<◌, ◌≤◌, true, false, Option, IsTrue, OnOk, Err};
+ghost use Rattle.dw_eval.specs.{Context.context, Registers.held};
+ghost use Rattle.dw_cfa.specs.{Rows.{Rules, rule, is_specified}, declared.rule.CfaRule.TheVariants.Unset, declared.rule.RegRule.TheVariants.Unspecified};
 ghost use Rattle.dw_section.specs.Fits.{RowFits};
-ghost use Rattle.dw_unwind.specs.declared.frame.UnwindError.{UnwindError as TheError};
-ghost use Rattle.dw_unwind.specs.declared.frame.UnwindError.TheVariants.{OutOfMemory};
-ghost use Rattle.dw_unwind.specs.Inner.Recovery.{Over, SoFar, Adds};
 ghost use Rattle.dw_unwind.specs.Unwound.{is_listed, RegistersAre, RegistersFail, FrameIs, FrameFails, is_device, stopped};
+ghost use Rattle.dw_unwind.specs.declared.frame.{UnwindError.{UnwindError as TheError}, UnwindError.TheVariants.OutOfMemory};
+ghost use Rattle.dw_unwind.specs.Inner.Recovery.{Over, SoFar, Adds};
 
 use crate::frame::{Frame, UnwindError};
 use crate::frame_room::{FrameRegisters, FrameRoom};

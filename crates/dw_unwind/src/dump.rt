@@ -2,12 +2,8 @@
 
 ghost use Rattle.std.specs.Prelude.{◌≡◌, ◌≤◌, ◌^◌, List, IfOk, IfErr, MatchResult};
 ghost use Rattle.dw_num.specs.Target.{address_limit};
-ghost use Rattle.dw_unwind.specs.declared.fault.DumpError.TheVariants.{OutOfMemory};
-ghost use Rattle.dw_unwind.specs.Describes.{Describes, RefusesDump};
-ghost use Rattle.dw_unwind.specs.Dump.{Say};
-ghost use Rattle.dw_unwind.specs.Laws.{NamesLine};
-ghost use Rattle.dw_unwind.specs.Lines.{lines_of};
-ghost use Rattle.dw_unwind.specs.Statement.{Statement as TheStatement};
+ghost use Rattle.dw_unwind.specs.{Describes.{Describes, RefusesDump}, Dump.Say, Laws.NamesLine, Lines.lines_of};
+ghost use Rattle.dw_unwind.specs.{Statement.{Statement as TheStatement}, declared.fault.DumpError.TheVariants.OutOfMemory};
 
 use crate::addition::{gather, nothing_gathered};
 use crate::fault::{DumpCode, DumpError, DumpFault};

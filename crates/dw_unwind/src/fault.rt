@@ -1,8 +1,7 @@
 //! Why a dump is refused, and where.
 
 ghost use Rattle.std.specs.Prelude.{◌≡◌};
-ghost use Rattle.dw_unwind.specs.Codes.{code_entry};
-ghost use Rattle.dw_unwind.specs.declared.fault.DumpError.TheVariants.{Fault, OutOfMemory};
+ghost use Rattle.dw_unwind.specs.{Codes.code_entry, declared.fault.DumpError.TheVariants.{Fault, OutOfMemory}};
 
 use std::alloc::{AllocError, AllocFailed};
 use std::fmt;

@@ -1,8 +1,7 @@
 //! One frame: what the rules at an address give for a machine that stopped there.
 
 ghost use Rattle.std.specs.Prelude.{◌≡◌};
-ghost use Rattle.dw_unwind.specs.declared.frame.UnwindError.TheVariants.{OutOfMemory};
-ghost use Rattle.dw_unwind.specs.Codes.{frame_fault};
+ghost use Rattle.dw_unwind.specs.{Codes.frame_fault, declared.frame.UnwindError.TheVariants.OutOfMemory};
 
 use crate::frame_room::FrameRegisters;
 use dw_eval::Kind;

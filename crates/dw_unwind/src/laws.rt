@@ -1,7 +1,6 @@
 //! Laws of frames and dumps, for the layers above. The function does nothing: its contract is proved.
 
-ghost use Rattle.dw_unwind.specs.Laws.{FaultsInFrame, OneDump, WantedIsMissing};
-ghost use Rattle.dw_unwind.specs.Unwound.{OneFrame, SomeFrame};
+ghost use Rattle.dw_unwind.specs.{Laws.{FaultsInFrame, OneDump, WantedIsMissing}, Unwound.{OneFrame, SomeFrame}};
 
 use dw_eval::evaluation_laws;
 use dw_op::block_laws;

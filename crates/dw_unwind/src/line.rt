@@ -1,12 +1,9 @@
 //! One line of a dump.
 
-ghost use Rattle.std.specs.Prelude.{◌≡◌, ℕ, ◌+◌, ◌<◌, ◌≤◌, ◌++◌, ◌∷◌, List, Some, IfOk, length, MatchOption};
-ghost use Rattle.std.specs.Bool.{MatchBool};
+ghost use Rattle.std.specs.{Prelude.{◌≡◌, ℕ, ◌<◌, ◌≤◌, ◌++◌, ◌∷◌, List, IfOk, length, MatchOption}, Bool.MatchBool};
 ghost use Rattle.dw_num.specs.Digits.{digit, number_behind};
 ghost use Rattle.dw_unwind.specs.Spelling.{Hexadecimal, RegisterName, HexPairs, CounterLine, RegisterLine, MemoryLine, SkippedLine, LineSays};
-ghost use Rattle.dw_unwind.specs.Inner.Spelling.{MemoryHead, Lacks, len_until};
-ghost use Rattle.dw_unwind.specs.Statement.{Statement as TheStatement};
-ghost use Rattle.dw_unwind.specs.Inner.Stated.{stated};
+ghost use Rattle.dw_unwind.specs.{Statement.{Statement as TheStatement}, Inner.Spelling.{MemoryHead, Lacks, len_until}, Inner.Stated.stated};
 
 use hex::FromHexError;
 use std::alloc::{AllocError, Global};

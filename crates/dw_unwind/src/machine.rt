@@ -1,14 +1,11 @@
 //! What the columns of a row give for a machine that stopped (6.4.1).
 
-ghost use Rattle.std.specs.Prelude.{◌≡◌, ℕ, Option, ◌-◌, ◌^◌, ◌<◌, Some, None, Ok, Err};
-ghost use Rattle.dw_num.specs.Target.{byte_count};
+ghost use Rattle.std.specs.Prelude.{◌≡◌, ℕ, Option, ◌-◌, ◌^◌, ◌<◌};
+ghost use Rattle.dw_eval.specs.{Context.context, Evaluation.first_stack};
 ghost use Rattle.dw_cfa.specs.declared.rule.CfaRule.TheVariants.{Unset};
-ghost use Rattle.dw_eval.specs.Context.{context};
-ghost use Rattle.dw_eval.specs.Evaluation.{first_stack};
 ghost use Rattle.dw_section.specs.Fits.{CfaFits, RuleFits};
-ghost use Rattle.dw_unwind.specs.declared.frame.UnwindError.TheVariants.{NoRegister};
-ghost use Rattle.dw_unwind.specs.Inner.Recovery.{Over};
-ghost use Rattle.dw_unwind.specs.Columns.{in_column, defaulted, value_in, saved_at, ValueIs, CfaIs, SavedBy, RegisterIs, SavedFails, ValueFails, SavedByFails, CfaFails, RegisterFails};
+ghost use Rattle.dw_unwind.specs.Columns.{in_column, defaulted, value_in, saved_at, ValueIs, CfaIs, SavedBy, RegisterIs};
+ghost use Rattle.dw_unwind.specs.{Columns.{SavedFails, ValueFails, SavedByFails, CfaFails, RegisterFails}, Inner.Recovery.Over};
 
 use crate::frame::{Column, UnwindError};
 use dw_cfa::{CfaRule, RegRule};

@@ -1,13 +1,9 @@
 //! The memory of a dump.
 
-ghost use Rattle.std.specs.Prelude.{◌≡◌, ℕ, ◌+◌, ◌<◌, ◌≤◌, ◌^◌, length, slice_index_or, Some, None};
-ghost use Rattle.std.specs.Bool.{MatchBool};
-ghost use Rattle.std.specs.List.{AllByRecursion};
+ghost use Rattle.std.specs.{Prelude.{◌≡◌, ℕ, ◌<◌, ◌≤◌, ◌^◌, length, slice_index_or, Some, None}, Bool.MatchBool, List.AllByRecursion};
 ghost use Rattle.dw_num.specs.Fixed.{fixed_number};
 ghost use Rattle.dw_eval.specs.Bytes.{bytes_from, number_in_memory};
-ghost use Rattle.dw_unwind.specs.declared.ranges.Range.{Range as TheRange};
-ghost use Rattle.dw_unwind.specs.Ranges.{byte_among, byte_in};
-ghost use Rattle.dw_unwind.specs.Inner.Ranges.{AreApart, Rise, IsSoundRange};
+ghost use Rattle.dw_unwind.specs.{Ranges.{byte_among, byte_in}, declared.ranges.Range.{Range as TheRange}, Inner.Ranges.{AreApart, Rise, IsSoundRange}};
 
 use crate::ranges::{Range, settle};
 use byteorder::{BigEndian, ByteOrder, LittleEndian};
@@ -23,8 +19,7 @@ pub struct DumpMemory {
 }
 
 impl Model for DumpMemory {
-    ghost use Rattle.dw_unwind.specs.Ranges.{Held};
-    ghost use Rattle.dw_unwind.specs.Inner.Ranges.{IsOrdered};
+    ghost use Rattle.dw_unwind.specs.{Ranges.Held, Inner.Ranges.IsOrdered};
 
     ghost Value = { Held };
 

@@ -1,12 +1,8 @@
 //! Ranges of memory, and the first of them that shares a byte with one before it.
 
 ghost use Rattle.std.specs.Prelude.{◌≡◌, ℕ, ◌+◌, ◌<◌, ◌≤◌, length, take, slice_index_or, IfOk, MatchOption};
-ghost use Rattle.std.specs.Bool.{MatchBool};
-ghost use Rattle.std.specs.List.{AllByRecursion};
-ghost use Rattle.std.specs.List.Sorted.{IsPermutation, IsNonDecreasingBy};
-ghost use Rattle.dw_unwind.specs.declared.ranges.Range.{Range as TheRange};
-ghost use Rattle.dw_unwind.specs.Ranges.{end_of};
-ghost use Rattle.dw_unwind.specs.Inner.Ranges.{AreApart, Meet, Rise};
+ghost use Rattle.std.specs.{Bool.MatchBool, List.AllByRecursion, List.Sorted.{IsPermutation, IsNonDecreasingBy}};
+ghost use Rattle.dw_unwind.specs.{Ranges.end_of, declared.ranges.Range.{Range as TheRange}, Inner.Ranges.{AreApart, Meet, Rise}};
 
 use std::alloc::{AllocError, Global};
 

@@ -1,9 +1,8 @@
 -- Words that begin with a subcommand's name are read alike by the command with that subcommand alone.
-use Rattle.dw_words.proofs.Words.{◌≡◌, ◌∙◌, true, List, [], ◌∷◌, Option, Some, None, refl, ap, ap₂, sym, find, fold, clap_on_literals, walk_stopped, built_fault, fault_of, is_simple_and_free, turn_fault, walk_fault, Kinds, or_else, App}
-use Rattle.dw_words.proofs.Words.{Shape, built, entered, is_simple, label_of, names_of, subcommand_of, Text, Walk, answers_to, nothing_held, walk, walk_from, walked, dwframe, asked, asked_by, name_of, text_of, Name}
 use Rattle.clap.proofs.FaultLemmas.{stopped_fault}
-use Rattle.dw_words.proofs.Jobs.{named}
 use Rattle.dw_words.specs.declared.request.Name.TheVariants as names
+use Rattle.dw_words.proofs.Words.{◌≡◌, ◌∙◌, true, List, [], ◌∷◌, Option, Some, None, refl, ap, ap₂, sym, find, fold, clap_on_literals, walk_stopped, built_fault, fault_of, is_simple_and_free, turn_fault, walk_fault, Kinds, or_else}
+use Rattle.dw_words.proofs.{Words.{App, Shape, built, entered, is_simple, label_of, names_of, subcommand_of, Text, Walk, answers_to, nothing_held, walk, walk_from, walked, dwframe, asked, asked_by, name_of, text_of, Name}, Jobs.named}
 
 -- ---- where the first word names a subcommand
 

@@ -1,11 +1,10 @@
 -- From what clap says of words to what is planned.
-use Rattle.dw_words.proofs.Words.{◌≡◌, ◌∙◌, true, false, List, [], Option, Some, None, option_map, Result, Ok, Err, ap, ap₂, sym, inl, inr, box_value, App, HasKind, HasMatchesOf, Row, Text, fault_of, found_of, is_simple_and_free, rows_of}
-use Rattle.dw_words.proofs.Words.{subcommand_name_of, subcommand_of, subcommand_rows_of, dwframe, PlanError, Planned, is_help, asked, Fails, FromFault, IsSupplied, asked_by, run_in}
 use Rattle.clap.specs.declared.{error.Error.Error, parser.matches.ArgMatches.ArgMatches, parser.matches.ArgMatches.TheViews.{out-ArgMatches, out-SubCommand}}
 use Rattle.dw_words.specs.declared.request.Request.{Request}
-use Rattle.dw_words.proofs.{Asked.reads, Jobs.none_asked, Subcommands.supplied}
 use Rattle.dw_words.specs.declared.request.PlanError.TheVariants as errors
 use Rattle.dw_words.specs.declared.request.Request.TheVariants as requests
+use Rattle.dw_words.proofs.Words.{◌≡◌, ◌∙◌, true, false, List, [], Option, Some, None, option_map, Result, Ok, Err, ap, ap₂, sym, inl, inr, box_value, App, HasKind, HasMatchesOf, Row, Text, fault_of, found_of, is_simple_and_free, rows_of}
+use Rattle.dw_words.proofs.{Words.{subcommand_name_of, subcommand_of, subcommand_rows_of, dwframe, PlanError, Planned, is_help, asked, Fails, FromFault, IsSupplied, asked_by, run_in}, Asked.reads, Jobs.none_asked, Subcommands.supplied}
 
 module _ {X : Type 0} (f : X → Text) (g : X → List Row) where
   abbrev both : X → Text × List Row

@@ -3,7 +3,7 @@ use Rattle.dw_words.proofs.Words.{◌≡◌, ◌∙◌, ◌==◌, ◌&&◌, ◌|
 use Rattle.dw_words.proofs.Words.{slice_get, find, fold, option_and_then, encode_utf8, list_all, list_any, option_map_or, bytes_eq, chars, ne_eqb, bytes_eq-Decides, both, long_of, short_of, Kinds, check_kinds, or_else, range_kinds, Held}
 use Rattle.dw_words.proofs.Words.{Names, Outcome, Row, Rule, Step, Text, Waiting, Walk, action_of, after_flag, after_step, arg_by_id, arg_by_index, arg_by_long, arg_by_short, at_row, attached_value, bundle, bundle_met, bundle_step}
 use Rattle.dw_words.proofs.Words.{default_rows, done, finished, flag_met, has_row, is_pending, long_met, long_or_other, more_values, most_values, nothing_held, option_met, option_word, plain_word, positional_held, reacted, reading_by}
-use Rattle.dw_words.proofs.Words.{rows_after, settled, settled_rows, short_met, short_or_plain, subcommand_met, subcommand_or_other, takes_several, takes_values, to_positional, trailing, used, used_as, used_by_id, value, values_or_missing}
+use Rattle.dw_words.proofs.Words.{rows_after, settled, settled_rows, short_met, short_or_plain, subcommand_met, subcommand_or_other, takes_several, takes_values, to_positional, trailing, used, used_as, used_by_id, values_or_missing}
 use Rattle.dw_words.proofs.Words.{walk, walk_from, walked, walked_from, with_default, with_values, without, word_met, Shape, defaults_fault, bundle_fault, bundle_step_fault, flag_word_fault, flags_fault, level_fault, long_fault}
 use Rattle.dw_words.proofs.Words.{option_fault, other_fault, positional_fault, stray_fault, react_fault, settle_fault, short_fault, step_fault, turn_fault, use_fault, walk_fault, word_fault, Given, HasText, fits}
 use Rattle.clap.specs.{Facts.{explicit_source, unwrap_or_range}, Takes.is_given, declared.builder.action.ArgAction.ArgAction, declared.builder.value_parser.Reading.Reading, declared.parser.matches.ValueSource.ValueSource}

@@ -1,12 +1,11 @@
 -- The subcommand that clap reads where it finds no fault in words: one of the code's, with what it has to have.
-use Rattle.dw_words.proofs.Words.{◌≡◌, ◌∙◌, ◌&&◌, ◌||◌, ℕ, Bool, true, false, not, cond, List, [], ◌∷◌, Option, Some, None, is_some, codes, refl, sym, ap, true≢false, inl, inr, slice_get, find, fold, option_map, list_all, list_any}
-use Rattle.dw_words.proofs.Words.{option_map_or, bytes_eq, bytes_eq-Decides, both, long_of, short_of, Kinds, or_else, Held, Names, Outcome, Row, Rule, Step, Text, Waiting, Walk, after_flag, after_step, answers_to, arg_by_index, arg_by_long}
-use Rattle.dw_words.proofs.Words.{bundle, long_met, long_or_other, nothing_held, plain_word, rows_after, short_or_plain, subcommand_met, subcommand_or_other, to_positional, trailing, walk, walk_from, walked, walked_from, word_met}
-use Rattle.dw_words.proofs.Words.{entered_fault, fault_of, level_fault, other_fault, step_fault, turn_fault, walk_fault, word_fault, clap_on_literals, App, Shape, argument_words, built, entered, label_of, names_of, rows_at, subcommand_of}
-use Rattle.dw_words.proofs.Words.{dwframe, Name, IsSupplied, name_of, options, own}
-use Rattle.dw_words.proofs.Rows.{all_find, all_given, either, first_none, good, supplies, then_none}
 use Rattle.clap.specs.Walk as steps
 use Rattle.clap.specs.declared.error.kind.ErrorKind.TheVariants as kinds
+use Rattle.dw_words.proofs.Words.{◌≡◌, ◌∙◌, ◌&&◌, ◌||◌, ℕ, Bool, true, false, not, cond, List, [], ◌∷◌, Option, Some, None, is_some, codes, refl, sym, ap, true≢false, inl, inr, slice_get, find, fold, option_map, list_all}
+use Rattle.dw_words.proofs.Words.{list_any, option_map_or, bytes_eq, bytes_eq-Decides, both, long_of, short_of, Kinds, or_else, Held, Names, Outcome, Row, Rule, Step, Text, Waiting, Walk, after_flag, after_step, answers_to}
+use Rattle.dw_words.proofs.Words.{arg_by_index, arg_by_long, bundle, long_met, long_or_other, nothing_held, plain_word, rows_after, short_or_plain, subcommand_met, subcommand_or_other, to_positional, trailing, walk}
+use Rattle.dw_words.proofs.Words.{walk_from, walked, walked_from, word_met, entered_fault, fault_of, level_fault, other_fault, step_fault, turn_fault, walk_fault, word_fault, clap_on_literals, App, Shape, argument_words}
+use Rattle.dw_words.proofs.{Words.{built, entered, label_of, names_of, rows_at, subcommand_of, dwframe, Name, IsSupplied, name_of, options, own}, Rows.{all_find, all_given, either, first_none, good, supplies, then_none}}
 
 -- ---- where the walk stops
 

@@ -1,7 +1,7 @@
 -- The command line, as clap defines a simple command: the subcommands with their options and operands.
 use Rattle.std.specs.Prelude.{Bool, true, false, List, [], ◌∷◌, Some, codes, fold}
-use Rattle.clap.specs.declared.builder.ArgAction.TheVariants.{Append, Set, SetTrue}
 use Rattle.clap.specs.Words.{App, Rule, Shape, Text, new_app, new_rule, with_rule, with_subcommand}
+use Rattle.clap.specs.declared.builder.ArgAction.TheVariants.{Append, Set, SetTrue}
 
 -- an option with a value, such as `--cap L`, which has to be there or may be
 abbrev pub option : Bool → Text → Rule

@@ -1,18 +1,13 @@
 -- What the words of a run ask for.
 use Rattle.std.specs.Prelude.{◌≡◌, ◌⊎◌, ⊤, List, [], Bool, true, false, Option, Some, None, codes, unwrap_or, option_and_then, option_map, Result, Ok, Err}
 use Rattle.std.specs.Option.{option_map_or}
-use Rattle.clap.specs.declared.error.ErrorKind.{ErrorKind}
+use Rattle.clap.specs.{Words.{IsAmong, Row, Text, all_of, fault_of, first_of, kind_of, subcommand_of}, declared.error.ErrorKind.ErrorKind}
 use Rattle.clap.specs.declared.error.ErrorKind.TheVariants as kinds
-use Rattle.clap.specs.Words.{IsAmong, Row, Text, all_of, fault_of, first_of, kind_of, subcommand_of}
 use Rattle.dw_num.specs.declared.target.Size.{Size}
-use Rattle.dw_words.specs.CommandLine.{dwframe}
-use Rattle.dw_words.specs.Values.{address, all_read, block_of, cap_of, decimal, default_of, order_of, profile_of, size_of}
-use Rattle.dw_words.specs.declared.request.Job.{Job}
-use Rattle.dw_words.specs.declared.request.Request.{Request}
-use Rattle.dw_words.specs.declared.request.Request.TheVariants as requests
-use Rattle.dw_words.specs.declared.request.PlanError.{PlanError}
+use Rattle.dw_words.specs.{CommandLine.dwframe, Values.{address, all_read, block_of, cap_of, decimal, default_of, order_of, profile_of, size_of}}
+use Rattle.dw_words.specs.declared.request.{Job.Job, PlanError.PlanError, Request.Request, Task.Task}
 use Rattle.dw_words.specs.declared.request.PlanError.TheVariants as errors
-use Rattle.dw_words.specs.declared.request.Task.{Task}
+use Rattle.dw_words.specs.declared.request.Request.TheVariants as requests
 use Rattle.dw_words.specs.declared.request.Task.TheVariants as tasks
 
 -- ---- a subcommand's values

@@ -1,19 +1,12 @@
 -- What the texts of options and operands say.
-use Rattle.std.specs.Prelude.{ℕ, ◌==◌, ◌&&◌, nat_lt, if◌then◌else◌, List, [], ◌∷◌, length, drop, slice_index, codes, Option, Some, None, option_and_then, option_map}
-use Rattle.std.specs.Result.{result_ok}
-use Rattle.std.specs.Str.{bytes_eq}
+use Rattle.std.specs.Prelude.{ℕ, ◌==◌, ◌&&◌, nat_lt, if◌then◌else◌, List, [], ◌∷◌, length, drop, slice_index, codes}
+use Rattle.std.specs.{Prelude.{Option, Some, None, option_and_then, option_map}, Result.result_ok, Str.bytes_eq}
 use Rattle.clap.specs.Words.{Text}
 use Rattle.hex.specs.Hex.{decode_of}
-use Rattle.dw_num.specs.Target.{address_limit}
-use Rattle.dw_num.specs.declared.target.Order.{Order}
-use Rattle.dw_num.specs.declared.target.Order.TheVariants.{Little, Big}
-use Rattle.dw_num.specs.declared.target.Size.{Size}
-use Rattle.dw_num.specs.declared.target.Size.TheVariants.{Four, Eight}
-use Rattle.dw_op.specs.declared.profile.Profile.{Profile}
-use Rattle.dw_op.specs.declared.profile.Profile.TheVariants.{Frame, Location}
-use Rattle.dw_eval.specs.declared.policy.Policy.{Policy}
-use Rattle.dw_eval.specs.declared.policy.Policy.TheVariants.{SameValue, Undefined}
-use Rattle.dw_num.specs.Digits.{below, number_behind}
+use Rattle.dw_num.specs.{Digits.{below, number_behind}, Target.address_limit}
+use Rattle.dw_num.specs.declared.target.{Order.Order, Order.TheVariants.{Little, Big}, Size.Size, Size.TheVariants.{Four, Eight}}
+use Rattle.dw_op.specs.declared.profile.{Profile.Profile, Profile.TheVariants.{Frame, Location}}
+use Rattle.dw_eval.specs.declared.policy.{Policy.Policy, Policy.TheVariants.{SameValue, Undefined}}
 
 -- ---- words of a list
 

@@ -1,10 +1,9 @@
 //! The command line as `clap` reads it, with its texts of help.
 
 ghost use Rattle.std.specs.Prelude.{◌≡◌, IfOk, false};
-ghost use Rattle.clap.specs.Words.{app_of, rule_of, with_rule};
-ghost use Rattle.clap.specs.declared.builder.command.Command.TheViews.{out-Command};
-ghost use Rattle.dw_words.specs.CommandLine.{flag, operand, operands, program};
-ghost use Rattle.dw_words.specs.Inner.CommandLine.{IsArg, IsCommand, asked, at, choice, eval, expr, needed, normal, over_file, same, subcommand, subcommand_named, unwind, with_subcommands};
+ghost use Rattle.clap.specs.{Words.{app_of, rule_of, with_rule}, declared.builder.command.Command.TheViews.out-Command};
+ghost use Rattle.dw_words.specs.{CommandLine.{flag, operand, operands, program}, Inner.CommandLine.{IsArg, IsCommand, asked, at, choice, eval}};
+ghost use Rattle.dw_words.specs.Inner.CommandLine.{expr, needed, normal, over_file, same, subcommand, subcommand_named, unwind, with_subcommands};
 
 use crate::help;
 use crate::request::Name;

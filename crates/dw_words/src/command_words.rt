@@ -2,11 +2,11 @@
 
 ghost use Rattle.std.specs.Prelude.{◌≡◌, ◌≤◌, [], IfErr, IfOk, IfSome, None, Some, map, option_map, string_bytes};
 ghost use Rattle.clap.specs.Words.{all_of, first_of, found_of, rows_of};
-ghost use Rattle.dw_words.specs.Plan.{Planned, is_help};
-ghost use Rattle.dw_words.specs.Values.{address, all_read};
-ghost use Rattle.dw_words.specs.declared.request.PlanError.TheVariants.{BadValue};
-ghost use Rattle.dw_words.specs.declared.request.Name.TheVariants.{At, Check, Eval, Expr, Normal, Same, Unwind};
-ghost use Rattle.dw_words.specs.Inner.Plan.{Answers, FromFault, Given, GivenAt, IsSupplied, addresses_in, asked_by, at_in, block_in, cap_in, default_in, eval_in, expr_in, file_in, name_of, normal_in, options, own, profile_in, run_held, run_in, same_in, start_in, steps_in, target_in, task_held, task_in, unwind_in};
+ghost use Rattle.dw_words.specs.{Plan.{Planned, is_help}, Values.{address, all_read}};
+ghost use Rattle.dw_words.specs.declared.request.{Name.TheVariants.{At, Check, Eval, Expr, Normal, Same, Unwind}, PlanError.TheVariants.BadValue};
+ghost use Rattle.dw_words.specs.Inner.Plan.{Answers, FromFault, Given, GivenAt, IsSupplied, addresses_in, asked_by, at_in, block_in};
+ghost use Rattle.dw_words.specs.Inner.Plan.{cap_in, default_in, eval_in, expr_in, file_in, name_of, normal_in, options, own, profile_in};
+ghost use Rattle.dw_words.specs.Inner.Plan.{run_held, run_in, same_in, start_in, steps_in, target_in, task_held, task_in, unwind_in};
 
 use crate::command_line::command_line;
 use crate::request::{Evaluation, Job, Lookup, Name, PlanError, Request, Task, Unwinding, Writing};

@@ -1,10 +1,9 @@
 //! What the texts of options and operands say.
 
 ghost use Rattle.std.specs.Prelude.{◌≡◌, ◌⊎◌, ◌<◌, Some, None, MatchResult, option_and_then};
-ghost use Rattle.dw_num.specs.Digits.{below, digit_value, number_behind};
-ghost use Rattle.dw_words.specs.Values.{size_of, order_of, default_of, profile_of, decimal, address, block_of};
-ghost use Rattle.dw_words.specs.Inner.Values.{digit_behind, checked_behind};
 ghost use Rattle.hex.specs.declared.error.FromHexError.TheVariants.{OutOfMemory as NoMemory};
+ghost use Rattle.dw_num.specs.Digits.{below, digit_value, number_behind};
+ghost use Rattle.dw_words.specs.{Values.{size_of, order_of, default_of, profile_of, decimal, address, block_of}, Inner.Values.{digit_behind, checked_behind}};
 
 use dw_eval::Policy;
 use dw_num::{Order, Size};

@@ -3,8 +3,7 @@
 //! `dw_command::engine` is the whole command over a list of words, files and two outputs; `main` runs it over the real ones.
 #![tactic(auto)]
 
-ghost use Rattle.std.specs.Prelude.{◌≡◌, ◌≢◌, ⊤, ◌≤◌, map, string_bytes};
-ghost use Rattle.std.specs.IoError.{error_kind};
+ghost use Rattle.std.specs.{Prelude.{◌≡◌, ◌≢◌, ⊤, ◌≤◌, map, string_bytes}, IoError.error_kind};
 ghost use Rattle.dw_command.specs.Engine.{Runs};
 
 mod explained;

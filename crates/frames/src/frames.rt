@@ -1,6 +1,5 @@
 //! Worked frames, by a table and by its index: plain ones, each fault, and a memory whose device fails.
 
-ghost use Rattle.std.specs.Prelude.{◌+◌, ◌-◌, ◌<◌};
 ghost use Rattle.dw_unwind.specs.Ranges.{byte_in};
 
 use dw_cfa::RowRoom;

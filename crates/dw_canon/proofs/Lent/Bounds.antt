@@ -1,12 +1,11 @@
 -- The normal form of a section is no longer than the shares of its FDEs.
-use Rattle.dw_canon.proofs.Words.{◌≡◌, ℕ, ◌+◌, ◌*◌, ◌<◌, ◌≤◌, List, [], ◌∷◌, length, map, refl, ap, subst, inl, inr, arith, ◌∙◌, nat_eq, AllByRecursion, eqb_tells, length-append, Size, Four, Eight, Target, AreBytes, byte_count}
-use Rattle.dw_canon.proofs.Words.{length-fixed, Accepted, group_of, groups_of, part_of, parts_of, canon, cie_instrs, initial_of, return_registers, MemberStands, group, cie_of, Member, IsMember, AreMembers, fde_of, changes_of, program_bytes}
-use Rattle.dw_canon.proofs.Words.{cie_id, cie_spelling, entry_bytes, section_bytes, cie_field_bytes}
 use Rattle.dw_canon.specs.Bound.{share, Shares, WithinShares}
-use Rattle.dw_canon.proofs.{Lent.Differences.In, Lent.Extra.{section_append, up, entry_up, fde_length}, Lent.Forms.whole_is, Lent.Layout.laid_is, Prices.{IsPriced, is_priced, fde_len, cie_len}}
-use Rattle.dw_canon.proofs.{Lent.Rendered.{fits, stand, nonempty, low_registers}, AscendingRegisters.{Rise, with_all_rise}, Lent.Shared.MemberFits, Squares.changes_most, Lent.MemberPlaces.all_some, Sums.{sum_of, if_own, once_own, sum_once}}
-use Rattle.dw_canon.proofs.{Weights.register_len, Within.all_len}
 use Rattle.dw_canon.specs.Inner.Laid as layout
+use Rattle.dw_canon.proofs.Words.{◌≡◌, ℕ, ◌+◌, ◌*◌, ◌<◌, ◌≤◌, List, [], ◌∷◌, length, map, refl, ap, subst, inl, inr, arith, ◌∙◌, nat_eq, AllByRecursion, eqb_tells, length-append, Size, Four, Eight, Target}
+use Rattle.dw_canon.proofs.Words.{AreBytes, byte_count, length-fixed, Accepted, group_of, groups_of, part_of, parts_of, canon, cie_instrs, initial_of, return_registers, MemberStands, group, cie_of, Member}
+use Rattle.dw_canon.proofs.{Words.{IsMember, AreMembers, fde_of, changes_of, program_bytes, cie_id, cie_spelling, entry_bytes, section_bytes, cie_field_bytes}, AscendingRegisters.{Rise, with_all_rise}}
+use Rattle.dw_canon.proofs.Lent.{Differences.In, Extra.{section_append, up, entry_up, fde_length}, Forms.whole_is, Layout.laid_is, MemberPlaces.all_some, Rendered.{fits, stand, nonempty, low_registers}, Shared.MemberFits}
+use Rattle.dw_canon.proofs.{Prices.{IsPriced, is_priced, fde_len, cie_len}, Squares.changes_most, Sums.{sum_of, if_own, once_own, sum_once}, Weights.register_len, Within.all_len}
 use Rattle.dw_canon.proofs.Lent.InstrFits as fitting
 
 -- ---- entries

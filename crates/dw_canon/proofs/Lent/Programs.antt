@@ -1,10 +1,9 @@
 -- The program of a member runs without a fault, and its rows are the member's changes.
-use Rattle.dw_canon.proofs.Words.{◌≡◌, ℕ, zero, suc, ◌+◌, ◌-◌, ◌<◌, ◌≤◌, ◌^◌, Bool, true, false, List, [], ◌∷◌, ◌++◌, map, replicate, Option, None, refl, sym, ap, ◌∙◌, subst, arith, nat_lt, le-ltb, append_assoc, append-nil, Member}
-use Rattle.dw_canon.proofs.Words.{changes_of, fde_instrs, Target, Instr, Nop, LocatedRow, moves_location, State, after, fde_fault, Rules, Placed, row_if, fault_or, fde_rows, instrs_of, Gives, move, difference, later_changes, RowFits}
-use Rattle.dw_canon.proofs.Words.{RowStands, ChangesStand}
-use Rattle.dw_cfa.specs.Inner.Runs.{here}
 use Rattle.dw_cfa.specs.Runs.{Outcome}
-use Rattle.dw_canon.proofs.Lent.Differences.{Quiet, on, no_half, difference_quiet}
+use Rattle.dw_cfa.specs.Inner.Runs.{here}
+use Rattle.dw_canon.proofs.Words.{◌≡◌, ℕ, zero, suc, ◌+◌, ◌-◌, ◌<◌, ◌≤◌, ◌^◌, Bool, true, false, List, [], ◌∷◌, ◌++◌, map, replicate, Option, None, refl, sym, ap, ◌∙◌, subst, arith, nat_lt}
+use Rattle.dw_canon.proofs.Words.{le-ltb, append_assoc, append-nil, Member, changes_of, fde_instrs, Target, Instr, Nop, LocatedRow, moves_location, State, after, fde_fault, Rules, Placed, row_if}
+use Rattle.dw_canon.proofs.{Words.{fault_or, fde_rows, instrs_of, Gives, move, difference, later_changes, RowFits, RowStands, ChangesStand}, Lent.Differences.{Quiet, on, no_half, difference_quiet}}
 
 -- ---- the machine over instructions without their places
 

@@ -1,11 +1,10 @@
 -- What is written of an accepted section means the same when it is read back.
-use Rattle.dw_canon.proofs.Words.{◌≡◌, ℕ, ◌+◌, ◌<◌, ◌≤◌, ◌^◌, List, [], ◌∷◌, ◌++◌, length, map, refl, sym, ap, subst, arith, inl, inr, AllByRecursion, AllZip, Size, Four, Eight, Target, AreBytes, address_limit, byte_count, Instr, Fde}
-use Rattle.dw_canon.proofs.Words.{Accepted, Piece, Head, Has, FdeSays, Lists, AreFdes, Range, AreApart, end_of, cie_places, all_in, one_fdes, AgreeAt, Agree, Group, Part, laid, fde_in, IsPart, PartsApart, IsLaid, IsPartOf, IsAmong}
-use Rattle.dw_canon.proofs.Words.{IsRendered, Renders, ReadsBack, Readback, section_bytes, agree_nops, agree_then, cfa_agree, nops, agree_changes, AllAgree, all_agree_sym, same_meaning, changes_there, fdes_zip, one_programs, cfa_programs}
-use Rattle.dw_canon.proofs.Words.{begin_low, listed_programs, changes_programs}
-use Rattle.dw_section.proofs.Lent.FieldTable.{fde_said}
-use Rattle.dw_canon.proofs.{Accepts.{written_accepted, written_fdes}, Bytes.section_are_bytes, Lays.{laid_section, laid_fdes, part_member}, Means.{padded, padded_says}}
 use Rattle.dw_section.specs.Headers as head
+use Rattle.dw_section.proofs.Lent.FieldTable.{fde_said}
+use Rattle.dw_canon.proofs.Words.{◌≡◌, ℕ, ◌+◌, ◌<◌, ◌≤◌, ◌^◌, List, [], ◌∷◌, ◌++◌, length, map, refl, sym, ap, subst, arith, inl, inr, AllByRecursion, AllZip, Size, Four, Eight, Target, AreBytes, address_limit, byte_count, Instr}
+use Rattle.dw_canon.proofs.Words.{Fde, Accepted, Piece, Head, Has, FdeSays, Lists, AreFdes, Range, AreApart, end_of, cie_places, all_in, one_fdes, AgreeAt, Agree, Group, Part, laid, fde_in, IsPart, PartsApart, IsLaid, IsPartOf}
+use Rattle.dw_canon.proofs.Words.{IsAmong, IsRendered, Renders, ReadsBack, Readback, section_bytes, agree_nops, agree_then, cfa_agree, nops, agree_changes, AllAgree, all_agree_sym, same_meaning, changes_there, fdes_zip, one_programs}
+use Rattle.dw_canon.proofs.{Words.{cfa_programs, begin_low, listed_programs, changes_programs}, Accepts.{written_accepted, written_fdes}, Bytes.section_are_bytes, Lays.{laid_section, laid_fdes, part_member}, Means.{padded, padded_says}}
 
 -- ---- a range fits its field
 

@@ -1,10 +1,9 @@
 -- The normal form renders its section.
-use Rattle.dw_canon.proofs.Words.{◌≡◌, ℕ, suc, ◌+◌, ◌-◌, ◌<◌, List, [], ◌∷◌, map, refl, sym, ap, ◌∙◌, subst, inl, inr, arith, AllByRecursion, AreBytes, address_limit, Target, CfaRule, FdeKept, Fde, Accepted, AreChanges, AreFdes, ChangesOf}
-use Rattle.dw_canon.proofs.Words.{fde_in, HasGroup, GroupsRise, IsGroup, IsAmong, IsRendered, Renders, group_of, part_of, groups_of, parts_of, return_registers, initial_of, cie_instrs, fde_instrs, MemberStands, Member, fde_of, changes_of}
-use Rattle.dw_canon.proofs.Words.{IsMember, AreMembers, sound_section}
 use Rattle.dw_section.proofs.Lent.Registers.{fdes_registers}
-use Rattle.dw_canon.proofs.{Lent.Differences.In, ProgramLaws.{initial_program, member_program}, AscendingRegisters.{Rise, with_all_rise}, Lent.Shared.{MemberFits, RestsOnAll}}
-use Rattle.dw_canon.proofs.Lent.MemberPlaces.{member_fits, member_stands, group_fits, all_rest, all_both, IsSound, all_to}
+use Rattle.dw_canon.proofs.Words.{◌≡◌, ℕ, suc, ◌+◌, ◌-◌, ◌<◌, List, [], ◌∷◌, map, refl, sym, ap, ◌∙◌, subst, inl, inr, arith, AllByRecursion, AreBytes, address_limit, Target, CfaRule, FdeKept, Fde, Accepted}
+use Rattle.dw_canon.proofs.Words.{AreChanges, AreFdes, ChangesOf, fde_in, HasGroup, GroupsRise, IsGroup, IsAmong, IsRendered, Renders, group_of, part_of, groups_of, parts_of, return_registers, initial_of}
+use Rattle.dw_canon.proofs.{Words.{cie_instrs, fde_instrs, MemberStands, Member, fde_of, changes_of, IsMember, AreMembers, sound_section}, AscendingRegisters.{Rise, with_all_rise}, Lent.Differences.In}
+use Rattle.dw_canon.proofs.{Lent.MemberPlaces.{member_fits, member_stands, group_fits, all_rest, all_both, IsSound, all_to}, Lent.Shared.{MemberFits, RestsOnAll}, ProgramLaws.{initial_program, member_program}}
 use Rattle.dw_canon.proofs.Lent.Differences as lists
 use Rattle.dw_canon.proofs.Lent.InstrFits as fitting
 

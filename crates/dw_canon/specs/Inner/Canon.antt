@@ -2,13 +2,10 @@
 use Rattle.std.specs.Prelude.{ℕ, List}
 use Rattle.dw_num.specs.declared.target.Target.{Target}
 use Rattle.dw_op.specs.Inner.LeastBlock.{least_block}
-use Rattle.dw_cfa.specs.declared.instr.Instr.{Instr}
+use Rattle.dw_cfa.specs.{Rows.Rules, declared.instr.Instr.Instr}
 use Rattle.dw_cfa.specs.Inner.Agreement.{same_cfa, same_rule}
-use Rattle.dw_cfa.specs.Rows.{Rules}
+use Rattle.dw_canon.specs.{Group.group, Members.Member, Inner.Group.initial_row}
 use Rattle.dw_canon.specs.Canon as form
-use Rattle.dw_canon.specs.Group.{group}
-use Rattle.dw_canon.specs.Inner.Group.{initial_row}
-use Rattle.dw_canon.specs.Members.{Member}
 
 -- the initial row of a return address register's FDEs
 abbrev pub initial_of : List Member → ℕ → Rules

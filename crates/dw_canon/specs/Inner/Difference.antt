@@ -1,13 +1,7 @@
 -- The instructions that lead from one row to another, by the tests that the code has.
-use Rattle.std.specs.Prelude.{ℕ, List}
-use Rattle.std.specs.BTreeSet.{insert_key}
-use Rattle.std.specs.List.{fold}
-use Rattle.std.specs.Ordering.{nat_cmp}
-use Rattle.dw_cfa.specs.declared.instr.Instr.{Instr}
-use Rattle.dw_cfa.specs.declared.rule.CfaRule.{CfaRule}
-use Rattle.dw_cfa.specs.declared.rule.RegRule.{RegRule}
+use Rattle.std.specs.{Prelude.{ℕ, List}, BTreeSet.insert_key, List.fold, Ordering.nat_cmp}
+use Rattle.dw_cfa.specs.{Rows.Rules, declared.instr.Instr.Instr, declared.rule.CfaRule.CfaRule, declared.rule.RegRule.RegRule}
 use Rattle.dw_cfa.specs.Inner.Agreement.{same_cfa, same_rule}
-use Rattle.dw_cfa.specs.Rows.{Rules}
 use Rattle.dw_canon.specs.Difference as form
 
 -- an ascending list with a register more

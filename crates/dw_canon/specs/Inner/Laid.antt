@@ -1,20 +1,11 @@
 -- How a normal form is laid out: first a CIE for each return address register, ascending, then the FDEs by begin; and what is asked
 -- of them.
-use Rattle.std.specs.Prelude.{◌≡◌, ◌⊎◌, ◌==◌, ℕ, suc, ◌+◌, ◌-◌, ◌<◌, ◌≤◌, List, [], ◌∷◌, ◌++◌, length, map, if◌then◌else◌}
-use Rattle.std.specs.List.{AllByRecursion}
-use Rattle.dw_num.specs.declared.target.Target.{Target}
-use Rattle.dw_num.specs.Target.{address_limit}
-use Rattle.dw_cfa.specs.declared.instr.Instr.{Instr}
-use Rattle.dw_cfa.specs.InstrSpells.{ProgramSpells}
-use Rattle.dw_cfa.specs.Kept.{CieKept, FdeKept}
-use Rattle.dw_cfa.specs.InitialRules.{initial_cfa}
-use Rattle.dw_section.specs.declared.lookup.Fde.{Fde}
-use Rattle.dw_section.specs.Programs.{HasCfa}
-use Rattle.dw_canon.specs.Canon.{return_registers}
-use Rattle.dw_canon.specs.Inner.Canon.{initial_of, cie_instrs, fde_instrs}
-use Rattle.dw_canon.specs.Inner.Written.{Written, cie, fde, factors, entry_bytes, section_bytes}
-use Rattle.dw_canon.specs.Members.{Member}
-use Rattle.dw_canon.specs.Inner.Spelling.{program_bytes}
+use Rattle.std.specs.{Prelude.{◌≡◌, ◌⊎◌, ◌==◌, ℕ, suc, ◌+◌, ◌-◌, ◌<◌, ◌≤◌, List, [], ◌∷◌, ◌++◌, length, map, if◌then◌else◌}, List.AllByRecursion}
+use Rattle.dw_num.specs.{Target.address_limit, declared.target.Target.Target}
+use Rattle.dw_cfa.specs.{InitialRules.initial_cfa, InstrSpells.ProgramSpells, Kept.{CieKept, FdeKept}, declared.instr.Instr.Instr}
+use Rattle.dw_section.specs.{Programs.HasCfa, declared.lookup.Fde.Fde}
+use Rattle.dw_canon.specs.{Canon.return_registers, Members.Member, Inner.Canon.{initial_of, cie_instrs, fde_instrs}}
+use Rattle.dw_canon.specs.Inner.{Spelling.program_bytes, Written.{Written, cie, fde, factors, entry_bytes, section_bytes}}
 
 -- the CIE of a return address register: its instructions, and the bytes that spell them
 pub record Group : Type 0 where

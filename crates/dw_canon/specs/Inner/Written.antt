@@ -1,24 +1,11 @@
 -- Sections as they are written, entry by entry, each with the instructions that its program spells.
-use Rattle.std.specs.Prelude.{◌≡◌, ◌⊎◌, ℕ, ◌+◌, ◌<◌, ◌≤◌, negsuc, List, [], ◌∷◌, ◌++◌, length, map, replicate}
-use Rattle.std.specs.List.{AllByRecursion}
-use Rattle.dw_num.specs.declared.target.Target.{Target}
-use Rattle.dw_num.specs.declared.target.Form.TheVariants.{Dwarf32}
-use Rattle.dw_num.specs.declared.target.Size.{Size}
-use Rattle.dw_num.specs.Fixed.{fixed_bytes}
-use Rattle.dw_num.specs.Shortest.{shortest_uleb}
-use Rattle.dw_num.specs.Span.{Span}
-use Rattle.dw_num.specs.Target.{address_limit, byte_count}
-use Rattle.dw_cfa.specs.declared.instr.Factors.{Factors}
-use Rattle.dw_cfa.specs.declared.instr.Instr.{Instr}
-use Rattle.dw_cfa.specs.InstrSpells.{ProgramSpells}
-use Rattle.dw_cfa.specs.Kept.{CieKept, FdeKept}
-use Rattle.dw_cfa.specs.InitialRules.{initial_cfa}
-use Rattle.dw_section.specs.Cut.{Item, entry, item_bytes, all_bytes}
-use Rattle.dw_section.specs.Headers.{Head}
+use Rattle.std.specs.{Prelude.{◌≡◌, ◌⊎◌, ℕ, ◌+◌, ◌<◌, ◌≤◌, negsuc, List, [], ◌∷◌, ◌++◌, length, map, replicate}, List.AllByRecursion}
+use Rattle.dw_num.specs.{Fixed.fixed_bytes, Shortest.shortest_uleb, Span.Span, Target.{address_limit, byte_count}}
+use Rattle.dw_num.specs.declared.target.{Form.TheVariants.Dwarf32, Size.Size, Target.Target}
+use Rattle.dw_cfa.specs.{InitialRules.initial_cfa, InstrSpells.ProgramSpells, Kept.{CieKept, FdeKept}}
+use Rattle.dw_cfa.specs.declared.instr.{Factors.Factors, Instr.Instr}
+use Rattle.dw_section.specs.{Cut.{Item, entry, item_bytes, all_bytes}, Headers.Head, Overlap.{Range, AreApart}, Programs.HasCfa, declared.lookup.Fde.Fde}
 use Rattle.dw_section.specs.Headers as head
-use Rattle.dw_section.specs.Overlap.{Range, AreApart}
-use Rattle.dw_section.specs.declared.lookup.Fde.{Fde}
-use Rattle.dw_section.specs.Programs.{HasCfa}
 use Rattle.dw_canon.specs.Written.{missing, cie_field_bytes, fde_field_bytes}
 
 -- the factors of each CIE: what the operands of offsets and advances are multiplied by

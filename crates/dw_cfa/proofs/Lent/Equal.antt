@@ -1,10 +1,9 @@
 -- What tells equal rules is our test, and what two rows have in common is what the tests leave.
-use Rattle.dw_cfa.proofs.Words.{◌≡◌, ◌⊎◌, Bool, false, refl, sym, ◌∙◌, inl, inr, arith, IsTrue, ◌↔◌, if◌then◌else◌, Decides, one_answer, cases_Bool, not_from_Decides, CfaRule, RegRule, Rules, InCommon, IsAgreed, agreed, is_agreed, same_cfa}
-use Rattle.dw_cfa.proofs.Words.{same_rule, cfa_tells, rule_tells, AreSpecified, rule, rows_tell}
 use Rattle.dw_cfa.specs.Inner.RowEquality.{same_rows as rows_same}
-use Rattle.dw_cfa.proofs.Lent.{Narrowed.{filter_keeps, filter_rule}, SameRows.same_rows}
 use Rattle.dw_cfa.specs.declared.rule.CfaRule.TheVariants as cfa
 use Rattle.dw_cfa.specs.declared.rule.RegRule.TheVariants as rules
+use Rattle.dw_cfa.proofs.Words.{◌≡◌, ◌⊎◌, Bool, false, refl, sym, ◌∙◌, inl, inr, arith, IsTrue, ◌↔◌, if◌then◌else◌, Decides, one_answer, cases_Bool, not_from_Decides, CfaRule, RegRule, Rules, InCommon}
+use Rattle.dw_cfa.proofs.{Words.{IsAgreed, agreed, is_agreed, same_cfa, same_rule, cfa_tells, rule_tells, AreSpecified, rule, rows_tell}, Lent.Narrowed.{filter_keeps, filter_rule}, Lent.SameRows.same_rows}
 
 -- what tells equal rules is the test
 pub cfa_test_of : (a b : CfaRule) (r : Bool) → (IsTrue r ↔ (a ≡ b)) → r ≡ same_cfa a b

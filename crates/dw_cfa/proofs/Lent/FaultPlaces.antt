@@ -1,7 +1,6 @@
 -- The first faults of programs lie in them.
-use Rattle.dw_cfa.proofs.Words.{◌≡◌, ◌+◌, List, ◌∷◌, length, ap, arith, inl, inr, length-append, AreBytes, Code, Factors, Input, Instr, Refusal, FaultBehind}
 use Rattle.dw_cfa.specs.FaultPlaces.{LiesInProgram, CieFaultsWithin, FdeFaultsWithin, RunFaultsWithin}
-use Rattle.dw_cfa.proofs.{Lent.Listings.stuck_within, Stuck.fault_stuck}
+use Rattle.dw_cfa.proofs.{Words.{◌≡◌, ◌+◌, List, ◌∷◌, length, ap, arith, inl, inr, length-append, AreBytes, Code, Factors, Input, Instr, Refusal, FaultBehind}, Lent.Listings.stuck_within, Stuck.fault_stuck}
 
 fault_within : (i : Input) (f : Factors) (instrs : List Instr) (Breaks : Instr → Code → Type 0) (r : Refusal) → AreBytes i.bytes → FaultBehind f i instrs Breaks r → LiesInProgram i r
 fault_within i f instrs Breaks r are (inl h) = stuck_within f i h.front (h.code ∷ h.operands) r are h.whole (fault_stuck f i.target (i.at + length h.front) h.code h.operands r h.fault)

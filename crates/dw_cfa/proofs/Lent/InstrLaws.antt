@@ -1,10 +1,9 @@
 -- What is read is spelled so.
-use Rattle.dw_cfa.proofs.Words.{◌≡◌, ℕ, zero, suc, ◌^◌, List, [], ◌∷◌, ◌++◌, Option, Some, None, Result, Ok, Err, refl, subst, ◌∙◌, arith, inl, inr, unsigned_abs, cases_lt, lt-ltb, le-ltb, AreBytes, Factors, Input, Instr, Op, Opcode, Read}
-use Rattle.dw_cfa.proofs.Words.{Refusal, Target, OffsetTooLarge, Takes, IsWidth, fault, fixed_at, take_at, uleb_at, bind_ok, Takes-then, take_found, done, ok_is, uleb_found, register_found, sleb_found, taken_bytes, fixed_found}
-use Rattle.dw_cfa.proofs.Words.{address_found, byte_found, Frame, Expression, block_input, decode_at, block_found, BlockSpells, OperandSpells, InstrFormSpells, InstrSpells, EachEntry, opcode_table, opcode_of, form_of, Operand, address}
-use Rattle.dw_cfa.proofs.Words.{fixed, register, unsigned, signed, expression, InstrForm, none, one, two, offset_of, leaving, expression_of, expression_in, block_in, after_length, block_at, operand_at, with_instr, then_operand, form_at}
-use Rattle.dw_cfa.proofs.Words.{judged, known_at, after_code, instr_at}
-use Rattle.dw_cfa.proofs.{Codes.{opcode_known, ◌&◌}, CodeForms.form_is}
+use Rattle.dw_cfa.proofs.Words.{◌≡◌, ℕ, zero, suc, ◌^◌, List, [], ◌∷◌, ◌++◌, Option, Some, None, Result, Ok, Err, refl, subst, ◌∙◌, arith, inl, inr, unsigned_abs, cases_lt, lt-ltb, le-ltb, AreBytes, Factors}
+use Rattle.dw_cfa.proofs.Words.{Input, Instr, Op, Opcode, Read, Refusal, Target, OffsetTooLarge, Takes, IsWidth, fault, fixed_at, take_at, uleb_at, bind_ok, Takes-then, take_found, done, ok_is, uleb_found}
+use Rattle.dw_cfa.proofs.Words.{register_found, sleb_found, taken_bytes, fixed_found, address_found, byte_found, Frame, Expression, block_input, decode_at, block_found, BlockSpells, OperandSpells, InstrFormSpells}
+use Rattle.dw_cfa.proofs.Words.{InstrSpells, EachEntry, opcode_table, opcode_of, form_of, Operand, address, fixed, register, unsigned, signed, expression, InstrForm, none, one, two, offset_of, leaving, expression_of}
+use Rattle.dw_cfa.proofs.{Words.{expression_in, block_in, after_length, block_at, operand_at, with_instr, then_operand, form_at, judged, known_at, after_code, instr_at}, CodeForms.form_is, Codes.{opcode_known, ◌&◌}}
 
 -- ---- operands
 

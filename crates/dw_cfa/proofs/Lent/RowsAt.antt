@@ -1,8 +1,7 @@
 -- The rows of a run: where they start, and that the last one that starts at or below an address holds the rules at that address.
-use Rattle.dw_cfa.proofs.Words.{◌≡◌, ℕ, zero, suc, ◌<◌, ◌≤◌, Bool, true, false, cond, List, [], ◌∷◌, Option, Some, None, refl, sym, ap, ◌∙◌, subst, inl, inr, arith, cases_lt, le-leb, leb_tells, nat_tests, nat_le, nat_lt, map, Code, Instr}
-use Rattle.dw_cfa.proofs.Words.{LocatedRow, Outcome, Placed, Refusal, Rules, State, LocationBackwards, SetLoc, Advance, RestoreState, onto, location_back, moves_location, after, popped, fde_fault, here, row_if, fault_or, fde_rows, finished}
-use Rattle.dw_cfa.proofs.Words.{row_then, last_at, NeverFalls, CountsFrom}
-use Rattle.dw_cfa.proofs.{Lent.Forward.{Follows, Holds, after_follows}, Stops.{AllRun, all_run, refusal_of, refusal_or}}
+use Rattle.dw_cfa.proofs.Words.{◌≡◌, ℕ, zero, suc, ◌<◌, ◌≤◌, Bool, true, false, cond, List, [], ◌∷◌, Option, Some, None, refl, sym, ap, ◌∙◌, subst, inl, inr, arith, cases_lt, le-leb, leb_tells, nat_tests, nat_le, nat_lt}
+use Rattle.dw_cfa.proofs.Words.{map, Code, Instr, LocatedRow, Outcome, Placed, Refusal, Rules, State, LocationBackwards, SetLoc, Advance, RestoreState, onto, location_back, moves_location, after, popped, fde_fault}
+use Rattle.dw_cfa.proofs.{Words.{here, row_if, fault_or, fde_rows, finished, row_then, last_at, NeverFalls, CountsFrom}, Lent.Forward.{Follows, Holds, after_follows}, Stops.{AllRun, all_run, refusal_of, refusal_or}}
 
 abbrev pub instrs_of : List Placed → List Instr
 instrs_of items = map (λ (p : Placed). p.instr) items

@@ -1,8 +1,7 @@
 -- The two halves of a run, and where its rows start.
-use Rattle.dw_cfa.proofs.Words.{◌≡◌, ◌⊎◌, ℕ, Result, Ok, Err, sym, ap, ◌∙◌, subst, inl, inr, Factors, Input, Machine, Outcome, Progress, Refusal, Rules, Stepping, address_limit, blank, begun, placed, initial_row, on_initial, rows_left}
-use Rattle.dw_cfa.proofs.Words.{run_rows, left_of, state_of}
-use Rattle.dw_cfa.proofs.Lent.RowsAt.{RowsFrom, refused_from, rows_from}
 use Rattle.dw_cfa.specs.declared.steps.Progress.TheVariants as progress
+use Rattle.dw_cfa.proofs.Words.{◌≡◌, ◌⊎◌, ℕ, Result, Ok, Err, sym, ap, ◌∙◌, subst, inl, inr, Factors, Input, Machine, Outcome, Progress, Refusal, Rules, Stepping, address_limit}
+use Rattle.dw_cfa.proofs.{Words.{blank, begun, placed, initial_row, on_initial, rows_left, run_rows, left_of, state_of}, Lent.RowsAt.{RowsFrom, refused_from, rows_from}}
 pub use Rattle.dw_cfa.proofs.Lent.Listings.{placed_program, program_placed}
 
 -- ---- where the next row of a machine starts

@@ -1,7 +1,6 @@
 -- Tests of the registers whose slots are used leave what tests of all do; and rows that differ at no register are the same.
-use Rattle.dw_cfa.proofs.Words.{◌≡◌, ℕ, ◌+◌, ◌<◌, ◌≤◌, Bool, true, false, List, Option, Some, None, refl, ap, arith, not, is_some, IsTrue, ◌↔◌, bit_at, nat_tests, Entries, AreSpecified, rule_in, entries_of, EntriesSo, FirstBit, LeavesAt}
-use Rattle.dw_cfa.proofs.Words.{LeavesBelow, FirstDifference}
-use Rattle.dw_cfa.proofs.{Lent.RowLists.Entry, Lent.SameRows.same_entries, Slots.not_set, Lent.Narrowed.none_left}
+use Rattle.dw_cfa.proofs.Words.{◌≡◌, ℕ, ◌+◌, ◌<◌, ◌≤◌, Bool, true, false, List, Option, Some, None, refl, ap, arith, not, is_some, IsTrue, ◌↔◌, bit_at, nat_tests, Entries, AreSpecified, rule_in}
+use Rattle.dw_cfa.proofs.{Words.{entries_of, EntriesSo, FirstBit, LeavesAt, LeavesBelow, FirstDifference}, Lent.Narrowed.none_left, Lent.RowLists.Entry, Lent.SameRows.same_entries, Slots.not_set}
 
 -- what a test leaves of the registers below a place
 pub record TestedBelow (p : Entry → Bool) (old : List Entry) (k : ℕ) (e : Entries) : Type 0 where

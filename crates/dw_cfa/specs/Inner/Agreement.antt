@@ -1,16 +1,10 @@
 -- Whether two rules are the same, as a test, and what two rows have in common by it.
-use Rattle.std.specs.Prelude.{ℕ, Bool, true, false, ◌&&◌, nat_eq, List, ◌∷◌, map, if◌then◌else◌}
-use Rattle.std.specs.List.{filter}
-use Rattle.std.specs.Ordering.{int_eq}
-use Rattle.dw_op.specs.declared.op.Op.{Op}
-use Rattle.dw_op.specs.declared.op.Op.TheVariants.{Implicit}
+use Rattle.std.specs.{Prelude.{ℕ, Bool, true, false, ◌&&◌, nat_eq, List, ◌∷◌, map, if◌then◌else◌}, List.filter, Ordering.int_eq}
+use Rattle.dw_op.specs.{Expression.Expression, declared.op.Op.Op, declared.op.Op.TheVariants.Implicit}
 use Rattle.dw_op.specs.Inner.Equality.{op_line, same_lines, target_line}
-use Rattle.dw_op.specs.Expression.{Expression}
-use Rattle.dw_cfa.specs.declared.rule.CfaRule.{CfaRule}
+use Rattle.dw_cfa.specs.{Rows.{Rules, rule_in}, declared.rule.CfaRule.CfaRule, declared.rule.RegRule.RegRule}
 use Rattle.dw_cfa.specs.declared.rule.CfaRule.TheVariants as cfa
-use Rattle.dw_cfa.specs.declared.rule.RegRule.{RegRule}
 use Rattle.dw_cfa.specs.declared.rule.RegRule.TheVariants as rules
-use Rattle.dw_cfa.specs.Rows.{Rules, rule_in}
 
 -- where an operation's bytes lie in memory
 abbrev pub pointer : Op → ℕ × ℕ

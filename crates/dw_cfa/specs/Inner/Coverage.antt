@@ -1,8 +1,6 @@
 -- How the code finds that rows leave an address without a rule for the CFA.
 use Rattle.std.specs.Prelude.{ℕ, ◌&&◌, ◌||◌, Bool, true, false, List, [], ◌∷◌, nat_lt}
-use Rattle.dw_cfa.specs.declared.rule.CfaRule.{CfaRule}
-use Rattle.dw_cfa.specs.declared.rule.CfaRule.TheVariants.{Unset}
-use Rattle.dw_cfa.specs.declared.execution.LocatedRow.{LocatedRow}
+use Rattle.dw_cfa.specs.declared.{execution.LocatedRow.LocatedRow, rule.CfaRule.CfaRule, rule.CfaRule.TheVariants.Unset}
 
 abbrev pub is_unset : CfaRule → Bool
 is_unset Unset = true

@@ -1,11 +1,7 @@
 -- What the code and its proofs say beside Difference.
-use Rattle.std.specs.Prelude.{◌≡◌, ℕ, ◌<◌, List, Option, Some, None}
-use Rattle.std.specs.Int.{bit_at}
-use Rattle.std.specs.declared.ops.Bound.{Bound}
-use Rattle.std.specs.declared.ops.Bound.TheVariants.{Excluded, Unbounded}
-use Rattle.dw_cfa.specs.declared.rule.RegRule.{RegRule}
-use Rattle.dw_cfa.specs.Rows.{rule_in}
-use Rattle.dw_cfa.specs.Difference.{SameBetween, DiffersFirst}
+use Rattle.std.specs.{Prelude.{◌≡◌, ℕ, ◌<◌, List, Option, Some, None}, Int.bit_at}
+use Rattle.std.specs.declared.ops.{Bound.Bound, Bound.TheVariants.{Excluded, Unbounded}}
+use Rattle.dw_cfa.specs.{Difference.{SameBetween, DiffersFirst}, Rows.rule_in, declared.rule.RegRule.RegRule}
 
 -- registers below 128 whose bit in a mask is not set have the same rules
 abbrev pub SameUnset : ℕ → List (ℕ × RegRule) → List (ℕ × RegRule) → Type 0

@@ -1,18 +1,11 @@
 -- Where the registers of a row lie: those below 128 in slots under a mask, with their expressions in a tree, and the others in another tree.
 use Rattle.std.specs.Prelude.{◌≡◌, ℕ, zero, suc, ◌<◌, ◌≤◌, ◌-◌, List, ◌∷◌, length, Bool, Option, Some, None, IsTrue, nat_eq, nat_lt, if◌then◌else◌}
-use Rattle.dw_cfa.specs.declared.rule.RegRule.{RegRule}
-use Rattle.dw_cfa.specs.declared.rule.RegRule.TheVariants as rules
-use Rattle.dw_cfa.specs.declared.entries.Entries.{Entries}
-use Rattle.dw_cfa.specs.declared.slot.Slot.{Slot}
-use Rattle.dw_cfa.specs.declared.slot.Slot.TheVariants as slots
-use Rattle.std.specs.Int.{bit_at}
-use Rattle.std.specs.Ordering.{nat_cmp}
-use Rattle.std.specs.BTreeMap.Range.{entries_between}
-use Rattle.std.specs.declared.ops.Bound.TheVariants.{Unbounded}
+use Rattle.std.specs.{BTreeMap.Range.entries_between, Int.bit_at, Ordering.nat_cmp, declared.ops.Bound.TheVariants.Unbounded}
 use Rattle.std.proofs.Math.ListN.{get_or}
-use Rattle.dw_cfa.specs.Rows.{AreSpecified, is_specified, rule_in}
-use Rattle.dw_cfa.specs.Inner.Difference.{start_behind}
-use Rattle.dw_cfa.specs.Inner.Rows.{listed}
+use Rattle.dw_cfa.specs.{Rows.{AreSpecified, is_specified, rule_in}, declared.entries.Entries.Entries}
+use Rattle.dw_cfa.specs.{declared.rule.RegRule.RegRule, declared.slot.Slot.Slot, Inner.Difference.start_behind, Inner.Rows.listed}
+use Rattle.dw_cfa.specs.declared.rule.RegRule.TheVariants as rules
+use Rattle.dw_cfa.specs.declared.slot.Slot.TheVariants as slots
 
 -- the rule that a slot holds, where this is the one beside it
 abbrev pub slot_rule : Slot → RegRule → RegRule

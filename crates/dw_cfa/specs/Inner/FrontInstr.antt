@@ -1,20 +1,12 @@
 -- Reading an instruction from the front of a program, with the first fault of what can't be read: an opcode that is no
 -- instruction's, an operand, from left to right, or an offset that is too large. DWARF 5, 7.24.
 use Rattle.std.specs.Prelude.{ℕ, ◌+◌, ◌^◌, List, Option, Some, None, Result, Ok, Err, nat_lt, if◌then◌else◌, unsigned_abs}
-use Rattle.dw_num.specs.declared.refusal.Code.TheVariants.{UnknownInstruction, OffsetTooLarge}
-use Rattle.dw_num.specs.declared.refusal.Refusal.{Refusal}
-use Rattle.dw_num.specs.declared.target.Target.{Target}
-use Rattle.dw_num.specs.Input.{Input}
-use Rattle.dw_num.specs.Front.{Read, fault, fixed_at, take_at, register_at, uleb_at, sleb_at, address_at, ◌>>=◌}
-use Rattle.dw_op.specs.declared.op.Op.{Op}
-use Rattle.dw_op.specs.declared.profile.Profile.TheVariants.{Frame}
-use Rattle.dw_op.specs.Expression.{Expression}
+use Rattle.dw_num.specs.{Front.{Read, fault, fixed_at, take_at, register_at, uleb_at, sleb_at, address_at, ◌>>=◌}, Input.Input}
+use Rattle.dw_num.specs.declared.{refusal.Code.TheVariants.{UnknownInstruction, OffsetTooLarge}, refusal.Refusal.Refusal, target.Target.Target}
+use Rattle.dw_op.specs.{Expression.Expression, declared.op.Op.Op, declared.profile.Profile.TheVariants.Frame}
 use Rattle.dw_op.specs.Inner.Walk.{block_input, decode_at}
-use Rattle.dw_cfa.specs.declared.instr.Factors.{Factors}
-use Rattle.dw_cfa.specs.declared.instr.Instr.{Instr}
-use Rattle.dw_cfa.specs.declared.opcode.Opcode.{Opcode}
-use Rattle.dw_cfa.specs.Inner.Operands.{opcode_of, form_of}
 use Rattle.dw_cfa.specs.Operands.{Operand, address, fixed, register, unsigned, signed, expression, OperandValue, InstrForm, none, one, two, offset_of}
+use Rattle.dw_cfa.specs.{declared.instr.Factors.Factors, declared.instr.Instr.Instr, declared.opcode.Opcode.Opcode, Inner.Operands.{opcode_of, form_of}}
 
 -- ---- operands
 

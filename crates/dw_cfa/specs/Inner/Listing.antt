@@ -1,12 +1,8 @@
 -- The instructions of a program by reading, one after another.
 use Rattle.std.specs.Prelude.{◌≡◌, Option, Some, None, Result, Ok, Err, Bool, if◌then◌else◌, map}
-use Rattle.dw_num.specs.declared.refusal.Refusal.{Refusal}
-use Rattle.dw_num.specs.Input.{Input}
+use Rattle.dw_num.specs.{Input.Input, declared.refusal.Refusal.Refusal}
 use Rattle.dw_op.specs.Inner.Walks.{ended, put}
-use Rattle.dw_cfa.specs.declared.instr.Factors.{Factors}
-use Rattle.dw_cfa.specs.declared.instr.Instr.{Instr}
-use Rattle.dw_cfa.specs.Listing.{Listing}
-use Rattle.dw_cfa.specs.Inner.Runs.{Placed, Placing, placed}
+use Rattle.dw_cfa.specs.{Listing.Listing, declared.instr.Factors.Factors, declared.instr.Instr.Instr, Inner.Runs.{Placed, Placing, placed}}
 
 -- instructions without their places
 abbrev pub plain_of : Placing → Listing

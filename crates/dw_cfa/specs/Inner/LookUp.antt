@@ -1,9 +1,6 @@
 -- What a look-up keeps, in the words of the machine.
-use Rattle.std.specs.Prelude.{◌≡◌, ℕ, ◌<◌, List, [], ◌∷◌, Bool, true, false, Option, Some, None}
-use Rattle.std.specs.Int.{bit_at}
-use Rattle.dw_cfa.specs.declared.machine.Machine.{Machine}
-use Rattle.dw_cfa.specs.declared.rule.RegRule.TheVariants.{Unspecified}
-use Rattle.dw_cfa.specs.Rows.{Rules, blank, rule}
+use Rattle.std.specs.{Prelude.{◌≡◌, ℕ, ◌<◌, List, [], ◌∷◌, Bool, true, false, Option, Some, None}, Int.bit_at}
+use Rattle.dw_cfa.specs.{Rows.{Rules, blank, rule}, declared.machine.Machine.Machine, declared.rule.RegRule.TheVariants.Unspecified}
 
 -- at most one row is remembered
 abbrev pub stack_of : Option Rules → List Rules

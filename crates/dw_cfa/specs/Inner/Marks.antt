@@ -1,11 +1,7 @@
 -- The registers that were set since a row was kept: those below 128 in a mask, the others in a tree.
-use Rattle.std.specs.Prelude.{◌≡◌, ◌&&◌, ◌||◌, ℕ, ◌<◌, ◌≤◌, Bool, List, IsTrue, nat_eq, nat_lt}
-use Rattle.std.specs.Int.{bit_at}
-use Rattle.dw_cfa.specs.declared.marks.Marks.{Marks}
-use Rattle.dw_cfa.specs.declared.rule.RegRule.{RegRule}
-use Rattle.dw_cfa.specs.declared.rule.RegRule.TheVariants.{Unspecified}
-use Rattle.dw_cfa.specs.RegisterSets.{Registers, has}
-use Rattle.dw_cfa.specs.Rows.{Rules, AreSpecified, is_specified, rule_in}
+use Rattle.std.specs.{Prelude.{◌≡◌, ◌&&◌, ◌||◌, ℕ, ◌<◌, ◌≤◌, Bool, List, IsTrue, nat_eq, nat_lt}, Int.bit_at}
+use Rattle.dw_cfa.specs.{RegisterSets.{Registers, has}, Rows.{Rules, AreSpecified, is_specified, rule_in}}
+use Rattle.dw_cfa.specs.declared.{marks.Marks.Marks, rule.RegRule.RegRule, rule.RegRule.TheVariants.Unspecified}
 
 -- registers are watched, and this one has no mark
 pub record Unmarked (m : Marks) (r : ℕ) : Type 0 where

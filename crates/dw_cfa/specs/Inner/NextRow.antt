@@ -1,13 +1,8 @@
 -- How a walk goes on to its next row.
 use Rattle.std.specs.Prelude.{◌≡◌, ℕ, Bool, Option, Some, None, Result, Ok, Err}
-use Rattle.dw_num.specs.Input.{Input}
-use Rattle.dw_num.specs.declared.error.ReadError.{ReadError}
-use Rattle.dw_cfa.specs.declared.instr.Factors.{Factors}
-use Rattle.dw_cfa.specs.declared.machine.Machine.{Machine}
-use Rattle.dw_cfa.specs.declared.steps.Progress.{Progress}
-use Rattle.dw_cfa.specs.Runs.{Outcome}
-use Rattle.dw_cfa.specs.Inner.RowSteps.{progress_after}
-use Rattle.dw_cfa.specs.Inner.Runs.{GivesRow}
+use Rattle.dw_num.specs.{Input.Input, declared.error.ReadError.ReadError}
+use Rattle.dw_cfa.specs.{Runs.Outcome, declared.instr.Factors.Factors, declared.machine.Machine.Machine}
+use Rattle.dw_cfa.specs.{declared.steps.Progress.Progress, Inner.RowSteps.progress_after, Inner.Runs.GivesRow}
 
 -- the machine has a row that starts there, and the progress is that behind it
 abbrev pub GoesOn : Outcome → Factors → Input → Machine → Progress → Result (Option ℕ) ReadError → Type 0

@@ -1,14 +1,9 @@
 -- How the code asks how a program begins.
 use Rattle.std.specs.Prelude.{◌≡◌, ℕ, Bool, true, false, List, [], ◌∷◌, Some, Result, Ok, nat_lt, if◌then◌else◌, ℤ}
-use Rattle.dw_num.specs.declared.target.Target.{Target}
-use Rattle.dw_num.specs.declared.refusal.Refusal.{Refusal}
-use Rattle.dw_cfa.specs.declared.instr.Factors.{Factors}
-use Rattle.dw_cfa.specs.declared.instr.Instr.{Instr}
-use Rattle.dw_cfa.specs.declared.instr.Instr.TheVariants.{Nop, Advance, DefCfaOffset}
-use Rattle.dw_cfa.specs.declared.opening.FirstRow.{FirstRow}
-use Rattle.dw_cfa.specs.declared.opening.FirstRow.TheVariants.{Initial, CfaOffset, Other}
-use Rattle.dw_cfa.specs.InstrSpells.{InstrFormSpells}
-use Rattle.dw_cfa.specs.Operands.{InstrForm, form_for}
+use Rattle.dw_num.specs.declared.{refusal.Refusal.Refusal, target.Target.Target}
+use Rattle.dw_cfa.specs.{InstrSpells.InstrFormSpells, Operands.{InstrForm, form_for}}
+use Rattle.dw_cfa.specs.declared.instr.{Factors.Factors, Instr.Instr, Instr.TheVariants.{Nop, Advance, DefCfaOffset}}
+use Rattle.dw_cfa.specs.declared.opening.{FirstRow.FirstRow, FirstRow.TheVariants.{Initial, CfaOffset, Other}}
 
 -- a code gives the CFA this offset by the bytes behind it
 pub record GivesOffset (f : Factors) (code : ℕ) (rest : List ℕ) (n : ℤ) : Type 0 where

@@ -1,24 +1,16 @@
 -- The tests of rules and of rows tell equal ones.
+use Rattle.std.specs.{Prelude.{nat_eq, ℤ, ◌≡◌, ℕ, Bool, ◌&&◌, List}, Bool.Decides, Cmp.{IsPartialEquivalence, IsEquivalence, both_ways}}
+use Rattle.std.specs.{Cmp.Lexicographic.{pointwise, pointwise_decides}, Ordering.int_eq}
 use Rattle.std.proofs.Common.{◌≡◌, ℕ, Bool, true, List, [], ◌∷◌, map, refl, sym, ap, ◌∙◌, subst}
-use Rattle.std.specs.Prelude.{nat_eq, ℤ, ◌≡◌, ℕ, Bool, ◌&&◌, List}
-use Rattle.std.specs.Bool.{Decides}
-use Rattle.std.specs.Ordering.{int_eq}
 use Rattle.std.proofs.lemmas.Bool.Decides.{Decides-and, Decides-eqb, Decides-int_eq}
 use Rattle.dw_num.specs.declared.target.Target.{Target}
-use Rattle.dw_op.specs.declared.op.Op.{Op}
-use Rattle.dw_op.specs.declared.op.Op.TheVariants.{Implicit}
-use Rattle.dw_op.specs.Inner.Equality.{op_line, target_line}
-use Rattle.dw_op.specs.Expression.{Expression, bare}
-use Rattle.dw_op.specs.Inner.EqualityLaws.{lines_decide}
+use Rattle.dw_op.specs.{Expression.{Expression, bare}, declared.op.Op.Op, declared.op.Op.TheVariants.Implicit}
+use Rattle.dw_op.specs.Inner.{Equality.{op_line, target_line}, EqualityLaws.lines_decide}
 use Rattle.dw_op.proofs.Lent.Lines.{same_op, same_target}
-use Rattle.dw_cfa.specs.declared.rule.CfaRule.{CfaRule}
-use Rattle.dw_cfa.specs.declared.rule.CfaRule.TheVariants as cfa
-use Rattle.dw_cfa.specs.declared.rule.RegRule.{RegRule}
-use Rattle.dw_cfa.specs.declared.rule.RegRule.TheVariants as rules
+use Rattle.dw_cfa.specs.{Rows.Rules, declared.rule.CfaRule.CfaRule, declared.rule.RegRule.RegRule}
 use Rattle.dw_cfa.specs.Inner.Agreement.{pointer, same_cfa, same_expression, same_rule, whole_line, whole_lines}
-use Rattle.dw_cfa.specs.Rows.{Rules}
-use Rattle.std.specs.Cmp.{IsPartialEquivalence, IsEquivalence, both_ways}
-use Rattle.std.specs.Cmp.Lexicographic.{pointwise, pointwise_decides}
+use Rattle.dw_cfa.specs.declared.rule.CfaRule.TheVariants as cfa
+use Rattle.dw_cfa.specs.declared.rule.RegRule.TheVariants as rules
 
 -- ---- expressions
 

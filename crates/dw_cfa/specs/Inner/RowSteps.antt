@@ -1,15 +1,9 @@
 -- How the code keeps what it has still to give.
 use Rattle.std.specs.Prelude.{ℕ, List, ◌++◌, Some, None, Result, Ok, Err, Bool, if◌then◌else◌}
-use Rattle.dw_num.specs.Input.{Input}
-use Rattle.dw_num.specs.declared.error.ReadError.{ReadError}
-use Rattle.dw_cfa.specs.declared.instr.Factors.{Factors}
-use Rattle.dw_cfa.specs.declared.machine.Machine.{Machine}
-use Rattle.dw_cfa.specs.declared.execution.LocatedRow.{LocatedRow}
-use Rattle.dw_cfa.specs.declared.steps.Progress.{Progress}
+use Rattle.dw_num.specs.{Input.Input, declared.error.ReadError.ReadError}
+use Rattle.dw_cfa.specs.{RowSteps.{Stepping, stepping}, Runs.{Outcome, finished}, declared.execution.LocatedRow.LocatedRow, declared.instr.Factors.Factors}
+use Rattle.dw_cfa.specs.{declared.machine.Machine.Machine, declared.steps.Progress.Progress, Inner.Runs.{rows_left, run_rows, RunsSo}}
 use Rattle.dw_cfa.specs.declared.steps.Progress.TheVariants as progress
-use Rattle.dw_cfa.specs.Runs.{Outcome, finished}
-use Rattle.dw_cfa.specs.RowSteps.{Stepping, stepping}
-use Rattle.dw_cfa.specs.Inner.Runs.{rows_left, run_rows, RunsSo}
 
 -- before its first row both programs are still to run
 abbrev pub left_of : Progress → Factors → Input → Input → Machine → Stepping

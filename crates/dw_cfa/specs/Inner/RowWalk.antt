@@ -1,22 +1,11 @@
 -- Programs that are known to give rows, run one after another in one room.
-use Rattle.std.specs.Prelude.{◌≡◌, ℕ, Bool, false, if◌then◌else◌, IsTrue, IfSome, List, Option, Some, Ok, None, []}
-use Rattle.dw_cfa.specs.RuleAt.{last_at, left_above}
-use Rattle.dw_cfa.specs.declared.instr.Factors.{Factors}
-use Rattle.std.specs.List.{AllByRecursion}
+use Rattle.std.specs.{Prelude.{◌≡◌, ℕ, Bool, false, if◌then◌else◌, IsTrue, IfSome, List, Option, Some, Ok, None, []}, List.AllByRecursion}
 use Rattle.dw_num.specs.Input.{Input}
-use Rattle.dw_cfa.specs.declared.machine.Machine.{Machine}
-use Rattle.dw_cfa.specs.declared.execution.LocatedRow.{LocatedRow}
-use Rattle.dw_cfa.specs.declared.steps.Progress.{Progress}
+use Rattle.dw_cfa.specs.{Behind.LeavesTo, RowSteps.{Stepping, program_input, stepping}, RowWalk.Led, Rows.{Rules, blank, is_specified, rule}}
+use Rattle.dw_cfa.specs.{RuleAt.{last_at, left_above}, Runs.{Outcome, finished}, declared.execution.LocatedRow.LocatedRow}
+use Rattle.dw_cfa.specs.declared.{instr.Factors.Factors, machine.Machine.Machine, row_walk.Leading.Leading, steps.Progress.Progress}
+use Rattle.dw_cfa.specs.Inner.{RowSteps.left_of, Runs.{RunsSo, initial_row, placed, rows_left, run_rows}, States.BeganWith}
 use Rattle.dw_cfa.specs.declared.steps.Progress.TheVariants as progress
-use Rattle.dw_cfa.specs.declared.row_walk.Leading.{Leading}
-use Rattle.dw_cfa.specs.Behind.{LeavesTo}
-use Rattle.dw_cfa.specs.Rows.{Rules, blank, is_specified, rule}
-use Rattle.dw_cfa.specs.Runs.{Outcome, finished}
-use Rattle.dw_cfa.specs.RowSteps.{Stepping, program_input, stepping}
-use Rattle.dw_cfa.specs.Inner.Runs.{RunsSo, initial_row, placed, rows_left, run_rows}
-use Rattle.dw_cfa.specs.Inner.States.{BeganWith}
-use Rattle.dw_cfa.specs.Inner.RowSteps.{left_of}
-use Rattle.dw_cfa.specs.RowWalk.{Led}
 
 abbrev pub led_of : Leading → Led
 led_of l = record { program = program_input l.program l.target; factors = l.factors }

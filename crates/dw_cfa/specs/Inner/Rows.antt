@@ -1,9 +1,6 @@
 -- What the code and its proofs say beside Rows.
 use Rattle.std.specs.Prelude.{ℕ, List, [], ◌∷◌, nat_eq, nat_lt, if◌then◌else◌}
-use Rattle.dw_cfa.specs.declared.rule.CfaRule.{CfaRule}
-use Rattle.dw_cfa.specs.declared.rule.RegRule.{RegRule}
-use Rattle.dw_cfa.specs.declared.rule.RegRule.TheVariants.{Unspecified}
-use Rattle.dw_cfa.specs.Rows.{Rules, rule}
+use Rattle.dw_cfa.specs.{Rows.{Rules, rule}, declared.rule.CfaRule.CfaRule, declared.rule.RegRule.RegRule, declared.rule.RegRule.TheVariants.Unspecified}
 
 -- a list behind an entry for the register, which is left out where the rule is Unspecified
 abbrev pub listed : ℕ → RegRule → List (ℕ × RegRule) → List (ℕ × RegRule)

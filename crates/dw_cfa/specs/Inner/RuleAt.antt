@@ -1,13 +1,7 @@
 -- What the code and its proofs say beside RuleAt.
 use Rattle.std.specs.Prelude.{◌≡◌, ℕ, ◌≤◌, List, Result, Ok, Err, Some, length}
-use Rattle.dw_num.specs.Refusals.{Refuses}
-use Rattle.dw_num.specs.declared.error.ReadError.{ReadError}
-use Rattle.dw_cfa.specs.declared.instr.Instr.{Instr}
-use Rattle.dw_cfa.specs.Location.{onto, location_back}
-use Rattle.dw_cfa.specs.Rows.{Rules}
-use Rattle.dw_cfa.specs.RuleAt.{last_at}
-use Rattle.dw_cfa.specs.Runs.{Outcome}
-use Rattle.dw_cfa.specs.Inner.Runs.{StopsAbove}
+use Rattle.dw_num.specs.{Refusals.Refuses, declared.error.ReadError.ReadError}
+use Rattle.dw_cfa.specs.{Location.{onto, location_back}, Rows.Rules, RuleAt.last_at, Runs.Outcome, declared.instr.Instr.Instr, Inner.Runs.StopsAbove}
 
 -- the instructions that count at address a, behind those that came earlier, are the next k
 pub record CountsFrom (begin : ℕ) (earlier instrs : List Instr) (a k : ℕ) : Type 0 where

@@ -1,24 +1,12 @@
 -- Runs of whole programs, and the rows that they give, as the code runs them.
 use Rattle.std.specs.Prelude.{◌≡◌, ℕ, ◌<◌, ◌≤◌, List, [], ◌∷◌, length, Bool, false, IsTrue, Option, Some, None, Result, Ok, Err, if◌then◌else◌}
-use Rattle.dw_num.specs.declared.refusal.Code.{Code}
-use Rattle.dw_num.specs.declared.refusal.Refusal.{Refusal}
-use Rattle.dw_num.specs.Target.{address_limit}
-use Rattle.dw_num.specs.Input.{Input}
-use Rattle.dw_num.specs.declared.error.ReadError.{ReadError}
-use Rattle.dw_num.specs.Refusals.{Refuses}
+use Rattle.dw_num.specs.{Input.Input, Refusals.Refuses, Target.address_limit}
+use Rattle.dw_num.specs.declared.{error.ReadError.ReadError, refusal.Code.Code, refusal.Refusal.Refusal}
 use Rattle.dw_op.specs.Walks.{Walked}
 use Rattle.dw_op.specs.Inner.Walks.{walked}
-use Rattle.dw_cfa.specs.declared.instr.Factors.{Factors}
-use Rattle.dw_cfa.specs.declared.instr.Instr.{Instr}
-use Rattle.dw_cfa.specs.declared.machine.Machine.{Machine}
-use Rattle.dw_cfa.specs.declared.execution.LocatedRow.{LocatedRow}
-use Rattle.dw_cfa.specs.Location.{moves_location}
-use Rattle.dw_cfa.specs.Rows.{Rules, blank}
-use Rattle.dw_cfa.specs.Runs.{Outcome, finished, fails, row_then}
-use Rattle.dw_cfa.specs.Inner.FrontInstr.{instr_at}
-use Rattle.dw_cfa.specs.Inner.Machine.{State, begun, written, after, cie_fault, fde_fault}
-use Rattle.dw_cfa.specs.Inner.States.{BeganWith}
-use Rattle.dw_cfa.specs.Inner.Steps.{state_of}
+use Rattle.dw_cfa.specs.{Location.moves_location, Rows.{Rules, blank}, Runs.{Outcome, finished, fails, row_then}}
+use Rattle.dw_cfa.specs.declared.{execution.LocatedRow.LocatedRow, instr.Factors.Factors, instr.Instr.Instr, machine.Machine.Machine}
+use Rattle.dw_cfa.specs.Inner.{FrontInstr.instr_at, Machine.{State, begun, written, after, cie_fault, fde_fault}, States.BeganWith, Steps.state_of}
 
 -- an instruction and the place of its opcode
 pub record Placed : Type 0 where

@@ -1,13 +1,7 @@
 -- How the code keeps remembered rows: by what was changed since, the last first. Beneath all others there may be one that is saved.
 use Rattle.std.specs.Prelude.{◌≡◌, ℕ, List, [], ◌∷◌, ◌++◌, Bool, true, false, Option, Some, None, IsTrue, length, reverse}
-use Rattle.dw_cfa.specs.declared.kept_row.KeptRow.{KeptRow}
-use Rattle.dw_cfa.specs.declared.rule.CfaRule.{CfaRule}
-use Rattle.dw_cfa.specs.declared.rule.RegRule.{RegRule}
-use Rattle.dw_cfa.specs.declared.states.Undo.{Undo}
-use Rattle.dw_cfa.specs.declared.states.Undo.TheVariants.{Remembered, Register}
-use Rattle.dw_cfa.specs.Rows.{Rules}
-use Rattle.dw_cfa.specs.Inner.Rows.{put}
-use Rattle.dw_cfa.specs.Inner.Marks.{KeptSo}
+use Rattle.dw_cfa.specs.{Rows.Rules, declared.kept_row.KeptRow.KeptRow, declared.rule.CfaRule.CfaRule, declared.rule.RegRule.RegRule}
+use Rattle.dw_cfa.specs.{declared.states.Undo.Undo, declared.states.Undo.TheVariants.{Remembered, Register}, Inner.Marks.KeptSo, Inner.Rows.put}
 
 -- the current row, the remembered ones, the last first, the registers that all began with, where they can be brought back,
 -- and a row that was kept

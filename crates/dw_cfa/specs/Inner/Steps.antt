@@ -1,8 +1,6 @@
 -- How the code runs an instruction of an FDE's program.
 use Rattle.std.specs.Prelude.{◌≡◌, ℕ, ◌≤◌, Bool, None}
-use Rattle.dw_cfa.specs.declared.instr.Instr.{Instr}
-use Rattle.dw_cfa.specs.declared.instr.Instr.TheVariants.{SetLoc}
-use Rattle.dw_cfa.specs.declared.machine.Machine.{Machine}
+use Rattle.dw_cfa.specs.declared.{instr.Instr.Instr, instr.Instr.TheVariants.SetLoc, machine.Machine.Machine}
 use Rattle.dw_cfa.specs.Inner.Machine.{State, after, program_fault}
 
 abbrev pub state_of : Machine → State

@@ -1,19 +1,10 @@
 -- One turn of the loop that runs an FDE's program.
 use Rattle.std.specs.Prelude.{◌≡◌, ℕ, ◌≤◌, ◌^◌, Bool, true, false, [], Some, None, Ok, Err}
-use Rattle.dw_num.specs.declared.refusal.Refusal.{Refusal}
-use Rattle.dw_num.specs.Input.{Input}
-use Rattle.dw_num.specs.Front.{Read}
-use Rattle.dw_cfa.specs.declared.instr.Factors.{Factors}
-use Rattle.dw_cfa.specs.declared.instr.Instr.{Instr}
-use Rattle.dw_cfa.specs.declared.machine.Machine.{Machine}
-use Rattle.dw_cfa.specs.declared.machine.End.{End}
+use Rattle.dw_num.specs.{Front.Read, Input.Input, declared.refusal.Refusal.Refusal}
+use Rattle.dw_cfa.specs.{Location.moves_location, Rows.{Rules, blank}, Runs.fails}
+use Rattle.dw_cfa.specs.declared.{instr.Factors.Factors, instr.Instr.Instr, machine.End.End, machine.Machine.Machine}
+use Rattle.dw_cfa.specs.Inner.{Machine.program_fault, Runs.{initial_row, placed, rows_left, RanTo, WroteTo}, Steps.{state_of, IsAfter}}
 use Rattle.dw_cfa.specs.declared.machine.End.TheVariants as ends
-use Rattle.dw_cfa.specs.Location.{moves_location}
-use Rattle.dw_cfa.specs.Rows.{Rules, blank}
-use Rattle.dw_cfa.specs.Inner.Machine.{program_fault}
-use Rattle.dw_cfa.specs.Inner.Steps.{state_of, IsAfter}
-use Rattle.dw_cfa.specs.Runs.{fails}
-use Rattle.dw_cfa.specs.Inner.Runs.{initial_row, placed, rows_left, RanTo, WroteTo}
 
 abbrev pub IsWithinLimit : Machine → Type 0
 IsWithinLimit m = m.location ≤ m.limit

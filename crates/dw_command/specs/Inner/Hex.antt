@@ -1,6 +1,5 @@
 -- Hexadecimal digits, as many as are wanted.
-use Rattle.std.specs.Prelude.{ℕ, zero, suc, false, ◌/◌, ◌%◌, List, [], ◌∷◌, ◌++◌}
-use Rattle.std.specs.Fmt.{digit_glyph}
+use Rattle.std.specs.{Prelude.{ℕ, zero, suc, false, ◌/◌, ◌%◌, List, [], ◌∷◌, ◌++◌}, Fmt.digit_glyph}
 
 -- the last so many digits of a number
 abbrev pub last_digits : ℕ → ℕ → List ℕ

@@ -1,8 +1,6 @@
 -- A listing as an output, and what its calls say of that.
-use Rattle.std.specs.Prelude.{◌≡◌, ℕ, ◌<◌, List, Option, take, Result, MatchResult}
-use Rattle.std.specs.Io.KnownBytes.{Appends, append_known}
-use Rattle.dw_command.specs.declared.listing.Listing.{Listing}
-use Rattle.dw_command.specs.Output.{Output}
+use Rattle.std.specs.{Prelude.{◌≡◌, ℕ, ◌<◌, List, Option, take, Result, MatchResult}, Io.KnownBytes.{Appends, append_known}}
+use Rattle.dw_command.specs.{Output.Output, declared.listing.Listing.Listing}
 
 -- a fault is answered exactly where the count of failures grew
 abbrev pub Told : {A E : Type 0} → ℕ → ℕ → Result A E → Type 0

@@ -1,6 +1,5 @@
 -- What a terminal is shown of a text.
-use Rattle.std.specs.Prelude.{ℕ, Bool, ◌&&◌, ◌==◌, not, if◌then◌else◌, List, map}
-use Rattle.std.specs.Char.{is_ascii_control}
+use Rattle.std.specs.{Prelude.{ℕ, Bool, ◌&&◌, ◌==◌, not, if◌then◌else◌, List, map}, Char.is_ascii_control}
 
 -- a byte that a terminal takes for an order: a control character, of which a line feed is none
 abbrev pub is_order : ℕ → Bool

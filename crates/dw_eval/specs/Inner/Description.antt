@@ -1,12 +1,8 @@
 -- How the code keeps a description.
 use Rattle.std.specs.Prelude.{◌≡◌, ℕ, map, option_map, Result, Ok, Err}
-use Rattle.dw_eval.specs.declared.error.EvalError.{EvalError}
-use Rattle.dw_eval.specs.declared.error.EvalError.TheVariants.{Fault, OutOfMemory}
-use Rattle.dw_eval.specs.declared.error.Kind.{Kind}
-use Rattle.dw_eval.specs.declared.description.Description.{Description}
-use Rattle.dw_eval.specs.declared.place.Role.{Role}
-use Rattle.dw_eval.specs.declared.place.Role.TheVariants.{SetsPlace, SetsValue, AddsPiece, Waits, Computes}
-use Rattle.dw_eval.specs.Location.{PlaceState, bare_place, bare_piece}
+use Rattle.dw_eval.specs.{Location.{PlaceState, bare_place, bare_piece}, declared.description.Description.Description}
+use Rattle.dw_eval.specs.declared.error.{EvalError.EvalError, EvalError.TheVariants.{Fault, OutOfMemory}, Kind.Kind}
+use Rattle.dw_eval.specs.declared.place.{Role.Role, Role.TheVariants.{SetsPlace, SetsValue, AddsPiece, Waits, Computes}}
 
 abbrev pub bare_role : Role → Role
 bare_role (SetsPlace place) = SetsPlace (bare_place place)

@@ -1,13 +1,8 @@
 -- An evaluation over a memory, step by step.
 use Rattle.std.specs.Prelude.{ℕ, List, length, Result}
 use Rattle.dw_op.specs.declared.op.Op.{Op}
-use Rattle.dw_eval.specs.declared.error.EvalError.{EvalError}
-use Rattle.dw_eval.specs.declared.error.Kind.{Kind}
-use Rattle.dw_eval.specs.Context.{Context}
-use Rattle.dw_eval.specs.Effect.{OpEffect, leads}
-use Rattle.dw_eval.specs.Evaluation.{State, index_of, value_step, value_start, value_reads, top_of}
-use Rattle.dw_eval.specs.Runs.{Runs}
-use Rattle.dw_eval.specs.Inner.Runs.{Answered}
+use Rattle.dw_eval.specs.{Context.Context, Effect.{OpEffect, leads}, Evaluation.{State, index_of, value_step, value_start, value_reads, top_of}}
+use Rattle.dw_eval.specs.{Runs.Runs, declared.error.EvalError.EvalError, declared.error.Kind.Kind, Inner.Runs.Answered}
 
 -- where an operation leads that stands at an index
 abbrev pub led : ℕ → OpEffect → Result State Kind

@@ -1,14 +1,9 @@
 -- A description over a memory, step by step.
 use Rattle.std.specs.Prelude.{ℕ, List, length, Result}
 use Rattle.dw_op.specs.declared.op.Op.{Op}
-use Rattle.dw_eval.specs.declared.error.EvalError.{EvalError}
-use Rattle.dw_eval.specs.declared.error.Kind.{Kind}
-use Rattle.dw_eval.specs.declared.place.Piece.{Piece}
-use Rattle.dw_eval.specs.Context.{Context}
-use Rattle.dw_eval.specs.Effect.{OpEffect, leads}
+use Rattle.dw_eval.specs.{Context.Context, Effect.{OpEffect, leads}}
 use Rattle.dw_eval.specs.Location.{PlaceState, place_index, with_stack, place_step, place_start, place_reads, pieces_of}
-use Rattle.dw_eval.specs.Runs.{Runs}
-use Rattle.dw_eval.specs.Inner.Runs.{Answered}
+use Rattle.dw_eval.specs.{Runs.Runs, declared.error.EvalError.EvalError, declared.error.Kind.Kind, declared.place.Piece.Piece, Inner.Runs.Answered}
 
 abbrev pub place_led : PlaceState → OpEffect → Result PlaceState Kind
 place_led s o = leads (λ i stack. with_stack i stack s) s.index o

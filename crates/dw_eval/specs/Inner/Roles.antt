@@ -1,19 +1,12 @@
 -- What operations do in a description, by their roles.
 use Rattle.std.specs.Prelude.{ℕ, ◌+◌, List, length, Option, Some, None, Result, Ok, Err, nat_lt, if◌then◌else◌}
-use Rattle.dw_op.specs.declared.op.Op.{Op}
-use Rattle.dw_op.specs.declared.op.Op.TheVariants.{Addr, Deref, Const, Dup, Drop, Pick, Rot, Abs, Neg, Not, PlusUconst, Bra, Skip, Reg, Breg, Fbreg, DerefSize, Nop, PushObjectAddress, CallFrameCfa, BitPiece, Implicit, StackValue}
+use Rattle.dw_op.specs.declared.op.{Op.Op, Op.TheVariants.{Addr, Deref, Const, Dup, Drop, Pick, Rot, Abs, Neg, Not, PlusUconst, Bra, Skip, Reg}}
+use Rattle.dw_op.specs.declared.op.Op.TheVariants.{Breg, Fbreg, DerefSize, Nop, PushObjectAddress, CallFrameCfa, BitPiece, Implicit, StackValue}
 use Rattle.dw_op.specs.declared.op.Op.TheVariants as op
-use Rattle.dw_eval.specs.declared.error.Kind.{Kind}
-use Rattle.dw_eval.specs.declared.error.Kind.TheVariants.{StackUnderflow, MissingPiece}
+use Rattle.dw_eval.specs.{Context.Context, Effect.{effect, leads}, Location.{PlaceState, with_piece, with_place, with_stack, with_value}}
+use Rattle.dw_eval.specs.declared.{error.Kind.Kind, error.Kind.TheVariants.{StackUnderflow, MissingPiece}, place.Part.TheVariants.Bits, place.Place.Place}
+use Rattle.dw_eval.specs.declared.place.{Place.TheVariants.{Register, Bytes}, Role.Role, Role.TheVariants.{SetsPlace, SetsValue, AddsPiece, Waits, Computes}}
 use Rattle.dw_eval.specs.declared.place.Part.TheVariants as part
-use Rattle.dw_eval.specs.declared.place.Part.TheVariants.{Bits}
-use Rattle.dw_eval.specs.declared.place.Place.{Place}
-use Rattle.dw_eval.specs.declared.place.Place.TheVariants.{Register, Bytes}
-use Rattle.dw_eval.specs.declared.place.Role.{Role}
-use Rattle.dw_eval.specs.declared.place.Role.TheVariants.{SetsPlace, SetsValue, AddsPiece, Waits, Computes}
-use Rattle.dw_eval.specs.Context.{Context}
-use Rattle.dw_eval.specs.Effect.{effect, leads}
-use Rattle.dw_eval.specs.Location.{PlaceState, with_piece, with_place, with_stack, with_value}
 
 -- what each operation does in a description; a computation names so many entries of the stack, most of them two
 abbrev pub role : Op → Role

@@ -1,11 +1,8 @@
 -- What the code answers over a memory.
 use Rattle.std.specs.Prelude.{◌≡◌, ℕ, ◌<◌, List, Result, Err}
 use Rattle.dw_op.specs.declared.op.Op.{Op}
-use Rattle.dw_eval.specs.declared.error.EvalError.{EvalError}
-use Rattle.dw_eval.specs.declared.error.EvalError.TheVariants.{Fault, OutOfMemory}
-use Rattle.dw_eval.specs.declared.error.Kind.{Kind}
-use Rattle.dw_eval.specs.declared.error.Kind.TheVariants.{Device}
-use Rattle.dw_eval.specs.Runs.{IsResult, MayFail}
+use Rattle.dw_eval.specs.{Runs.{IsResult, MayFail}, declared.error.EvalError.EvalError}
+use Rattle.dw_eval.specs.declared.error.{EvalError.TheVariants.{Fault, OutOfMemory}, Kind.Kind, Kind.TheVariants.Device}
 
 module _ {S : Type 0} (index : S → ℕ) (step : Op → S → Result S Kind) (ops : List Op) (start : S) where
   -- what is answered over a memory: the result or want of memory where its count of failures stayed, and where

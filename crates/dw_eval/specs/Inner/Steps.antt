@@ -1,14 +1,9 @@
 -- How the code keeps a step.
 use Rattle.std.specs.Prelude.{◌≡◌, ◌⊎◌, ℕ, ◌+◌, ◌<◌, List, Result, Ok, Err}
-use Rattle.dw_eval.specs.declared.error.EvalError.{EvalError}
-use Rattle.dw_eval.specs.declared.error.EvalError.TheVariants.{Fault, OutOfMemory}
-use Rattle.dw_eval.specs.declared.error.Kind.{Kind}
-use Rattle.dw_eval.specs.declared.error.Kind.TheVariants.{Device}
-use Rattle.dw_eval.specs.declared.stack.Flow.{Flow}
+use Rattle.dw_eval.specs.{Effect.{OpEffect, Next, Jump, Faults}, declared.error.EvalError.EvalError, declared.error.EvalError.TheVariants.{Fault, OutOfMemory}}
+use Rattle.dw_eval.specs.declared.{error.Kind.Kind, error.Kind.TheVariants.Device, stack.Flow.Flow, stack.Stop.Stop}
 use Rattle.dw_eval.specs.declared.stack.Flow.TheVariants as flow
-use Rattle.dw_eval.specs.declared.stack.Stop.{Stop}
 use Rattle.dw_eval.specs.declared.stack.Stop.TheVariants as stop
-use Rattle.dw_eval.specs.Effect.{OpEffect, Next, Jump, Faults}
 
 -- an operation without memory answers its outcome, or want of memory
 abbrev pub Does : OpEffect → Result Flow Stop → List ℕ → Type 0

@@ -1,9 +1,7 @@
 -- What the code and its proofs say beside Expressions.
 use Rattle.std.specs.Prelude.{◌≡◌, ℕ, List, ◌++◌, length}
 use Rattle.dw_op.specs.Expression.{Expression}
-use Rattle.dw_library.specs.declared.expressions.Block.{Block}
-use Rattle.dw_library.specs.declared.expressions.Gathered.{Gathered}
-use Rattle.dw_library.specs.Expressions.{AreBlocks}
+use Rattle.dw_library.specs.{Expressions.AreBlocks, declared.expressions.Block.Block, declared.expressions.Gathered.Gathered}
 
 -- these expressions were added
 abbrev pub Adds : List (ℕ × Expression) → Gathered → Gathered → Type 0

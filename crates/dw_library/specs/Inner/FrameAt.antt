@@ -3,15 +3,9 @@ use Rattle.std.specs.Prelude.{◌≡◌, ◌⊎◌, ℕ, List, Result, Err}
 use Rattle.dw_num.specs.declared.target.Target.{Target}
 use Rattle.dw_eval.specs.declared.policy.Policy.{Policy}
 use Rattle.dw_section.specs.declared.fde_range.Ranged.{Ranged}
-use Rattle.dw_unwind.specs.UnwoundAt.{by_index}
-use Rattle.dw_unwind.specs.declared.by_index.UnwindAtError.{UnwindAtError}
-use Rattle.dw_unwind.specs.declared.by_index.UnwindAtError.TheVariants.{Unwind}
-use Rattle.dw_unwind.specs.declared.frame.Frame.{Frame as CallerFrame}
-use Rattle.dw_unwind.specs.declared.frame.UnwindError.{UnwindError}
-use Rattle.dw_unwind.specs.declared.frame.UnwindError.TheVariants.{OutOfMemory}
-use Rattle.dw_library.specs.declared.caller.Stop.{Stop}
-use Rattle.dw_library.specs.CallerFrame.{Machine, IsFrame}
-use Rattle.dw_library.specs.FrameAt.{IsFrameAt}
+use Rattle.dw_unwind.specs.{UnwoundAt.by_index, declared.by_index.UnwindAtError.UnwindAtError, declared.by_index.UnwindAtError.TheVariants.Unwind}
+use Rattle.dw_unwind.specs.declared.frame.{Frame.{Frame as CallerFrame}, UnwindError.UnwindError, UnwindError.TheVariants.OutOfMemory}
+use Rattle.dw_library.specs.{CallerFrame.{Machine, IsFrame}, FrameAt.IsFrameAt, declared.caller.Stop.Stop}
 
 -- an answer of `unwind`, or want of memory
 abbrev pub IsOwn : (Result CallerFrame UnwindError → Type 0) → Result CallerFrame UnwindAtError → Type 0

@@ -1,8 +1,6 @@
 -- How the code keeps what it tells of many addresses.
 use Rattle.std.specs.Prelude.{◌≡◌, ◌⊎◌, ◌<◌, ◌≤◌, ℕ, Bool, true, false, List, length, Result, Ok, Err}
-use Rattle.dw_library.specs.declared.index.Rule.{Rule}
-use Rattle.dw_library.specs.declared.looks.Room.{Room}
-use Rattle.dw_library.specs.Answers.{ok, out_of_memory, too_short}
+use Rattle.dw_library.specs.{Answers.{ok, out_of_memory, too_short}, declared.index.Rule.Rule, declared.looks.Room.Room}
 
 -- what is left of a room for so many rules behind these
 abbrev pub IsLeft : ℕ → List Rule → Room → Type 0

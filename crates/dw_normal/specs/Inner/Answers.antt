@@ -1,21 +1,15 @@
 -- What the code and its proofs say beside Answers.
 use Rattle.std.specs.Prelude.{◌≡◌, ℕ, ◌≤◌, List, length}
-use Rattle.dw_cfa.specs.Rows.{Rules}
-use Rattle.dw_num.specs.Input.{AreBytes}
-use Rattle.dw_num.specs.declared.error.ReadError.{ReadError}
+use Rattle.dw_num.specs.{Input.AreBytes, declared.error.ReadError.ReadError, declared.target.Target.Target}
 use Rattle.dw_num.specs.declared.error.ReadError.TheVariants as read_error
-use Rattle.dw_num.specs.declared.target.Target.{Target}
+use Rattle.dw_cfa.specs.Rows.{Rules}
 use Rattle.dw_section.specs.Accepted.{Accepted}
-use Rattle.dw_normal.specs.declared.error.SameError.{SameError}
-use Rattle.dw_normal.specs.declared.error.SameError.TheVariants as same_error
-use Rattle.dw_normal.specs.declared.error.Which.{Which}
-use Rattle.dw_normal.specs.declared.error.Which.TheVariants.{First, Second}
-use Rattle.dw_normal.specs.declared.error.WriteError.{WriteError}
-use Rattle.dw_normal.specs.declared.error.WriteError.TheVariants as write_error
-use Rattle.dw_canon.specs.Inner.Canon.{canon}
 use Rattle.dw_canon.specs.Members.{Member, AreMembers}
-use Rattle.dw_normal.specs.Inner.Groups.{initial_rows}
-use Rattle.dw_normal.specs.Answers.{too_long, IsTooLong, FitsCap}
+use Rattle.dw_canon.specs.Inner.Canon.{canon}
+use Rattle.dw_normal.specs.{Answers.{too_long, IsTooLong, FitsCap}, declared.error.SameError.SameError, declared.error.Which.Which}
+use Rattle.dw_normal.specs.{declared.error.Which.TheVariants.{First, Second}, declared.error.WriteError.WriteError, Inner.Groups.initial_rows}
+use Rattle.dw_normal.specs.declared.error.SameError.TheVariants as same_error
+use Rattle.dw_normal.specs.declared.error.WriteError.TheVariants as write_error
 
 -- an accepted section whose normal form is within the cap
 pub record IsShort (target : Target) (cap : ℕ) (s : List ℕ) : Type 0 where

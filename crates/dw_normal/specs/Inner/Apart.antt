@@ -1,13 +1,8 @@
 -- How the registers are listed to which two rows give different rules.
-use Rattle.std.specs.Prelude.{◌≡◌, ℕ, Option, Some, None, IsTrue}
-use Rattle.std.specs.BTreeMap.{BTreeMap}
-use Rattle.dw_cfa.specs.RegisterSets.{SameBeside}
-use Rattle.dw_cfa.specs.Rows.{Rules}
+use Rattle.std.specs.{Prelude.{◌≡◌, ℕ, Option, Some, None, IsTrue}, BTreeMap.BTreeMap}
+use Rattle.dw_cfa.specs.{RegisterSets.SameBeside, Rows.Rules}
 use Rattle.dw_section.specs.declared.change.Behind.{Behind}
-use Rattle.dw_normal.specs.declared.apart.Apart.{Apart}
-use Rattle.dw_normal.specs.declared.known.CieSet.{CieSet}
-use Rattle.dw_normal.specs.declared.known.Known.{Known}
-use Rattle.dw_normal.specs.Inner.Known.{Notes}
+use Rattle.dw_normal.specs.{declared.apart.Apart.Apart, declared.known.CieSet.CieSet, declared.known.Known.Known, Inner.Known.Notes}
 
 -- where they are listed, all others have the same rules in both rows
 abbrev pub StandsApart : Apart → Rules → Rules → Type 0

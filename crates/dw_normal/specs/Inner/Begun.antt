@@ -1,17 +1,10 @@
 -- An FDE behind its begin.
-use Rattle.std.specs.Prelude.{◌≡◌, ℕ, List, Some}
-use Rattle.std.specs.List.{AllByRecursion}
+use Rattle.std.specs.{Prelude.{◌≡◌, ℕ, List, Some}, List.AllByRecursion}
 use Rattle.dw_num.specs.declared.target.Target.{Target}
 use Rattle.dw_cfa.specs.Rows.{Rules}
-use Rattle.dw_canon.specs.Inner.Canon.{initial_of}
-use Rattle.dw_canon.specs.Inner.Difference.{difference}
-use Rattle.dw_canon.specs.Inner.Fits.{InstrFits}
 use Rattle.dw_canon.specs.Members.{Member, fde_of}
-use Rattle.dw_normal.specs.Inner.Apart.{StandsApart}
-use Rattle.dw_normal.specs.Inner.ChangeWalk.{Stand, shown_row}
-use Rattle.dw_normal.specs.Inner.Groups.{row_of}
-use Rattle.dw_normal.specs.Inner.Known.{AreSame}
-use Rattle.dw_normal.specs.declared.begun.Begun.{Begun}
+use Rattle.dw_canon.specs.Inner.{Canon.initial_of, Difference.difference, Fits.InstrFits}
+use Rattle.dw_normal.specs.{declared.begun.Begun.Begun, Inner.Apart.StandsApart, Inner.ChangeWalk.{Stand, shown_row}, Inner.Groups.row_of, Inner.Known.AreSame}
 
 -- its row at its begin and its later changes can be spelled behind the initial row, and the registers are listed that are not the same
 -- in both, or none are

@@ -1,13 +1,8 @@
 -- What is known of CIEs by their places.
-use Rattle.std.specs.Prelude.{◌≡◌, ◌⊎◌, ℕ, List, Some, None, IfSome}
-use Rattle.std.specs.BTreeMap.{BTreeMap, get}
-use Rattle.std.specs.Ordering.{nat_cmp}
-use Rattle.dw_cfa.specs.RegisterSets.{Registers, AgreesBeside, SameBeside}
-use Rattle.dw_cfa.specs.Rows.{Rules}
-use Rattle.dw_section.specs.Opening.{CieLeaves}
-use Rattle.dw_section.specs.Table.{Section}
-use Rattle.dw_normal.specs.declared.known.CieSet.{CieSet}
-use Rattle.dw_normal.specs.Inner.Groups.{row_of}
+use Rattle.std.specs.{Prelude.{◌≡◌, ◌⊎◌, ℕ, List, Some, None, IfSome}, BTreeMap.{BTreeMap, get}, Ordering.nat_cmp}
+use Rattle.dw_cfa.specs.{RegisterSets.{Registers, AgreesBeside, SameBeside}, Rows.Rules}
+use Rattle.dw_section.specs.{Opening.CieLeaves, Table.Section}
+use Rattle.dw_normal.specs.{declared.known.CieSet.CieSet, Inner.Groups.row_of}
 
 -- some of them are forgotten
 abbrev pub AreLess : BTreeMap ℕ CieSet → BTreeMap ℕ CieSet → Type 0

@@ -1,16 +1,11 @@
 -- How much room bytes leave.
 use Rattle.std.specs.Prelude.{◌≡◌, ℕ, ◌+◌, ◌<◌, ◌≤◌, List, ◌++◌, length, map, Option, Some, None}
 use Rattle.dw_num.specs.declared.target.Target.{Target}
-use Rattle.dw_cfa.specs.Rows.{Rules}
+use Rattle.dw_cfa.specs.{Rows.Rules, declared.instr.Instr.Instr}
 use Rattle.dw_section.specs.Changes.{Changing}
-use Rattle.dw_canon.specs.Inner.Difference.{difference, later_changes}
-use Rattle.dw_canon.specs.Inner.Spelling.{program_bytes}
-use Rattle.dw_canon.specs.Inner.Written.{Written, cie, fde, entry_bytes, section_bytes}
-use Rattle.dw_canon.specs.Inner.Laid.{groups_of, part_of}
-use Rattle.dw_canon.specs.Inner.Canon.{cie_instrs, fde_instrs, initial_of}
-use Rattle.dw_canon.specs.Inner.Laid.{fde_of}
 use Rattle.dw_canon.specs.Members.{Member}
-use Rattle.dw_cfa.specs.declared.instr.Instr.{Instr}
+use Rattle.dw_canon.specs.Inner.{Canon.{cie_instrs, fde_instrs, initial_of}, Difference.{difference, later_changes}}
+use Rattle.dw_canon.specs.Inner.{Laid.{groups_of, part_of, fde_of}, Spelling.program_bytes, Written.{Written, cie, fde, entry_bytes, section_bytes}}
 use Rattle.dw_normal.specs.Inner.ChangeWalk.{shown_row}
 
 -- what so many bytes leave of room: none where they are more

@@ -2,13 +2,10 @@
 use Rattle.std.specs.Prelude.{◌≡◌, ℕ, ◌<◌, ◌≤◌, List, length, slice_index_or}
 use Rattle.dw_num.specs.declared.target.Target.{Target}
 use Rattle.dw_cfa.specs.Rows.{Rules}
-use Rattle.dw_section.specs.declared.lookup.Fde.{Fde}
-use Rattle.dw_section.specs.Meaning.{AreFdes}
-use Rattle.dw_section.specs.Table.{Section}
-use Rattle.dw_canon.specs.Inner.Canon.{canon}
+use Rattle.dw_section.specs.{Meaning.AreFdes, Table.Section, declared.lookup.Fde.Fde}
 use Rattle.dw_canon.specs.Members.{Member, AreMembers}
-use Rattle.dw_normal.specs.Inner.Groups.{initial_rows}
-use Rattle.dw_normal.specs.Inner.Places.{place_in, cie_place}
+use Rattle.dw_canon.specs.Inner.Canon.{canon}
+use Rattle.dw_normal.specs.Inner.{Groups.initial_rows, Places.{place_in, cie_place}}
 
 -- it lists an FDE at a place
 abbrev pub IsListed : Section → ℕ → Type 0

@@ -1,14 +1,9 @@
 -- Where the CIEs stand.
-use Rattle.std.specs.Prelude.{ℕ, suc, ◌+◌, ◌≤◌, ◌==◌, List, [], ◌∷◌, length, Option, Some, None, if◌then◌else◌}
-use Rattle.std.specs.BTreeMap.{is_at}
-use Rattle.std.specs.Map.{lookup}
-use Rattle.std.specs.Ordering.{nat_cmp}
+use Rattle.std.specs.{Prelude.{ℕ, suc, ◌+◌, ◌≤◌, ◌==◌, List, [], ◌∷◌, length, Option, Some, None, if◌then◌else◌}, BTreeMap.is_at, Map.lookup, Ordering.nat_cmp}
 use Rattle.dw_num.specs.declared.target.Target.{Target}
 use Rattle.dw_cfa.specs.Rows.{Rules}
-use Rattle.dw_canon.specs.Inner.Laid.{groups_of, part_of}
-use Rattle.dw_canon.specs.Inner.Laid.{fde_of}
 use Rattle.dw_canon.specs.Members.{Member}
-use Rattle.dw_canon.specs.Inner.Written.{Written, entry_bytes}
+use Rattle.dw_canon.specs.Inner.{Laid.{groups_of, part_of, fde_of}, Written.{Written, entry_bytes}}
 use Rattle.dw_normal.specs.Inner.Lengths.{cie_with}
 
 -- the place that is kept of a return address register

@@ -1,9 +1,6 @@
 -- Bytes that are put into a sink one after another.
-use Rattle.std.specs.Prelude.{◌≡◌, ℕ, ◌+◌, ◌<◌, ◌≤◌, List, length, Option, take, Result, Ok, Err}
-use Rattle.std.specs.Io.KnownBytes.{Appends}
-use Rattle.dw_normal.specs.declared.entry.PutError.{PutError}
-use Rattle.dw_normal.specs.declared.entry.PutError.TheVariants.{Write, Memory}
-use Rattle.dw_normal.specs.declared.error.WriteError.{WriteError}
+use Rattle.std.specs.{Prelude.{◌≡◌, ℕ, ◌+◌, ◌<◌, ◌≤◌, List, length, Option, take, Result, Ok, Err}, Io.KnownBytes.Appends}
+use Rattle.dw_normal.specs.declared.{entry.PutError.PutError, entry.PutError.TheVariants.{Write, Memory}, error.WriteError.WriteError}
 use Rattle.dw_normal.specs.declared.error.WriteError.TheVariants as write_error
 
 -- all of them were taken, or a beginning, up to where the sink failed or memory ran out

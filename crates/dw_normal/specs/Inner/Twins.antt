@@ -1,15 +1,8 @@
 -- Which CIEs of two sections leave rows that are the same outside a set of registers.
-use Rattle.std.specs.Prelude.{◌≡◌, ◌||◌, ℕ, List, ◌∷◌, IfSome}
-use Rattle.std.specs.BTreeMap.{BTreeMap, get}
-use Rattle.std.specs.Ordering.{nat_cmp, ordering_then}
-use Rattle.std.specs.declared.cmp.Ordering.{Ordering}
-use Rattle.dw_cfa.specs.RegisterSets.{Registers, SameBeside, has}
-use Rattle.dw_cfa.specs.Rows.{Rules}
-use Rattle.dw_section.specs.Changes.{Changing}
-use Rattle.dw_section.specs.Opening.{CieLeaves}
-use Rattle.dw_section.specs.Table.{Section}
-use Rattle.dw_normal.specs.Inner.ChangeWalk.{shown_row}
-use Rattle.dw_normal.specs.declared.twins.CiePair.{CiePair}
+use Rattle.std.specs.{Prelude.{◌≡◌, ◌||◌, ℕ, List, ◌∷◌, IfSome}, BTreeMap.{BTreeMap, get}, Ordering.{nat_cmp, ordering_then}, declared.cmp.Ordering.Ordering}
+use Rattle.dw_cfa.specs.{RegisterSets.{Registers, SameBeside, has}, Rows.Rules}
+use Rattle.dw_section.specs.{Changes.Changing, Opening.CieLeaves, Table.Section}
+use Rattle.dw_normal.specs.{declared.twins.CiePair.CiePair, Inner.ChangeWalk.shown_row}
 
 -- how two pairs are ordered
 abbrev pub pair_cmp : CiePair → CiePair → Ordering

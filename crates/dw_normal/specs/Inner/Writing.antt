@@ -1,7 +1,6 @@
 -- An FDE that is written.
 use Rattle.std.specs.Prelude.{◌≡◌, ℕ, List, Some}
-use Rattle.dw_normal.specs.Inner.Places.{place_in}
-use Rattle.dw_normal.specs.declared.entry.Writing.{Writing}
+use Rattle.dw_normal.specs.{declared.entry.Writing.Writing, Inner.Places.place_in}
 
 -- the place is that of its return address register's CIE
 abbrev pub StandsIn : List (ℕ × ℕ) → Writing → Type 0

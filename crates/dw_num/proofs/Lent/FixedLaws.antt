@@ -1,11 +1,10 @@
 -- Numbers of a fixed width, and lengths, read as they are spelled.
+use Rattle.std.proofs.lemmas.Bool.Decides.{eqb_tells}
+use Rattle.dw_num.specs.declared.target.{Form.Form, Form.TheVariants.{Dwarf32, Dwarf64}, Size.Size, Size.TheVariants.{Four, Eight}, UnitLength.UnitLength}
 use Rattle.dw_num.proofs.Words.{◌≡◌, ℕ, ◌+◌, ◌^◌, ◌<◌, ◌≤◌, List, [], ◌∷◌, ◌++◌, length, take, drop, Ok, refl, sym, ap, subst, ◌∙◌, append_assoc, arith, inl, inr, get_or, cases_lt, lt-ltb, le-ltb, ltb-false, nat_lt, take-add, drop_at}
 use Rattle.dw_num.proofs.Words.{length-take, length-drop, length-append, get_or-take, get_or-drop, get_or_past, get_or-append-add, le_bytes_2, be_bytes_2, le_bytes_4, be_bytes_4, le_bytes_8, be_bytes_8, big_number-reads_back}
-use Rattle.dw_num.proofs.Words.{little_number-reads_back, length-bytes_high_first, length-bytes_low_first, big_from-lt, little_from-lt, Target, Order, Little, Big, byte_count, ReservedLength, Input, AreBytes, Takes, behind}
-use Rattle.dw_num.proofs.Words.{Address, Fixed, IsWidth, fixed_bytes, fixed_number, length_bytes, LengthFits, SpellsLength, fault, fixed_at, address_at, length_of, long_length_at, unit_length_at}
-use Rattle.std.proofs.lemmas.Bool.Decides.{eqb_tells}
-use Rattle.dw_num.specs.declared.target.{UnitLength.UnitLength, Size.Size, Size.TheVariants.{Four, Eight}, Form.Form, Form.TheVariants.{Dwarf32, Dwarf64}}
-use Rattle.dw_num.proofs.Lent.LebLaws.{cond_not, done, ok_is, took}
+use Rattle.dw_num.proofs.Words.{little_number-reads_back, length-bytes_high_first, length-bytes_low_first, big_from-lt, little_from-lt, Target, Order, Little, Big, byte_count, ReservedLength, Input, AreBytes, Takes, behind, Address}
+use Rattle.dw_num.proofs.{Words.{Fixed, IsWidth, fixed_bytes, fixed_number, length_bytes, LengthFits, SpellsLength, fault, fixed_at, address_at, length_of, long_length_at, unit_length_at}, Lent.LebLaws.{cond_not, done, ok_is, took}}
 
 take-bytes : (n : ℕ) (bytes : List ℕ) → AreBytes bytes → AreBytes (take n bytes)
 take-bytes n bytes h i =

@@ -1,8 +1,7 @@
 -- Numbers at the front of what is left: what a front spells is read, and LEB128 numbers of one byte and two.
-use Rattle.dw_num.proofs.Words.{◌≡◌, ℕ, ◌+◌, ◌-◌, ◌*◌, ◌%◌, ◌<◌, ◌≤◌, List, [], ◌∷◌, ◌++◌, length, Ok, refl, ap, ◌∙◌, arith, ℤ, pos, ◌-ℤ◌, le-ltb, le-leb, lt-leb, ints, drop_at, length-append, big_from-append, little_from-append, Order}
-use Rattle.dw_num.proofs.Words.{Little, Big, Input, Takes, fixed_number, Uleb, Sleb, groups, fixed_at, uleb_at, sleb_at}
 use Rattle.byteorder.specs.Endian.{big_number, little_number}
-use Rattle.dw_num.proofs.Lent.{LebLaws.uleb_only, SlebLaws.sleb_only, Steps.Takes-then}
+use Rattle.dw_num.proofs.Words.{◌≡◌, ℕ, ◌+◌, ◌-◌, ◌*◌, ◌%◌, ◌<◌, ◌≤◌, List, [], ◌∷◌, ◌++◌, length, Ok, refl, ap, ◌∙◌, arith, ℤ, pos, ◌-ℤ◌, le-ltb, le-leb, lt-leb, ints, drop_at, length-append, big_from-append}
+use Rattle.dw_num.proofs.{Words.{little_from-append, Order, Little, Big, Input, Takes, fixed_number, Uleb, Sleb, groups, fixed_at, uleb_at, sleb_at}, Lent.LebLaws.uleb_only, Lent.SlebLaws.sleb_only, Lent.Steps.Takes-then}
 
 -- what is left behind a front
 pub taken_is : (i new : Input) (front : List ℕ) → Takes i front new → record { at = i.at + length front; bytes = new.bytes; target = i.target } ≡ new

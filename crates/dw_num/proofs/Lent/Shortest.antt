@@ -1,8 +1,7 @@
 -- The shortest LEB128 spelling of a number, and that no other is as short.
-use Rattle.dw_num.proofs.Words.{◌≡◌, ℕ, zero, suc, ◌+◌, if◌then◌else◌, nat_lt, ◌*◌, ◌/◌, ◌%◌, ◌^◌, ◌<◌, ◌≤◌, Bool, true, false, leb, List, [], ◌∷◌, ◌++◌, length, append-nil, append_assoc, refl, sym, ap, ◌∙◌, inl, inr, lit<, arith, ℤ, pos, negsuc, FitsSigned, w64, pow-succ'}
-use Rattle.dw_num.proofs.Words.{ints, cases_lt, lt-ltb, le-ltb, leb-true, leb-false, le-leb, lt-leb, IsLeb, groups, is_negative, Uleb, Sleb, leb_of, turned_leb, shortest_uleb, shortest_sleb, turned, PutsUleb}
-use Rattle.dw_num.proofs.Words.{PutsSleb, turned_from, as_signed}
-use Rattle.dw_num.proofs.{LebLemmas.turned_from-false, Lent.Turned.signed_groups-turned}
+use Rattle.dw_num.proofs.Words.{◌≡◌, ℕ, zero, suc, ◌+◌, if◌then◌else◌, nat_lt, ◌*◌, ◌/◌, ◌%◌, ◌^◌, ◌<◌, ◌≤◌, Bool, true, false, leb, List, [], ◌∷◌, ◌++◌, length, append-nil, append_assoc, refl, sym, ap}
+use Rattle.dw_num.proofs.Words.{◌∙◌, inl, inr, lit<, arith, ℤ, pos, negsuc, FitsSigned, w64, pow-succ', ints, cases_lt, lt-ltb, le-ltb, leb-true, leb-false, le-leb, lt-leb, IsLeb, groups, is_negative, Uleb}
+use Rattle.dw_num.proofs.{Words.{Sleb, leb_of, turned_leb, shortest_uleb, shortest_sleb, turned, PutsUleb, PutsSleb, turned_from, as_signed}, LebLemmas.turned_from-false, Lent.Turned.signed_groups-turned}
 
 -- ---- sums from the first byte on
 

@@ -1,8 +1,7 @@
 -- A signed LEB is read as it is spelled.
-use Rattle.dw_num.proofs.Words.{◌≡◌, ℕ, ◌+◌, ◌^◌, List, ◌++◌, length, take, true, ℤ, pos, negsuc, Option, Some, None, Ok, refl, sym, subst, arith, FitsSigned, w64, lt-ltb, ltb-true, drop_at}
-use Rattle.dw_num.proofs.Words.{Target, Input, AreBytes, Takes, behind, signed_groups, Sleb, leb_len, sleb_of, sleb_at, fits_signed}
 use Rattle.std.proofs.lemmas.List.{take_at}
-use Rattle.dw_num.proofs.Lent.LebLaws.{leb_len-front, leb_len-spelled, cond_ok, done, ok_is, took}
+use Rattle.dw_num.proofs.Words.{◌≡◌, ℕ, ◌+◌, ◌^◌, List, ◌++◌, length, take, true, ℤ, pos, negsuc, Option, Some, None, Ok, refl, sym, subst, arith, FitsSigned, w64, lt-ltb, ltb-true, drop_at, Target}
+use Rattle.dw_num.proofs.{Words.{Input, AreBytes, Takes, behind, signed_groups, Sleb, leb_len, sleb_of, sleb_at, fits_signed}, Lent.LebLaws.{leb_len-front, leb_len-spelled, cond_ok, done, ok_is, took}}
 
 fits_signed-true : (v : ℤ) → FitsSigned w64 v → fits_signed v ≡ true
 fits_signed-true (pos n) h = lt-ltb n (2 ^ 63) (omega (arith, h))

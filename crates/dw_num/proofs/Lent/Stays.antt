@@ -1,9 +1,8 @@
 -- What is read ends where the input ends, and a fault has a place in the input or at its end.
-use Rattle.dw_num.proofs.Words.{◌≡◌, ℕ, ◌+◌, ◌≤◌, Bool, true, false, List, [], ◌∷◌, length, take, Option, Some, None, Ok, Err, refl, ◌∙◌, arith, inl, inr, cond, nat_lt, ◌^◌, ◌==◌, cases_lt, lt-ltb, le-ltb, length-drop}
-use Rattle.dw_num.proofs.Words.{Input, behind, fixed_number, groups, signed_groups, byte_count, Read, fixed_at, leb_len, uleb_of, uleb_at, sleb_of, sleb_at, address_at, unit_length_at, fits_signed, register_of}
-use Rattle.dw_num.proofs.Words.{register_at, ◌>>=◌, further, fault, Truncated, if◌then◌else◌}
 use Rattle.dw_num.specs.Front.{take_at}
-use Rattle.dw_num.proofs.Lent.LebLaws.{done, further_some}
+use Rattle.dw_num.proofs.Words.{◌≡◌, ℕ, ◌+◌, ◌≤◌, Bool, true, false, List, [], ◌∷◌, length, take, Option, Some, None, Ok, Err, refl, ◌∙◌, arith, inl, inr, cond, nat_lt, ◌^◌, ◌==◌, cases_lt}
+use Rattle.dw_num.proofs.Words.{lt-ltb, le-ltb, length-drop, Input, behind, fixed_number, groups, signed_groups, byte_count, Read, fixed_at, leb_len, uleb_of, uleb_at, sleb_of, sleb_at}
+use Rattle.dw_num.proofs.{Words.{address_at, unit_length_at, fits_signed, register_of, register_at, ◌>>=◌, further, fault, Truncated, if◌then◌else◌}, Lent.LebLaws.{done, further_some}}
 
 -- j begins in i or at its end, and both end at one place
 abbrev pub Inside : Input → Input → Type 0

@@ -1,10 +1,9 @@
 -- One read after another: what is read is spelled, and what is spelled is read.
-use Rattle.dw_num.proofs.Words.{◌≡◌, ℕ, ◌+◌, List, [], ◌∷◌, ◌++◌, length, take, refl, sym, ap, subst, ◌∙◌, append_assoc, arith, le-ltb, ltb-false, nat_lt, length-append, length-take}
-use Rattle.dw_num.proofs.Words.{drop_at, Target, Input, Takes, behind, Read, address_at, fixed_at, ◌>>=◌, byte_count, Address}
 use Rattle.std.proofs.lemmas.List.{take_at as taken_at}
 use Rattle.dw_num.specs.Front.{take_at}
+use Rattle.dw_num.proofs.Words.{◌≡◌, ℕ, ◌+◌, List, [], ◌∷◌, ◌++◌, length, take, refl, sym, ap, subst, ◌∙◌, append_assoc, arith, le-ltb, ltb-false, nat_lt, length-append, length-take, drop_at, Target}
+use Rattle.dw_num.proofs.{Words.{Input, Takes, behind, Read, address_at, fixed_at, ◌>>=◌, byte_count, Address}, Lent.FixedLaws.{byte_at_again, fixed_at_again}, Lent.LebLaws.{cond_not, done, ok_is, took}}
 pub use Rattle.dw_num.proofs.Lent.LebLaws.{bind_ok, cond_ok}
-use Rattle.dw_num.proofs.Lent.{LebLaws.{cond_not, done, ok_is, took}, FixedLaws.{byte_at_again, fixed_at_again}}
 
 -- two takes, one after the other, are one
 pub Takes-then : (i j k : Input) (x y : List ℕ) → Takes i x j → Takes j y k → Takes i (x ++ y) k

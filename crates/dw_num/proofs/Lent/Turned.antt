@@ -1,7 +1,6 @@
 -- Sums of value bits that are turned over, and signed numbers.
-use Rattle.dw_num.proofs.Words.{◌≡◌, ℕ, suc, ◌+◌, ◌-◌, ◌*◌, ◌%◌, ◌^◌, ◌<◌, ◌≤◌, Bool, true, false, List, [], ◌∷◌, length, get_or, refl, sym, ap, add-zero, arith, pos, negsuc, ◌-ℤ◌, FitsSigned, w64, pow-suc, ints}
-use Rattle.dw_num.proofs.Words.{to_z, of_z, groups_from, groups, last_byte, is_negative, signed_groups, turned_from, as_signed}
-use Rattle.dw_num.proofs.LebLemmas.{pow128, turned_from-false}
+use Rattle.dw_num.proofs.Words.{◌≡◌, ℕ, suc, ◌+◌, ◌-◌, ◌*◌, ◌%◌, ◌^◌, ◌<◌, ◌≤◌, Bool, true, false, List, [], ◌∷◌, length, get_or, refl, sym, ap, add-zero, arith, pos, negsuc, ◌-ℤ◌, FitsSigned}
+use Rattle.dw_num.proofs.{Words.{w64, pow-suc, ints, to_z, of_z, groups_from, groups, last_byte, is_negative, signed_groups, turned_from, as_signed}, LebLemmas.{pow128, turned_from-false}}
 
 -- both sums together
 pub both_sums : (k : ℕ) (xs : List ℕ) → groups_from k xs + turned_from true k xs + 128 ^ k ≡ 128 ^ (k + length xs)

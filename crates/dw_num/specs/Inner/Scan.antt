@@ -1,13 +1,9 @@
 -- What a scan for the LEB at the front of a list finds.
-use Rattle.std.specs.Prelude.{◌≡◌, ℕ, ◌≤◌, ◌^◌, List, take, length, Option, Some, None, option_map, suc, ◌+◌, ◌*◌, [], ◌∷◌, Bool, true, false, ℤ, pos, negsuc, FitsSigned}
-use Rattle.std.specs.Int.{w64}
-use Rattle.dw_num.specs.declared.leb.UlebScan.{UlebScan}
-use Rattle.dw_num.specs.declared.leb.UlebScan.TheVariants.{Number, TooLarge, Endless}
-use Rattle.dw_num.specs.declared.leb.SlebScan.{SlebScan}
+use Rattle.std.specs.Prelude.{◌≡◌, ℕ, ◌≤◌, ◌^◌, List, take, length, Option, Some, None, option_map, suc}
+use Rattle.std.specs.{Prelude.{◌+◌, ◌*◌, [], ◌∷◌, Bool, true, false, ℤ, pos, negsuc, FitsSigned}, Int.w64}
+use Rattle.dw_num.specs.{Front.leb_len, Leb.{groups, signed_groups}, Shortest.turned}
+use Rattle.dw_num.specs.declared.leb.{SlebScan.SlebScan, UlebScan.UlebScan, UlebScan.TheVariants.{Number, TooLarge, Endless}}
 use Rattle.dw_num.specs.declared.leb.SlebScan.TheVariants as signed
-use Rattle.dw_num.specs.Leb.{groups, signed_groups}
-use Rattle.dw_num.specs.Front.{leb_len}
-use Rattle.dw_num.specs.Shortest.{turned}
 
 -- i more
 abbrev pub further : ℕ → Option ℕ → Option ℕ

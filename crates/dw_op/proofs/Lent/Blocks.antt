@@ -1,12 +1,11 @@
 -- What is decoded is the block's operations, or its first fault.
-use Rattle.dw_op.proofs.Words.{◌≡◌, ℕ, zero, suc, ◌+◌, ◌<◌, List, [], ◌∷◌, ◌++◌, length, Option, Some, None, Result, Ok, Err, refl, sym, ap, subst, ◌∙◌, arith, inl, inr, ◌⊎◌, IsTrue, slice_get, cases_lt, AllByRecursion, append-nil}
-use Rattle.dw_op.proofs.Words.{BadBranch, Refusal, Target, Input, AreBytes, Op, Profile, Frame, Location, Step, Plain, Jump, start, Stands, EachPart, joined, Block, step_at, PlacedStep, Walk, walk, index_at, op_of, put_first, resolve}
-use Rattle.dw_op.proofs.Words.{unless, block_input, decode_at, IsBlock, op_allowed, IsPart, Leads, ReadingFault, BlockFault}
 use Rattle.dw_op.specs.declared.operation.Branch.TheVariants.{Bra, Skip}
-use Rattle.dw_op.proofs.{Splits.{Spelled, EachSpells, items_from, input, Ends, Split, split_of, joined_walk}, Places.{index_start, index_begins}, Lent.Spellings.in_table}
-use Rattle.dw_op.proofs.{ResolvedSteps.{Finds, Placed, one_step, as_location, part_step, plain_allows, framed, step_stands, stands_step}, Branches.fixed_any, OperandLaws.{stuck_fault, fault_stuck}, Lent.ReadingLaws.some_is}
-use Rattle.dw_op.proofs.{Lent.Ranges.listed_at, BranchParts.{Stood, stood_leads, leads_stood, plus_none, moved}}
 use Rattle.dw_op.specs.declared.op.Op.TheVariants as ops
+use Rattle.dw_op.proofs.Words.{◌≡◌, ℕ, zero, suc, ◌+◌, ◌<◌, List, [], ◌∷◌, ◌++◌, length, Option, Some, None, Result, Ok, Err, refl, sym, ap, subst, ◌∙◌, arith, inl, inr, ◌⊎◌, IsTrue, slice_get, cases_lt, AllByRecursion}
+use Rattle.dw_op.proofs.Words.{append-nil, BadBranch, Refusal, Target, Input, AreBytes, Op, Profile, Frame, Location, Step, Plain, Jump, start, Stands, EachPart, joined, Block, step_at, PlacedStep, Walk, walk, index_at}
+use Rattle.dw_op.proofs.{Words.{op_of, put_first, resolve, unless, block_input, decode_at, IsBlock, op_allowed, IsPart, Leads, ReadingFault, BlockFault}, BranchParts.{Stood, stood_leads, leads_stood, plus_none, moved}}
+use Rattle.dw_op.proofs.{Branches.fixed_any, Lent.Ranges.listed_at, Lent.ReadingLaws.some_is, Lent.Spellings.in_table, OperandLaws.{stuck_fault, fault_stuck}, Places.{index_start, index_begins}}
+use Rattle.dw_op.proofs.{ResolvedSteps.{Finds, Placed, one_step, as_location, part_step, plain_allows, framed, step_stands, stands_step}, Splits.{Spelled, EachSpells, items_from, input, Ends, Split, split_of, joined_walk}}
 
 -- ---- where parts stand
 

@@ -1,10 +1,9 @@
 -- What is spelled by the table is what is spelled operation by operation.
-use Rattle.dw_op.proofs.Words.{◌≡◌, ℕ, ◌+◌, ◌-◌, ◌<◌, List, [], ◌∷◌, Some, refl, sym, ap, subst, ◌∙◌, arith, inl, inr, ℤ, pos, w8, w16, w32, w64, cases_Bool, Target, Uleb, Sleb, Register, Fixed, FixedSigned, Address, Op, Addr, Const, Pick}
-use Rattle.dw_op.proofs.Words.{PlusUconst, Bra, Skip, Reg, Breg, Fbreg, Piece, DerefSize, BitPiece, Implicit, alone_code, Field, fixed, twos, unsigned, signed, register, size, block, FieldValue, OpForm, none, two, branch, constant, natural}
-use Rattle.dw_op.proofs.Words.{implicit, op_form_table, in_range, form_of, branch_target, AtMost, Least, TargetWithin, InRange, Code, Both, AnyTwo, FieldSpells, OpFormSpells, OpSpells, Alone, Counted, ConstForm, Const1u, Const1s, Const2u}
-use Rattle.dw_op.proofs.Words.{Const2s, Const4u, Const4s, Const8u, Const8s, Constu, Consts, Lit, Unsigned, Written, IsSpelled}
 use Rattle.dw_op.specs.Operands.{address, one}
-use Rattle.dw_op.proofs.Lent.ReadingLaws.{EachEntry, looked_up, ◌&◌, range_is, some_is, small_const, within, above}
+use Rattle.dw_op.proofs.Words.{◌≡◌, ℕ, ◌+◌, ◌-◌, ◌<◌, List, [], ◌∷◌, Some, refl, sym, ap, subst, ◌∙◌, arith, inl, inr, ℤ, pos, w8, w16, w32, w64, cases_Bool, Target, Uleb, Sleb, Register, Fixed, FixedSigned, Address, Op, Addr, Const}
+use Rattle.dw_op.proofs.Words.{Pick, PlusUconst, Bra, Skip, Reg, Breg, Fbreg, Piece, DerefSize, BitPiece, Implicit, alone_code, Field, fixed, twos, unsigned, signed, register, size, block, FieldValue, OpForm, none, two, branch, constant}
+use Rattle.dw_op.proofs.Words.{natural, implicit, op_form_table, in_range, form_of, branch_target, AtMost, Least, TargetWithin, InRange, Code, Both, AnyTwo, FieldSpells, OpFormSpells, OpSpells, Alone, Counted, ConstForm, Const1u, Const1s}
+use Rattle.dw_op.proofs.{Words.{Const2u, Const2s, Const4u, Const4s, Const8u, Const8s, Constu, Consts, Lit, Unsigned, Written, IsSpelled}, Lent.ReadingLaws.{EachEntry, looked_up, ◌&◌, range_is, some_is, small_const, within, above}}
 
 -- ---- from the table
 

@@ -1,13 +1,8 @@
 -- Blocks of the frame profile that are kept as bytes.
 use Rattle.std.specs.Prelude.{◌≡◌, ℕ, List, [], Result, Ok, Err}
-use Rattle.dw_num.specs.declared.refusal.Refusal.{Refusal}
-use Rattle.dw_num.specs.declared.target.Target.{Target}
-use Rattle.dw_op.specs.declared.op.Op.{Op}
-use Rattle.dw_op.specs.declared.profile.Profile.TheVariants.{Frame}
-use Rattle.dw_op.specs.declared.walk.Measure.TheVariants.{Operations}
-use Rattle.dw_op.specs.declared.walk.Walker.{Walker}
-use Rattle.dw_op.specs.Inner.Walk.{walk, index_in, resolve, block_input, decode_at}
-use Rattle.dw_op.specs.Inner.Windows.{block_of, WalkSo}
+use Rattle.dw_num.specs.declared.{refusal.Refusal.Refusal, target.Target.Target}
+use Rattle.dw_op.specs.declared.{op.Op.Op, profile.Profile.TheVariants.Frame, walk.Measure.TheVariants.Operations, walk.Walker.Walker}
+use Rattle.dw_op.specs.Inner.{Walk.{walk, index_in, resolve, block_input, decode_at}, Windows.{block_of, WalkSo}}
 
 -- the bytes are a block of the frame profile
 abbrev pub IsAccepted : Target → List ℕ → Type 0

@@ -1,16 +1,9 @@
 -- The spellings of each operation, operation by operation.
-use Rattle.std.specs.Prelude.{◌≡◌, ℕ, ◌+◌, ◌<◌, ◌≤◌, ◌⊎◌, List, [], ◌∷◌, length, ℤ, pos}
-use Rattle.std.specs.Int.{w8, w16, w32, w64}
-use Rattle.dw_num.specs.declared.target.Target.{Target}
-use Rattle.dw_num.specs.declared.target.Order.{Order}
-use Rattle.dw_num.specs.Target.{byte_count, address_limit}
-use Rattle.dw_num.specs.Leb.{Register, Uleb, Sleb}
-use Rattle.dw_num.specs.Fixed.{Fixed, FixedSigned, Address}
-use Rattle.dw_op.specs.declared.op.Op.{Op}
-use Rattle.dw_op.specs.declared.op.Op.TheVariants.{Addr, Const, Pick, PlusUconst, Bra, Skip, Reg, Breg, Fbreg, Piece, DerefSize, BitPiece, Implicit}
-use Rattle.dw_op.specs.Operands.{modulo}
-use Rattle.dw_op.specs.OpSpells.{Code, Both, AnyTwo}
-use Rattle.dw_op.specs.Inner.Codes.{alone_code}
+use Rattle.std.specs.{Prelude.{◌≡◌, ℕ, ◌+◌, ◌<◌, ◌≤◌, ◌⊎◌, List, [], ◌∷◌, length, ℤ, pos}, Int.{w8, w16, w32, w64}}
+use Rattle.dw_num.specs.{Fixed.{Fixed, FixedSigned, Address}, Leb.{Register, Uleb, Sleb}, Target.{byte_count, address_limit}}
+use Rattle.dw_num.specs.declared.target.{Order.Order, Target.Target}
+use Rattle.dw_op.specs.{OpSpells.{Code, Both, AnyTwo}, Operands.modulo, declared.op.Op.Op, declared.op.Op.TheVariants.{Addr, Const, Pick, PlusUconst}}
+use Rattle.dw_op.specs.{declared.op.Op.TheVariants.{Bra, Skip, Reg, Breg, Fbreg, Piece, DerefSize, BitPiece, Implicit}, Inner.Codes.alone_code}
 
 abbrev pub Alone : ℕ → List ℕ → Type 0
 Alone code bytes = bytes ≡ code ∷ []

@@ -1,7 +1,7 @@
 -- The codes of operations that have no operands: DWARF 5, 7.7.1.
 use Rattle.std.specs.Prelude.{ℕ}
-use Rattle.dw_op.specs.declared.op.Op.{Op}
-use Rattle.dw_op.specs.declared.op.Op.TheVariants.{Deref, Dup, Drop, Over, Swap, Rot, Abs, And, Div, Minus, Mod, Mul, Neg, Not, Or, Plus, Shl, Shr, Shra, Xor, Eq, Ge, Gt, Le, Lt, Ne, Nop, PushObjectAddress, CallFrameCfa, StackValue}
+use Rattle.dw_op.specs.declared.op.{Op.Op, Op.TheVariants.{Deref, Dup, Drop, Over, Swap, Rot, Abs, And, Div, Minus, Mod, Mul, Neg, Not, Or, Plus}}
+use Rattle.dw_op.specs.declared.op.Op.TheVariants.{Shl, Shr, Shra, Xor, Eq, Ge, Gt, Le, Lt, Ne, Nop, PushObjectAddress, CallFrameCfa, StackValue}
 
 -- the code of an operation that has no operands, 0 of the others
 abbrev pub alone_code : Op → ℕ

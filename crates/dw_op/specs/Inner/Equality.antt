@@ -1,17 +1,9 @@
 -- The lines by which expressions are compared, what an expression feeds a hasher, and the lines that the code has.
-use Rattle.std.specs.Prelude.{ℕ, ℤ, pos, negsuc, List, [], ◌∷◌, map, nat_eq, Bool, ◌++◌, length}
-use Rattle.std.specs.Cmp.Lexicographic.{pointwise}
-use Rattle.dw_num.specs.declared.target.Target.{Target}
-use Rattle.dw_num.specs.declared.target.Order.{Order}
-use Rattle.dw_num.specs.declared.target.Order.TheVariants.{Little, Big}
-use Rattle.dw_num.specs.Target.{byte_count}
-use Rattle.dw_op.specs.declared.op.Op.{Op}
-use Rattle.dw_op.specs.declared.op.Op.TheVariants.{Addr, Const, Pick, PlusUconst, Bra, Skip, Reg, Breg, Fbreg, Piece, DerefSize, BitPiece, Implicit}
-use Rattle.dw_op.specs.Expression.{Expression}
-use Rattle.dw_op.specs.Inner.Codes.{alone_code}
-use Rattle.std.specs.List.{flat_map}
+use Rattle.std.specs.{Prelude.{ℕ, ℤ, pos, negsuc, List, [], ◌∷◌, map, nat_eq, Bool, ◌++◌, length}, Cmp.Lexicographic.pointwise, List.flat_map}
 use Rattle.std.specs.Hash as fed
-use Rattle.dw_op.specs.declared.equality.Line.{Line}
+use Rattle.dw_num.specs.{Target.byte_count, declared.target.Order.Order, declared.target.Order.TheVariants.{Little, Big}, declared.target.Target.Target}
+use Rattle.dw_op.specs.{Expression.Expression, declared.equality.Line.Line, declared.op.Op.Op, declared.op.Op.TheVariants.{Addr, Const, Pick, PlusUconst}}
+use Rattle.dw_op.specs.{declared.op.Op.TheVariants.{Bra, Skip, Reg, Breg, Fbreg, Piece, DerefSize, BitPiece, Implicit}, Inner.Codes.alone_code}
 
 -- a signed number as a sign and a number
 abbrev pub sign_of : ℤ → ℕ

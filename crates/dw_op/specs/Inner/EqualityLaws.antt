@@ -1,11 +1,8 @@
 -- The laws of the test for equality of expressions.
-use Rattle.std.specs.Prelude.{◌≡◌, ℕ, List, true}
+use Rattle.std.specs.{Prelude.{◌≡◌, ℕ, List, true}, Bool.Decides, Cmp.{IsPartialEquivalence, IsEquivalence, on_equiv, nat_eq_equiv}}
+use Rattle.std.specs.{Cmp.{partial_equiv_from_equiv, unsigned_Decides}, Cmp.Lexicographic.{pointwise_decides, lists_equiv}}
 use Rattle.std.proofs.Common.{ap}
-use Rattle.std.specs.Bool.{Decides}
-use Rattle.std.specs.Cmp.{IsPartialEquivalence, IsEquivalence, on_equiv, nat_eq_equiv, partial_equiv_from_equiv, unsigned_Decides}
-use Rattle.std.specs.Cmp.Lexicographic.{pointwise_decides, lists_equiv}
-use Rattle.dw_op.specs.Expression.{Expression}
-use Rattle.dw_op.specs.Inner.Equality.{expression_lines, same_lines, same_expression, lines_fed, expression_fed}
+use Rattle.dw_op.specs.{Expression.Expression, Inner.Equality.{expression_lines, same_lines, same_expression, lines_fed, expression_fed}}
 
 -- the test on lines tells equal ones
 pub lines_decide : (a b : List (List ℕ)) → Decides (same_lines a b) (a ≡ b)

@@ -1,26 +1,17 @@
 -- Reading an operation from the front of a block, as the code does it: DWARF 5, 7.7.1. Faults.antt says which fault that gives without it.
 use Rattle.std.specs.Prelude.{ℕ, ◌-◌, ◌*◌, ◌%◌, List, [], ◌∷◌, Option, Some, None, Ok, nat_lt, nat_le, ◌&&◌, if◌then◌else◌, Bool, true, false, ℤ, pos, negsuc}
-use Rattle.dw_num.specs.declared.refusal.Code.TheVariants.{UnknownOperation, NotInFrame, BadDerefSize}
-use Rattle.dw_num.specs.declared.target.Order.{Order}
-use Rattle.dw_num.specs.Target.{address_limit, byte_count}
-use Rattle.dw_num.specs.Input.{Input}
-use Rattle.dw_num.specs.Fixed.{fixed_number}
-use Rattle.dw_num.specs.Front.{Read, fault, fixed_at, take_at, uleb_at, sleb_at, address_at, ◌>>=◌, register_at}
-use Rattle.dw_op.specs.declared.op.Op.{Op}
-use Rattle.dw_op.specs.declared.op.Op.TheVariants.{Addr, Deref, Const, Dup, Drop, Over, Pick, Swap, Rot, Abs, And, Div, Minus, Mod, Mul, Neg, Not, Or, Plus, PlusUconst, Shl, Shr, Shra, Xor, Eq, Ge, Gt, Le, Lt, Ne, Reg, Breg, Fbreg, Piece, DerefSize, Nop, PushObjectAddress, CallFrameCfa, BitPiece, StackValue}
-use Rattle.dw_op.specs.declared.profile.Profile.{Profile}
-use Rattle.dw_op.specs.declared.profile.Profile.TheVariants.{Frame, Location}
-use Rattle.dw_op.specs.declared.operation.Branch.{Branch}
+use Rattle.dw_num.specs.{Fixed.fixed_number, Front.{Read, fault, fixed_at, take_at, uleb_at, sleb_at, address_at, ◌>>=◌, register_at}}
+use Rattle.dw_num.specs.{Input.Input, Target.{address_limit, byte_count}}
+use Rattle.dw_num.specs.declared.{refusal.Code.TheVariants.{UnknownOperation, NotInFrame, BadDerefSize}, target.Order.Order}
+use Rattle.dw_op.specs.{Expression.bare, Operands.{modulo, implicit, look_up, in_range}, Profile.in_frame}
+use Rattle.dw_op.specs.declared.op.{Op.Op, Op.TheVariants.{Addr, Deref, Const, Dup, Drop, Over, Pick, Swap, Rot, Abs, And, Div, Minus, Mod}}
+use Rattle.dw_op.specs.declared.op.Op.TheVariants.{Mul, Neg, Not, Or, Plus, PlusUconst, Shl, Shr, Shra, Xor, Eq, Ge, Gt, Le, Lt, Ne, Reg}
+use Rattle.dw_op.specs.declared.op.Op.TheVariants.{Breg, Fbreg, Piece, DerefSize, Nop, PushObjectAddress, CallFrameCfa, BitPiece, StackValue}
+use Rattle.dw_op.specs.declared.operation.{Branch.Branch, ByteCount.ByteCount, ByteCount.TheVariants.{One, Two, Four, Eight}, Opcode.Opcode, Step.Step}
+use Rattle.dw_op.specs.declared.profile.{Profile.Profile, Profile.TheVariants.{Frame, Location}}
 use Rattle.dw_op.specs.declared.operation.Branch.TheVariants as branches
-use Rattle.dw_op.specs.declared.operation.Step.{Step}
-use Rattle.dw_op.specs.declared.operation.Step.TheVariants as steps
-use Rattle.dw_op.specs.declared.operation.ByteCount.{ByteCount}
-use Rattle.dw_op.specs.declared.operation.ByteCount.TheVariants.{One, Two, Four, Eight}
-use Rattle.dw_op.specs.declared.operation.Opcode.{Opcode}
 use Rattle.dw_op.specs.declared.operation.Opcode.TheVariants as opcodes
-use Rattle.dw_op.specs.Expression.{bare}
-use Rattle.dw_op.specs.Operands.{modulo, implicit, look_up, in_range}
-use Rattle.dw_op.specs.Profile.{in_frame}
+use Rattle.dw_op.specs.declared.operation.Step.TheVariants as steps
 
 -- a step without where its bytes lie in memory
 abbrev pub bare_step : Step → Step

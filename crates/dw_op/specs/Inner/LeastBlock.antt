@@ -1,10 +1,7 @@
 -- Least blocks as a function, and how the code writes them: where spellings begin, and whether branches fit.
-use Rattle.std.specs.Prelude.{◌≡◌, ℕ, suc, ◌+◌, ◌≤◌, slice_index, List, [], ◌∷◌, length, Option, Some, None, FitsSigned}
-use Rattle.std.specs.Int.{w16, cast_unsigned}
+use Rattle.std.specs.{Prelude.{◌≡◌, ℕ, suc, ◌+◌, ◌≤◌, slice_index, List, [], ◌∷◌, length, Option, Some, None, FitsSigned}, Int.{w16, cast_unsigned}}
 use Rattle.dw_num.specs.declared.target.Target.{Target}
-use Rattle.dw_op.specs.declared.op.Op.{Op}
-use Rattle.dw_op.specs.Block.{branch_target, start, displacement, joined}
-use Rattle.dw_op.specs.Inner.LeastOf.{least_bytes}
+use Rattle.dw_op.specs.{Block.{branch_target, start, displacement, joined}, declared.op.Op.Op, Inner.LeastOf.least_bytes}
 
 -- least spellings without displacements
 abbrev pub blank_parts : Target → List Op → List (List ℕ)

@@ -1,18 +1,10 @@
 -- The least spelling of each operation, as a table.
 use Rattle.std.specs.Prelude.{ℕ, ◌+◌, ◌-◌, ◌%◌, ◌^◌, List, [], ◌∷◌, ◌++◌, length, ℤ, negsuc, nat_lt, if◌then◌else◌}
-use Rattle.dw_num.specs.declared.target.Target.{Target}
-use Rattle.dw_num.specs.declared.target.Order.{Order}
-use Rattle.dw_num.specs.declared.target.Size.{Size}
-use Rattle.dw_num.specs.declared.target.Size.TheVariants.{Four, Eight}
-use Rattle.dw_num.specs.Target.{address_limit}
-use Rattle.dw_num.specs.Fixed.{fixed_bytes}
-use Rattle.dw_num.specs.Shortest.{shortest_uleb, shortest_sleb}
-use Rattle.dw_op.specs.declared.op.Op.{Op}
-use Rattle.dw_op.specs.declared.op.Op.TheVariants.{Addr, Const, Pick, PlusUconst, Bra, Skip, Reg, Breg, Fbreg, Piece, DerefSize, BitPiece, Implicit}
-use Rattle.dw_op.specs.declared.least.Spelling.{Spelling}
-use Rattle.dw_op.specs.declared.least.Operand.{Operand}
+use Rattle.dw_num.specs.{Fixed.fixed_bytes, Shortest.{shortest_uleb, shortest_sleb}, Target.address_limit}
+use Rattle.dw_num.specs.declared.target.{Order.Order, Size.Size, Size.TheVariants.{Four, Eight}, Target.Target}
+use Rattle.dw_op.specs.declared.{least.Operand.Operand, least.Spelling.Spelling, op.Op.Op, op.Op.TheVariants.{Addr, Const, Pick, PlusUconst}}
+use Rattle.dw_op.specs.{declared.op.Op.TheVariants.{Bra, Skip, Reg, Breg, Fbreg, Piece, DerefSize, BitPiece, Implicit}, Inner.Codes.alone_code}
 use Rattle.dw_op.specs.declared.least.Operand.TheVariants as operand
-use Rattle.dw_op.specs.Inner.Codes.{alone_code}
 
 abbrev pub operand_bytes : Order → Operand → List ℕ
 operand_bytes order operand.Nothing = []

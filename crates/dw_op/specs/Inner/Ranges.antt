@@ -1,10 +1,7 @@
 -- Operands as the types of the code have them, and what these leave open.
-use Rattle.std.specs.Prelude.{ℕ, ◌<◌, ◌≤◌, length, ◌^◌, FitsSigned}
-use Rattle.std.specs.Int.{w64}
-use Rattle.dw_num.specs.declared.target.Target.{Target}
-use Rattle.dw_num.specs.Target.{byte_count, address_limit}
-use Rattle.dw_op.specs.declared.op.Op.{Op}
-use Rattle.dw_op.specs.declared.op.Op.TheVariants.{Addr, Const, Pick, PlusUconst, Bra, Skip, Reg, Breg, Fbreg, Piece, DerefSize, BitPiece, Implicit}
+use Rattle.std.specs.{Prelude.{ℕ, ◌<◌, ◌≤◌, length, ◌^◌, FitsSigned}, Int.w64}
+use Rattle.dw_num.specs.{Target.{byte_count, address_limit}, declared.target.Target.Target}
+use Rattle.dw_op.specs.declared.op.{Op.Op, Op.TheVariants.{Addr, Const, Pick, PlusUconst, Bra, Skip, Reg, Breg, Fbreg, Piece, DerefSize, BitPiece, Implicit}}
 
 -- what the types of the code say of an operation
 abbrev pub IsTyped : Op → Type 0

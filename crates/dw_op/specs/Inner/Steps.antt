@@ -1,16 +1,9 @@
 -- What spells a step of a block.
 use Rattle.std.specs.Prelude.{◌≡◌, ℕ, List, Bool, true, None}
-use Rattle.dw_num.specs.declared.target.Target.{Target}
-use Rattle.dw_num.specs.Fixed.{Fixed}
-use Rattle.dw_op.specs.declared.profile.Profile.{Profile}
-use Rattle.dw_op.specs.declared.profile.Profile.TheVariants.{Frame, Location}
-use Rattle.dw_op.specs.declared.operation.Branch.{Branch}
-use Rattle.dw_op.specs.declared.operation.Branch.TheVariants.{Bra, Skip}
-use Rattle.dw_op.specs.declared.operation.Step.{Step}
-use Rattle.dw_op.specs.declared.operation.Step.TheVariants.{Plain, Jump}
-use Rattle.dw_op.specs.OpSpells.{Code, OpSpells}
-use Rattle.dw_op.specs.Block.{branch_target}
-use Rattle.dw_op.specs.Profile.{in_frame}
+use Rattle.dw_num.specs.{Fixed.Fixed, declared.target.Target.Target}
+use Rattle.dw_op.specs.{Block.branch_target, OpSpells.{Code, OpSpells}, Profile.in_frame}
+use Rattle.dw_op.specs.declared.operation.{Branch.Branch, Branch.TheVariants.{Bra, Skip}, Step.Step, Step.TheVariants.{Plain, Jump}}
+use Rattle.dw_op.specs.declared.profile.{Profile.Profile, Profile.TheVariants.{Frame, Location}}
 
 abbrev pub branch_code : Branch → ℕ
 branch_code Bra = 0x28  -- DW_OP_bra

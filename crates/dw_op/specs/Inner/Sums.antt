@@ -1,15 +1,8 @@
 -- What the operations before a place of a block add up to.
-use Rattle.std.specs.Prelude.{ℕ, length, Option, Some, None, pos, ◌-ℤ◌, FitsSigned}
-use Rattle.std.specs.Int.{w16, cast_unsigned}
-use Rattle.dw_num.specs.declared.target.Target.{Target}
-use Rattle.dw_num.specs.Input.{Input}
-use Rattle.dw_op.specs.declared.profile.Profile.{Profile}
-use Rattle.dw_op.specs.declared.operation.Step.{Step}
-use Rattle.dw_op.specs.declared.operation.Step.TheVariants.{Plain, Jump}
-use Rattle.dw_op.specs.declared.walk.Measure.{Measure}
-use Rattle.dw_op.specs.declared.walk.Measure.TheVariants.{Operations, LeastBytes}
-use Rattle.dw_op.specs.Inner.LeastOf.{least_bytes}
-use Rattle.dw_op.specs.Inner.Walk.{walk, end_of, passed, one}
+use Rattle.std.specs.{Prelude.{ℕ, length, Option, Some, None, pos, ◌-ℤ◌, FitsSigned}, Int.{w16, cast_unsigned}}
+use Rattle.dw_num.specs.{Input.Input, declared.target.Target.Target}
+use Rattle.dw_op.specs.declared.{operation.Step.Step, operation.Step.TheVariants.{Plain, Jump}, profile.Profile.Profile, walk.Measure.Measure}
+use Rattle.dw_op.specs.{declared.walk.Measure.TheVariants.{Operations, LeastBytes}, Inner.LeastOf.least_bytes, Inner.Walk.{walk, end_of, passed, one}}
 
 -- a branch has a code and two bytes, wherever it goes
 abbrev pub step_length : Target → Step → ℕ

@@ -1,19 +1,10 @@
 -- The operations of a block one after another, and what its branches name, as the code finds them. Block.antt and Faults.antt say the same without it.
 use Rattle.std.specs.Prelude.{ℕ, suc, ◌+◌, ◌-◌, ◌≤◌, List, [], ◌∷◌, length, Option, Some, None, Result, Ok, Err, nat_eq, nat_lt, if◌then◌else◌}
-use Rattle.dw_num.specs.declared.refusal.Code.TheVariants.{BadBranch}
-use Rattle.dw_num.specs.declared.refusal.Refusal.{Refusal}
-use Rattle.dw_num.specs.declared.target.Target.{Target}
-use Rattle.dw_num.specs.Input.{Input}
-use Rattle.dw_op.specs.declared.op.Op.{Op}
+use Rattle.dw_num.specs.{Input.Input, declared.refusal.Code.TheVariants.BadBranch, declared.refusal.Refusal.Refusal, declared.target.Target.Target}
+use Rattle.dw_op.specs.{Walks.Walked, declared.op.Op.Op}
+use Rattle.dw_op.specs.declared.operation.{Branch.Branch, Branch.TheVariants.{Bra, Skip}, Step.Step, Step.TheVariants.{Plain, Jump}}
+use Rattle.dw_op.specs.{declared.profile.Profile.Profile, Inner.FrontOp.step_at, Inner.Walks.walked}
 use Rattle.dw_op.specs.declared.op.Op.TheVariants as ops
-use Rattle.dw_op.specs.declared.profile.Profile.{Profile}
-use Rattle.dw_op.specs.declared.operation.Branch.{Branch}
-use Rattle.dw_op.specs.declared.operation.Branch.TheVariants.{Bra, Skip}
-use Rattle.dw_op.specs.declared.operation.Step.{Step}
-use Rattle.dw_op.specs.declared.operation.Step.TheVariants.{Plain, Jump}
-use Rattle.dw_op.specs.Inner.FrontOp.{step_at}
-use Rattle.dw_op.specs.Walks.{Walked}
-use Rattle.dw_op.specs.Inner.Walks.{walked}
 
 -- an operation and the place of its code
 pub record PlacedStep : Type 0 where

@@ -1,8 +1,6 @@
 -- What the code and its proofs say beside Walks.
 use Rattle.std.specs.Prelude.{ℕ, zero, suc, List, [], ◌∷◌, length, Option, Some, None, Ok, Err}
-use Rattle.dw_num.specs.declared.refusal.Refusal.{Refusal}
-use Rattle.dw_num.specs.Input.{Input}
-use Rattle.dw_num.specs.Front.{Read}
+use Rattle.dw_num.specs.{Front.Read, Input.Input, declared.refusal.Refusal.Refusal}
 use Rattle.dw_op.specs.Walks.{Walked}
 
 abbrev pub ended : {X : Type 0} → Option Refusal → Walked X

@@ -1,7 +1,6 @@
 -- Programs that say the same have the same rules at an address, and the same changes.
-use Rattle.dw_section.proofs.Words.{ℕ, suc, ◌<◌, ◌≤◌, List, [], ◌∷◌, ◌++◌, sym, ap, ◌∙◌, arith, Instr, CfaRule, RegRule, look_back, cfa_change, rule_change, cfa_after, rule_after, initial_cfa, initial_rule, Rules, StayFrom, HoldsAt}
-use Rattle.dw_section.proofs.Words.{ChangesBehind, AreChanges, HasCfa, AgreeAt, Agree, counts_exists}
-use Rattle.dw_section.proofs.Lent.Nops.{nops, cfa_nops, rule_nops, initial_cfa_nops, initial_rule_nops, counts_nops}
+use Rattle.dw_section.proofs.Words.{ℕ, suc, ◌<◌, ◌≤◌, List, [], ◌∷◌, ◌++◌, sym, ap, ◌∙◌, arith, Instr, CfaRule, RegRule, look_back, cfa_change, rule_change, cfa_after, rule_after, initial_cfa, initial_rule, Rules}
+use Rattle.dw_section.proofs.{Words.{StayFrom, HoldsAt, ChangesBehind, AreChanges, HasCfa, AgreeAt, Agree, counts_exists}, Lent.Nops.{nops, cfa_nops, rule_nops, initial_cfa_nops, initial_rule_nops, counts_nops}}
 
 -- ---- sameness
 

@@ -1,10 +1,9 @@
 -- A section that is accepted has no first fault, and any other at most one.
-use Rattle.dw_section.proofs.Words.{◌≡◌, ℕ, ◌≤◌, List, [], ◌∷◌, ◌++◌, sym, ap, subst, ◌∙◌, arith, inl, inr, AllByRecursion, Overlap, Refusal, Target, AreBytes, Span, input_of, Factors, Instr, ProgramSpells, initial_cfa, Head, cie, fde}
-use Rattle.dw_section.proofs.Words.{Headers, Ok, Err, HeadersFault, HeadsRise, FdeFits, HasBytes, cie_ats, Range, IsIndex, AreApart, FirstOverlap, end_of, IsAmong, Instrs, CieRuns, CieBroken, FdeRuns, FdeBroken, HasRules, LacksRule}
-use Rattle.dw_section.proofs.Words.{factors_of, RulesHold, Accepted, CieProgramsFault, FdeProgramsFault, RulesFault, CheckFault, CiesRun, FdesRun, Indexed, Some, None, CieHead, FdeHead, InitialInstrs, FdeFault, some_is, behind_where_fault}
-use Rattle.dw_section.proofs.Words.{gives_where_kept, leaves_where_kept, one_behind, one_initial}
-use Rattle.dw_section.proofs.{Cfa.{row_of, one_program}, FirstFault.{Exclusive, then_exclusive, stage, one_fault, fault_or_headers}, Lent.HeaderLaws.one_headers, Lent.Heads.{heads_rise, heads_bytes, heads_fit, one_begin}}
-use Rattle.dw_section.proofs.{Lent.Index.{all_in, one_index}, Stages.{holds_at, splits}}
+use Rattle.dw_section.proofs.Words.{◌≡◌, ℕ, ◌≤◌, List, [], ◌∷◌, ◌++◌, sym, ap, subst, ◌∙◌, arith, inl, inr, AllByRecursion, Overlap, Refusal, Target, AreBytes, Span, input_of, Factors, Instr, ProgramSpells, initial_cfa, Head, cie}
+use Rattle.dw_section.proofs.Words.{fde, Headers, Ok, Err, HeadersFault, HeadsRise, FdeFits, HasBytes, cie_ats, Range, IsIndex, AreApart, FirstOverlap, end_of, IsAmong, Instrs, CieRuns, CieBroken, FdeRuns, FdeBroken, HasRules}
+use Rattle.dw_section.proofs.Words.{LacksRule, factors_of, RulesHold, Accepted, CieProgramsFault, FdeProgramsFault, RulesFault, CheckFault, CiesRun, FdesRun, Indexed, Some, None, CieHead, FdeHead, InitialInstrs, FdeFault, some_is}
+use Rattle.dw_section.proofs.{Words.{behind_where_fault, gives_where_kept, leaves_where_kept, one_behind, one_initial}, Cfa.{row_of, one_program}, FirstFault.{Exclusive, then_exclusive, stage, one_fault, fault_or_headers}}
+use Rattle.dw_section.proofs.{Lent.HeaderLaws.one_headers, Lent.Heads.{heads_rise, heads_bytes, heads_fit, one_begin}, Lent.Index.{all_in, one_index}, Stages.{holds_at, splits}}
 
 -- what is known of a header, for the stages of programs
 abbrev pub Known : Target → List Head → Head → Type 0

@@ -1,9 +1,8 @@
 -- What is read of the table part by part; and what the table says of its numbers.
-use Rattle.dw_section.proofs.Words.{◌≡◌, ℕ, ◌+◌, ◌<◌, ◌≤◌, ◌==◌, ◌^◌, Bool, true, false, List, None, Ok, Err, refl, sym, ap, subst, arith, inl, inr, Result, IsErrAnd, w64, ℤ, FitsSigned, nat_le, cond, nat_lt, leb-true, ltb-true, cond_both}
-use Rattle.dw_section.proofs.Words.{Code, NoSuchCie, Form, Dwarf32, Dwarf64, Size, Target, IsWidth, Read, address_limit, byte_count, CieFields, FdeFields, id_width, Fields, end, field, cie_fields, is_among, fde_fields, FieldsSpell, fixed}
-use Rattle.dw_section.proofs.Words.{unsigned, Refusal, AddressSize, SegmentSelector, RangeTooLarge, RegisterTooLarge, any, unless, factors, Passes}
 use Rattle.dw_num.specs.declared.target.Size.TheVariants.{Four as Short, Eight as Long}
-use Rattle.dw_section.proofs.FieldLaws.{AreNumbers}
+use Rattle.dw_section.proofs.Words.{◌≡◌, ℕ, ◌+◌, ◌<◌, ◌≤◌, ◌==◌, ◌^◌, Bool, true, false, List, None, Ok, Err, refl, sym, ap, subst, arith, inl, inr, Result, IsErrAnd, w64, ℤ, FitsSigned, nat_le, cond, nat_lt, leb-true}
+use Rattle.dw_section.proofs.Words.{ltb-true, cond_both, Code, NoSuchCie, Form, Dwarf32, Dwarf64, Size, Target, IsWidth, Read, address_limit, byte_count, CieFields, FdeFields, id_width, Fields, end, field, cie_fields}
+use Rattle.dw_section.proofs.{Words.{is_among, fde_fields, FieldsSpell, fixed, unsigned, Refusal, AddressSize, SegmentSelector, RangeTooLarge, RegisterTooLarge, any, unless, factors, Passes}, FieldLaws.AreNumbers}
 
 -- ---- a part of the table, and the rest
 

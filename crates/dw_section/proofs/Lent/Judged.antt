@@ -1,11 +1,10 @@
 -- What running programs tells of headers.
-use Rattle.dw_section.proofs.Words.{◌≡◌, ℕ, ◌+◌, ◌<◌, ◌≤◌, Bool, true, false, List, [], ◌∷◌, ◌++◌, map, length, get_or, set, Option, Some, None, refl, sym, ap, subst, ◌∙◌, append_assoc, arith, inl, inr, MatchBool, nat_lt, AllByRecursion}
-use Rattle.dw_section.proofs.Words.{Refusal, Target, address_limit, Instr, CfaRule, Unset, LocatedRow, RulesBehind, cfa_after, FdeFault, FdeKept, initial_cfa, Counts, Rules, Initial, is_among, Head, fde, FdeHead, head_at, or_place}
-use Rattle.dw_section.proofs.Words.{place_of, IsInitial, IsBehind, HasOrLacks, initial_head, Rises, InitialInstrs, Instrs, FdeRuns, FdeBroken, HasRules, LacksRule, input_of, IsNonDecreasingBy, ltb-true, ltb-false, cases_lt, get_or-map}
-use Rattle.dw_section.proofs.Words.{length-map, All-from_recursion, All-set, recursion_from_All, NoCfaRule, FirstLacking, counts_exists}
 use Rattle.dw_cfa.specs.{CieMachine.{Following, with_steps}, Coverage.Lacks}
 use Rattle.dw_cfa.proofs.Lent.RowsAt.{last_from}
-use Rattle.dw_section.proofs.{Stages.all_push, Places.{rises-at, among_place}}
+use Rattle.dw_section.proofs.Words.{◌≡◌, ℕ, ◌+◌, ◌<◌, ◌≤◌, Bool, true, false, List, [], ◌∷◌, ◌++◌, map, length, get_or, set, Option, Some, None, refl, sym, ap, subst, ◌∙◌, append_assoc, arith, inl, inr, MatchBool, nat_lt}
+use Rattle.dw_section.proofs.Words.{AllByRecursion, Refusal, Target, address_limit, Instr, CfaRule, Unset, LocatedRow, RulesBehind, cfa_after, FdeFault, FdeKept, initial_cfa, Counts, Rules, Initial, is_among, Head, fde, FdeHead}
+use Rattle.dw_section.proofs.Words.{head_at, or_place, place_of, IsInitial, IsBehind, HasOrLacks, initial_head, Rises, InitialInstrs, Instrs, FdeRuns, FdeBroken, HasRules, LacksRule, input_of, IsNonDecreasingBy, ltb-true}
+use Rattle.dw_section.proofs.{Words.{ltb-false, cases_lt, get_or-map, length-map, All-from_recursion, All-set, recursion_from_All, NoCfaRule, FirstLacking, counts_exists}, Places.{rises-at, among_place}, Stages.all_push}
 
 -- ---- the search among them
 

@@ -1,6 +1,5 @@
 -- Return address registers are below 65,536.
-use Rattle.dw_section.proofs.Words.{◌≡◌, ℕ, ◌<◌, List, arith, AllByRecursion, IsAmong, Target, Has, Lists, Range, AreFdes, cie_places, Fde}
-use Rattle.dw_section.proofs.{Lent.FieldTable.cie_said, Lent.Index.zip_right, Stages.all_of_zip, StandLaws.cie_from}
+use Rattle.dw_section.proofs.{Words.{◌≡◌, ℕ, ◌<◌, List, arith, AllByRecursion, IsAmong, Target, Has, Lists, Range, AreFdes, cie_places, Fde}, Lent.FieldTable.cie_said, Lent.Index.zip_right, Stages.all_of_zip, StandLaws.cie_from}
 
 pub fdes_registers : (target : Target) (s : List ℕ) (fs : List Fde) → AreFdes target s fs → AllByRecursion (λ (f : Fde). f.return_register < 65536) fs
 fdes_registers target s fs h = all_of_zip (Lists h.headers) (λ (f : Fde). f.return_register < 65536) h.index fs low h.each

@@ -1,9 +1,8 @@
 -- Laws of a section that is accepted: what it says of an FDE is one thing, and each address has rules.
-use Rattle.dw_section.proofs.Words.{◌≡◌, ℕ, ◌+◌, ◌<◌, ◌≤◌, List, [], ◌∷◌, refl, sym, ap, subst, ◌∙◌, arith, inl, inr, AllByRecursion, AllZip, Target, AreBytes, address_limit, Instr, HoldsAfter, Rules, Accepted, HoldsAt, AreChanges, Head}
-use Rattle.dw_section.proofs.Words.{Headers, FdeHead, cie, fde, HeadsRise, HasBytes, FdeFits, cie_ats, FdeSays, Lists, AreFdes, RulesAt, ChangesOf, Covers, Range, nonempty, AreApart, end_of, range_of, FdeRuns, HasRules, Instrs, HasCfa}
-use Rattle.dw_section.proofs.Words.{IsAmong, Fde, counts_exists, one_count}
-use Rattle.dw_section.proofs.Lent.{CheckFirst.one_instrs, HeaderLaws.one_headers, Heads.{all_in, heads_rise, heads_bytes, heads_fit, one_among, fde_or}, Index.{all_from, with_range_so, zip_left, zip_right}, FdeLookup.along, Rowed.one_row}
-use Rattle.dw_section.proofs.{FdeRows.given, Lent.ChangeLaws.{Given, row_there, holds_at}}
+use Rattle.dw_section.proofs.Words.{◌≡◌, ℕ, ◌+◌, ◌<◌, ◌≤◌, List, [], ◌∷◌, refl, sym, ap, subst, ◌∙◌, arith, inl, inr, AllByRecursion, AllZip, Target, AreBytes, address_limit, Instr, HoldsAfter, Rules}
+use Rattle.dw_section.proofs.Words.{Accepted, HoldsAt, AreChanges, Head, Headers, FdeHead, cie, fde, HeadsRise, HasBytes, FdeFits, cie_ats, FdeSays, Lists, AreFdes, RulesAt, ChangesOf, Covers, Range, nonempty}
+use Rattle.dw_section.proofs.{Words.{AreApart, end_of, range_of, FdeRuns, HasRules, Instrs, HasCfa, IsAmong, Fde, counts_exists, one_count}, FdeRows.given, Lent.ChangeLaws.{Given, row_there, holds_at}}
+use Rattle.dw_section.proofs.Lent.{CheckFirst.one_instrs, FdeLookup.along, HeaderLaws.one_headers, Heads.{all_in, heads_rise, heads_bytes, heads_fit, one_among, fde_or}, Index.{all_from, with_range_so, zip_left, zip_right}, Rowed.one_row}
 
 -- ---- ranges and headers
 

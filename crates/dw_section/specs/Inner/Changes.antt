@@ -1,18 +1,9 @@
 -- What the code and its proofs say beside Changes.
 use Rattle.std.specs.Prelude.{◌≡◌, ◌⊎◌, ℕ, ◌<◌, nat_lt, ◌&&◌, not, if◌then◌else◌, List, [], ◌∷◌, Option, Some, None, IfSome, Result, Ok, Err, Bool, false}
-use Rattle.std.specs.BTreeMap.{BTreeMap, get}
-use Rattle.std.specs.Ordering.{nat_cmp}
-use Rattle.dw_cfa.specs.declared.execution.LocatedRow.{LocatedRow}
+use Rattle.std.specs.{BTreeMap.{BTreeMap, get}, Ordering.nat_cmp}
+use Rattle.dw_cfa.specs.{Behind.LeavesTo, RegisterSets.Registers, RowSteps.Stepping, RowWalk.Walking, Rows.Rules, declared.execution.LocatedRow.LocatedRow}
 use Rattle.dw_cfa.proofs.Lent.Equal.{row_test}
-use Rattle.dw_cfa.specs.Behind.{LeavesTo}
-use Rattle.dw_cfa.specs.RegisterSets.{Registers}
-use Rattle.dw_cfa.specs.Rows.{Rules}
-use Rattle.dw_cfa.specs.RowSteps.{Stepping}
-use Rattle.dw_cfa.specs.RowWalk.{Walking}
-use Rattle.dw_section.specs.Changes.{Changing}
-use Rattle.dw_section.specs.Inner.Lookup.{LedBy, LedSo}
-use Rattle.dw_section.specs.Opening.{AreChanged}
-use Rattle.dw_section.specs.Table.{Section}
+use Rattle.dw_section.specs.{Changes.Changing, Opening.AreChanged, Table.Section, Inner.Lookup.{LedBy, LedSo}}
 
 -- ---- changes among rows
 

@@ -1,10 +1,7 @@
 -- How the code counts the rows that programs start.
 use Rattle.std.specs.Prelude.{◌≡◌, ℕ, ◌+◌, Bool, false, cond, List, [], ◌∷◌, Result, Ok, Err}
-use Rattle.dw_num.specs.declared.refusal.Refusal.{Refusal}
-use Rattle.dw_num.specs.declared.target.Target.{Target}
-use Rattle.dw_cfa.specs.declared.instr.Instr.{Instr}
-use Rattle.dw_cfa.specs.InstrSpells.{ProgramSpells}
-use Rattle.dw_cfa.specs.Location.{moves_location, row_starts}
+use Rattle.dw_num.specs.declared.{refusal.Refusal.Refusal, target.Target.Target}
+use Rattle.dw_cfa.specs.{InstrSpells.ProgramSpells, Location.{moves_location, row_starts}, declared.instr.Instr.Instr}
 use Rattle.dw_section.specs.declared.listed_fde.FoundFde.{FoundFde}
 
 abbrev pub starts_row : Result Instr Refusal → Bool

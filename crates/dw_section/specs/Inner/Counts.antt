@@ -1,7 +1,6 @@
 -- What the code and its proofs say beside Counts.
 use Rattle.std.specs.Prelude.{◌≡◌, ℕ, ◌+◌, List, length}
-use Rattle.dw_section.specs.Cut.{Piece}
-use Rattle.dw_section.specs.Places.{cie_places}
+use Rattle.dw_section.specs.{Cut.Piece, Places.cie_places}
 
 -- the CIEs among pieces stand at these places, and so many are FDEs
 pub record ArePlaced (ps : List Piece) (at : List ℕ) (fdes : ℕ) : Type 0 where

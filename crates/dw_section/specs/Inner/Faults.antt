@@ -1,7 +1,6 @@
 -- What the code and its proofs say beside Faults.
-use Rattle.dw_section.specs.declared.entry.Part.{Part}
+use Rattle.dw_section.specs.{Cut.{Item, gap, entry}, declared.entry.Part.Part}
 use Rattle.dw_section.specs.declared.entry.Part.TheVariants as parts
-use Rattle.dw_section.specs.Cut.{Item, gap, entry}
 
 -- the item that a part is
 abbrev pub item_of : Part → Item

@@ -1,13 +1,9 @@
 -- Reading the fields of an entry as the code does it: field by field of the table of specs/Fields.antt.
 use Rattle.std.specs.Prelude.{◌≡◌, ℕ, ◌==◌, ◌||◌, Option, Some, None, Result, Ok, Err, position}
-use Rattle.dw_num.specs.declared.refusal.Code.{Code}
-use Rattle.dw_num.specs.declared.refusal.Code.TheVariants.{BadVersion}
-use Rattle.dw_num.specs.declared.refusal.Refusal.{Refusal}
-use Rattle.dw_num.specs.declared.target.Size.{Size}
-use Rattle.dw_num.specs.Input.{Input, behind}
-use Rattle.dw_num.specs.Front.{Read, fault, ◌>>=◌}
-use Rattle.dw_section.specs.declared.fields.CieFields.{CieFields}
+use Rattle.dw_num.specs.{Front.{Read, fault, ◌>>=◌}, Input.{Input, behind}}
+use Rattle.dw_num.specs.declared.{refusal.Code.Code, refusal.Code.TheVariants.BadVersion, refusal.Refusal.Refusal, target.Size.Size}
 use Rattle.dw_section.specs.Fields.{Fields, end, field, empty_string, fixed, number_at, string_fault, unless, sizes, factors}
+use Rattle.dw_section.specs.declared.fields.CieFields.{CieFields}
 
 abbrev pub judged : {X : Type 0} → Option Code → ℕ → Read X → Read X
 judged None at rest = rest

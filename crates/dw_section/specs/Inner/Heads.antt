@@ -1,13 +1,7 @@
 -- What is asked of a section's headers.
-use Rattle.std.specs.Prelude.{◌≡◌, ℕ, ◌+◌, ◌<◌, ◌≤◌, true, List, Option, Some, None}
-use Rattle.std.specs.List.{filter_map}
-use Rattle.dw_num.specs.declared.target.Target.{Target}
-use Rattle.dw_num.specs.Input.{AreBytes}
-use Rattle.dw_num.specs.Span.{Span}
-use Rattle.dw_num.specs.Target.{address_limit}
-use Rattle.dw_section.specs.Inner.Places.{RiseBy}
-use Rattle.dw_section.specs.Fields.{is_among}
-use Rattle.dw_section.specs.Headers.{Head, cie, fde}
+use Rattle.std.specs.{Prelude.{◌≡◌, ℕ, ◌+◌, ◌<◌, ◌≤◌, true, List, Option, Some, None}, List.filter_map}
+use Rattle.dw_num.specs.{Input.AreBytes, Span.Span, Target.address_limit, declared.target.Target.Target}
+use Rattle.dw_section.specs.{Fields.is_among, Headers.{Head, cie, fde}, Inner.Places.RiseBy}
 
 -- the place of an entry
 abbrev pub head_at : Head → ℕ

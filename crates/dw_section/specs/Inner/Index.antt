@@ -1,19 +1,10 @@
 -- What the code keeps of nonempty FDEs.
-use Rattle.std.specs.Prelude.{◌≡◌, ℕ, ◌≤◌, ◌⊎◌, List, map, Option}
-use Rattle.std.specs.List.{AllByRecursion}
-use Rattle.dw_num.specs.declared.target.Form.{Form}
-use Rattle.dw_num.specs.Span.{span_of, input_of}
-use Rattle.dw_section.specs.Inner.Places.{RiseBy}
-use Rattle.dw_section.specs.declared.fde_range.Ranged.{Ranged}
-use Rattle.dw_section.specs.declared.listed_fde.FoundFde.{FoundFde}
-use Rattle.dw_section.specs.Headers.{CieHead, FdeHead, Head, cie, fde}
-use Rattle.dw_section.specs.Overlap.{Range, end_of, nonempty}
-use Rattle.dw_section.specs.Ranges.{IsRanged, range_in}
-use Rattle.dw_section.specs.Programs.{FdeRuns}
-use Rattle.dw_section.specs.Among.{IsAmong}
+use Rattle.std.specs.{Prelude.{◌≡◌, ℕ, ◌≤◌, ◌⊎◌, List, map, Option}, List.AllByRecursion}
+use Rattle.dw_num.specs.{Span.{span_of, input_of}, declared.target.Form.Form, declared.target.Target.Target}
 use Rattle.dw_cfa.specs.RowWalk.{Led}
-use Rattle.dw_section.specs.Inner.Initials.{FirstLacking}
-use Rattle.dw_num.specs.declared.target.Target.{Target}
+use Rattle.dw_section.specs.{Among.IsAmong, Headers.{CieHead, FdeHead, Head, cie, fde}, Overlap.{Range, end_of, nonempty}}
+use Rattle.dw_section.specs.{Programs.FdeRuns, Ranges.{IsRanged, range_in}, declared.fde_range.Ranged.Ranged}
+use Rattle.dw_section.specs.{declared.listed_fde.FoundFde.FoundFde, Inner.Initials.FirstLacking, Inner.Places.RiseBy}
 
 abbrev pub found_head : Form → FoundFde → FdeHead
 found_head form e = record { at = e.at; form = form; cie_at = e.cie_at; begin = e.begin; range = e.range; program = span_of e.program }

@@ -1,27 +1,11 @@
 -- What the code keeps of CIEs, and what it finds out about FDEs.
-use Rattle.std.specs.Prelude.{◌≡◌, ℕ, List, [], ◌∷◌, Bool, true, false, Option, Some, None, map}
-use Rattle.std.specs.List.{AllByRecursion, AllZip, filter_map}
-use Rattle.dw_num.specs.declared.refusal.Code.TheVariants.{NoCfaRule}
-use Rattle.dw_num.specs.declared.target.Form.{Form}
-use Rattle.dw_num.specs.declared.target.Target.{Target}
-use Rattle.dw_num.specs.Span.{span_of, input_of}
-use Rattle.dw_cfa.specs.declared.instr.Instr.{Instr}
-use Rattle.dw_cfa.specs.Behind.{Leaves}
-use Rattle.dw_cfa.specs.CieMachine.{Following}
-use Rattle.dw_cfa.specs.Rows.{Rules}
-use Rattle.dw_section.specs.declared.header.Initial.{Initial}
-use Rattle.dw_section.specs.declared.program.Long.{Long}
-use Rattle.dw_section.specs.declared.program.Runner.{Runner}
-use Rattle.dw_section.specs.Stage.{FirstStuck}
-use Rattle.dw_section.specs.Cut.{Piece}
-use Rattle.dw_section.specs.Headers.{Head, cie, fde, Has, CieHolds}
-use Rattle.dw_section.specs.Places.{cie_places}
-use Rattle.dw_section.specs.declared.entry.Kind.{Kind}
+use Rattle.std.specs.{Prelude.{◌≡◌, ℕ, List, [], ◌∷◌, Bool, true, false, Option, Some, None, map}, List.{AllByRecursion, AllZip, filter_map}}
+use Rattle.dw_num.specs.{Span.{span_of, input_of}, declared.refusal.Code.TheVariants.NoCfaRule, declared.target.Form.Form, declared.target.Target.Target}
+use Rattle.dw_cfa.specs.{Behind.Leaves, CieMachine.Following, Rows.Rules, declared.instr.Instr.Instr}
+use Rattle.dw_section.specs.{Among.IsAmong, Cut.Piece, Headers.{Head, cie, fde, Has, CieHolds}, Places.cie_places, Programs.{CieRuns, HasRules, LacksRule}}
+use Rattle.dw_section.specs.{Stage.FirstStuck, declared.entry.Kind.Kind, declared.header.Initial.Initial, declared.program.Long.Long}
+use Rattle.dw_section.specs.{declared.program.Runner.Runner, Inner.Heads.{head_at, cie_ats}, Inner.PieceHeader.{initial_head, initial_in}}
 use Rattle.dw_section.specs.declared.entry.Kind.TheVariants as kind
-use Rattle.dw_section.specs.Inner.PieceHeader.{initial_head, initial_in}
-use Rattle.dw_section.specs.Inner.Heads.{head_at, cie_ats}
-use Rattle.dw_section.specs.Programs.{CieRuns, HasRules, LacksRule}
-use Rattle.dw_section.specs.Among.{IsAmong}
 
 abbrev pub place_of : Initial → ℕ
 place_of c = c.at

@@ -1,22 +1,10 @@
 -- What the code lists of nonempty FDEs.
 use Rattle.std.specs.Prelude.{◌≡◌, ℕ, ◌+◌, ◌<◌, List, Option, Some, None}
-use Rattle.dw_num.specs.declared.target.Target.{Target}
-use Rattle.dw_num.specs.Span.{span_of, input_of}
-use Rattle.dw_num.specs.Target.{address_limit}
-use Rattle.dw_cfa.specs.RuleAt.{last_at}
-use Rattle.dw_cfa.specs.Rows.{Rules}
-use Rattle.dw_cfa.specs.Runs.{Outcome}
-use Rattle.dw_cfa.specs.RowWalk.{Led}
-use Rattle.dw_cfa.specs.Gives.{Gives}
+use Rattle.dw_num.specs.{Span.{span_of, input_of}, Target.address_limit, declared.target.Target.Target}
+use Rattle.dw_cfa.specs.{Gives.Gives, RowWalk.Led, Rows.Rules, RuleAt.last_at, Runs.Outcome, declared.execution.LocatedRow.LocatedRow}
 use Rattle.dw_cfa.specs.Gives as run
-use Rattle.dw_cfa.specs.declared.execution.LocatedRow.{LocatedRow}
-use Rattle.dw_section.specs.Accepted.{RulesHold}
-use Rattle.dw_section.specs.Headers.{Head}
-use Rattle.dw_section.specs.Inner.Index.{IsFound, NamesCie}
-use Rattle.dw_section.specs.Meaning.{RulesAt}
-use Rattle.dw_section.specs.Table.{Section}
-use Rattle.dw_section.specs.declared.listed_fde.FoundFde.{FoundFde}
-use Rattle.dw_section.specs.declared.lookup.Fde.{Fde}
+use Rattle.dw_section.specs.{Accepted.RulesHold, Headers.Head, Meaning.RulesAt, Table.Section}
+use Rattle.dw_section.specs.{declared.listed_fde.FoundFde.FoundFde, declared.lookup.Fde.Fde, Inner.Index.{IsFound, NamesCie}}
 
 abbrev pub fde_of : FoundFde → Fde
 fde_of e = record { begin = e.begin; end = e.begin + e.range; return_register = e.return_register }

@@ -1,8 +1,6 @@
 -- How a row is narrowed to what all changes specify.
-use Rattle.std.specs.Prelude.{◌≡◌, ℕ, List, Option, Some}
-use Rattle.std.specs.List.{AllByRecursion}
-use Rattle.dw_cfa.specs.Agreement.{kept}
-use Rattle.dw_cfa.specs.Rows.{Rules}
+use Rattle.std.specs.{Prelude.{◌≡◌, ℕ, List, Option, Some}, List.AllByRecursion}
+use Rattle.dw_cfa.specs.{Agreement.kept, Rows.Rules}
 
 -- none of these changes leaves a register Unspecified that a row specifies
 abbrev pub ChangesKeep : Rules → List (ℕ × Rules) → Type 0

@@ -1,7 +1,6 @@
 -- How the code answers the row that an FDE begins with.
 use Rattle.std.specs.Prelude.{ℕ, Option, Some, None}
-use Rattle.dw_cfa.specs.declared.opening.FirstRow.{FirstRow}
-use Rattle.dw_cfa.specs.declared.opening.FirstRow.TheVariants.{Initial, CfaOffset, Other}
+use Rattle.dw_cfa.specs.declared.opening.{FirstRow.FirstRow, FirstRow.TheVariants.{Initial, CfaOffset, Other}}
 use Rattle.dw_section.specs.declared.opening.CieRow.{CieRow}
 
 -- the first row of a program, where the CIE stands at this place

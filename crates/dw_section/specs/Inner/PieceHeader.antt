@@ -1,20 +1,11 @@
 -- Reading the header of a piece as the code does it.
 use Rattle.std.specs.Prelude.{◌≡◌, ℕ, List, Option, Some, None, Result, Ok}
-use Rattle.dw_num.specs.declared.refusal.Refusal.{Refusal}
-use Rattle.dw_num.specs.declared.target.Form.{Form}
-use Rattle.dw_num.specs.declared.target.Target.{Target}
-use Rattle.dw_num.specs.Input.{Input}
-use Rattle.dw_num.specs.Front.{◌>>=◌}
-use Rattle.dw_num.specs.Span.{Span, span_of, input_of}
-use Rattle.dw_section.specs.declared.fields.CieFields.{CieFields}
-use Rattle.dw_section.specs.declared.fields.FdeFields.{FdeFields}
-use Rattle.dw_section.specs.declared.header.FdeEntry.{FdeEntry}
-use Rattle.dw_section.specs.declared.header.Initial.{Initial}
-use Rattle.dw_section.specs.Cut.{Piece}
-use Rattle.dw_section.specs.Fields.{cie_fields, fde_fields}
+use Rattle.dw_num.specs.{Front.{◌>>=◌}, Input.Input, Span.{Span, span_of, input_of}}
+use Rattle.dw_num.specs.declared.{refusal.Refusal.Refusal, target.Form.Form, target.Target.Target}
+use Rattle.dw_section.specs.{Cut.Piece, Fields.{cie_fields, fde_fields}, Headers.{CieHead, Head, Has, cie, fde, cie_head, fde_head}}
+use Rattle.dw_section.specs.declared.{fields.CieFields.CieFields, fields.FdeFields.FdeFields, header.FdeEntry.FdeEntry}
+use Rattle.dw_section.specs.{declared.header.Initial.Initial, Inner.Fields.fields_at}
 use Rattle.dw_section.specs.declared.entry.Kind.TheVariants as kind
-use Rattle.dw_section.specs.Headers.{CieHead, Head, Has, cie, fde, cie_head, fde_head}
-use Rattle.dw_section.specs.Inner.Fields.{fields_at}
 
 abbrev pub contents_of : Target → Piece → Input
 contents_of target p = input_of target p.contents

@@ -1,12 +1,8 @@
 -- What the code and its proofs say beside Pieces.
 use Rattle.std.specs.Prelude.{◌≡◌, ◌+◌, length}
-use Rattle.dw_num.specs.Fixed.{length_bytes}
-use Rattle.dw_num.specs.Input.{Input}
-use Rattle.dw_num.specs.Span.{span_of}
-use Rattle.dw_section.specs.declared.entry.Placed.{Placed}
-use Rattle.dw_section.specs.declared.entry.Part.{Part}
+use Rattle.dw_num.specs.{Fixed.length_bytes, Input.Input, Span.span_of}
+use Rattle.dw_section.specs.{Cut.Piece, declared.entry.Part.Part, declared.entry.Placed.Placed}
 use Rattle.dw_section.specs.declared.entry.Part.TheVariants as parts
-use Rattle.dw_section.specs.Cut.{Piece}
 
 abbrev pub piece_in : Placed → Piece
 piece_in p = record { at = p.at; form = p.form; kind = p.kind; contents = span_of p.contents }

@@ -1,21 +1,13 @@
 -- How the code finds an FDE that stands in bytes.
 use Rattle.std.specs.Prelude.{◌≡◌, ◌⊎◌, ℕ, List}
-use Rattle.dw_num.specs.declared.error.ReadError.{ReadError}
+use Rattle.dw_num.specs.{Span.{span_of, input_of}, declared.error.ReadError.ReadError}
+use Rattle.dw_num.specs.declared.{refusal.Refusal.Refusal, target.Form.Form, target.Target.Target}
 use Rattle.dw_num.specs.declared.error.ReadError.TheVariants as read_error
-use Rattle.dw_num.specs.declared.refusal.Refusal.{Refusal}
-use Rattle.dw_num.specs.declared.target.Form.{Form}
-use Rattle.dw_num.specs.declared.target.Target.{Target}
-use Rattle.dw_num.specs.Span.{span_of, input_of}
 use Rattle.dw_cfa.specs.FaultPlaces.{LiesInProgram}
-use Rattle.dw_section.specs.declared.header.FdeEntry.{FdeEntry}
-use Rattle.dw_section.specs.declared.header.Initial.{Initial}
-use Rattle.dw_section.specs.declared.listed_fde.FoundFde.{FoundFde}
-use Rattle.dw_section.specs.declared.standing_fde.LookUpError.{LookUpError}
-use Rattle.dw_section.specs.declared.standing_fde.LookUpError.TheVariants.{Refused, OutOfMemory}
-use Rattle.dw_section.specs.Headers.{CieHead, FdeHead, cie, fde}
-use Rattle.dw_section.specs.Inner.Index.{found_cie, found_head}
-use Rattle.dw_section.specs.Inner.PieceHeader.{entry_in, initial_in}
-use Rattle.dw_section.specs.StandingFde.{FdeStands}
+use Rattle.dw_section.specs.{Headers.{CieHead, FdeHead, cie, fde}, StandingFde.FdeStands}
+use Rattle.dw_section.specs.declared.{header.FdeEntry.FdeEntry, header.Initial.Initial, listed_fde.FoundFde.FoundFde}
+use Rattle.dw_section.specs.declared.standing_fde.{LookUpError.LookUpError, LookUpError.TheVariants.{Refused, OutOfMemory}}
+use Rattle.dw_section.specs.Inner.{Index.{found_cie, found_head}, PieceHeader.{entry_in, initial_in}}
 
 -- some FDE stands at a place
 abbrev pub StandsAt : Target → List ℕ → ℕ → Type 0

@@ -1,19 +1,9 @@
 -- What the code and its proofs say beside Table.
-use Rattle.std.specs.Prelude.{◌≡◌, ℕ, List, map}
-use Rattle.std.specs.List.{AllByRecursion}
+use Rattle.std.specs.{Prelude.{◌≡◌, ℕ, List, map}, List.AllByRecursion}
 use Rattle.dw_num.specs.declared.target.Target.{Target}
-use Rattle.dw_section.specs.declared.fde_range.Ranged.{Ranged}
-use Rattle.dw_section.specs.declared.entry.EntryCounts.{EntryCounts}
-use Rattle.dw_section.specs.declared.header.Initial.{Initial}
-use Rattle.dw_section.specs.Accepted.{RulesHold}
-use Rattle.dw_section.specs.Counts.{AreCounts}
-use Rattle.dw_section.specs.Cut.{Piece}
-use Rattle.dw_section.specs.Pieces.{Pieces}
-use Rattle.dw_section.specs.Inner.Initials.{AreInitials}
-use Rattle.dw_section.specs.Headers.{Head, Headers}
-use Rattle.dw_section.specs.Inner.Index.{PlacesRise}
-use Rattle.dw_section.specs.Ranges.{IsRanged, range_in}
-use Rattle.dw_section.specs.Overlap.{nonempty}
+use Rattle.dw_section.specs.{Accepted.RulesHold, Counts.AreCounts, Cut.Piece, Headers.{Head, Headers}, Overlap.nonempty, Pieces.Pieces}
+use Rattle.dw_section.specs.{Ranges.{IsRanged, range_in}, declared.entry.EntryCounts.EntryCounts, declared.fde_range.Ranged.Ranged}
+use Rattle.dw_section.specs.{declared.header.Initial.Initial, Inner.Index.PlacesRise, Inner.Initials.AreInitials}
 
 -- these are the nonempty FDEs of a section in order of place
 pub record AreRanges (target : Target) (s : List ℕ) (list : List Ranged) : Type 0 where

@@ -1,8 +1,7 @@
 -- What the code and its proofs say beside Dump.
 use Rattle.std.specs.Prelude.{ℕ, ◌<◌, List, [], ◌∷◌, ◌++◌}
-use Rattle.dw_unwind.specs.declared.fault.DumpCode.{DumpCode}
-use Rattle.dw_unwind.specs.declared.fault.DumpCode.TheVariants.{BadLine, ValueTooLarge, Repeated}
 use Rattle.dw_unwind.specs.Statement.{Statement, DumpItem, Fits, times}
+use Rattle.dw_unwind.specs.declared.fault.{DumpCode.DumpCode, DumpCode.TheVariants.{BadLine, ValueTooLarge, Repeated}}
 
 -- the fault of a statement behind others
 abbrev pub IsWrong : ℕ → List Statement → Statement → DumpCode → Type 0

@@ -1,15 +1,9 @@
 -- What the lines read so far have told.
-use Rattle.std.specs.Prelude.{◌≡◌, ℕ, suc, ◌+◌, ◌<◌, ◌≤◌, List, [], ◌∷◌, ◌++◌, length, Option, MatchOption, ⊤}
-use Rattle.std.specs.List.{AllByRecursion, AllZip}
+use Rattle.std.specs.{Prelude.{◌≡◌, ℕ, suc, ◌+◌, ◌<◌, ◌≤◌, List, [], ◌∷◌, ◌++◌, length, Option, MatchOption, ⊤}, List.{AllByRecursion, AllZip}}
 use Rattle.dw_eval.specs.Registers.{held}
-use Rattle.dw_unwind.specs.declared.fault.DumpCode.{DumpCode}
-use Rattle.dw_unwind.specs.declared.fault.DumpFault.{DumpFault}
-use Rattle.dw_unwind.specs.declared.ranges.Range.{Range}
-use Rattle.dw_unwind.specs.declared.partial_dump.Gathered.{Gathered}
-use Rattle.dw_unwind.specs.Dump.{SaysWithin, IsFaulty}
-use Rattle.dw_unwind.specs.Inner.Dump.{IsWrong}
-use Rattle.dw_unwind.specs.Lines.{lines_of}
-use Rattle.dw_unwind.specs.Statement.{Statement, nothing, counter_is, register_is, memory_is, counter, register, Fits, given, times}
+use Rattle.dw_unwind.specs.{Dump.{SaysWithin, IsFaulty}, Lines.lines_of, Statement.{Statement, nothing, counter_is, register_is}}
+use Rattle.dw_unwind.specs.{Statement.{memory_is, counter, register, Fits, given, times}, declared.fault.DumpCode.DumpCode}
+use Rattle.dw_unwind.specs.{declared.fault.DumpFault.DumpFault, declared.partial_dump.Gathered.Gathered, declared.ranges.Range.Range, Inner.Dump.IsWrong}
 
 -- the ranges of the memory that statements tell, the first of them on a line, their bytes from a place on
 abbrev pub ranges_of : ℕ → ℕ → List Statement → List Range

@@ -1,15 +1,11 @@
 -- What the parts of an unwinding answer, over a memory whose device may fail.
-use Rattle.std.specs.Prelude.{◌≡◌, ◌<◌, ◌≤◌, ℕ, suc, List, [], ◌∷◌, Option, Result, Ok, Err}
-use Rattle.std.specs.List.{AllByRecursion}
-use Rattle.dw_cfa.specs.declared.rule.RegRule.{RegRule}
-use Rattle.dw_cfa.specs.Rows.{Rules, AreSpecified, rule, rule_in}
+use Rattle.std.specs.{Prelude.{◌≡◌, ◌<◌, ◌≤◌, ℕ, suc, List, [], ◌∷◌, Option, Result, Ok, Err}, List.AllByRecursion}
+use Rattle.dw_eval.specs.{Context.Context, declared.policy.Policy.Policy}
 use Rattle.dw_eval.specs.declared.error.Kind.TheVariants as kinds
-use Rattle.dw_eval.specs.Context.{Context}
-use Rattle.dw_eval.specs.declared.policy.Policy.{Policy}
+use Rattle.dw_cfa.specs.{Rows.{Rules, AreSpecified, rule, rule_in}, declared.rule.RegRule.RegRule}
 use Rattle.dw_section.specs.Among.{IsAmong}
-use Rattle.dw_unwind.specs.declared.frame.UnwindError.{UnwindError}
-use Rattle.dw_unwind.specs.declared.frame.UnwindError.TheVariants.{Eval, Device, OutOfMemory}
 use Rattle.dw_unwind.specs.Unwound.{IsListed, IsRegisterEntry, RegistersAre}
+use Rattle.dw_unwind.specs.declared.frame.{UnwindError.UnwindError, UnwindError.TheVariants.{Eval, Device, OutOfMemory}}
 
 -- An answer between two counts of the device's failures. Where the count stays, it is want of memory or what P says; where the
 -- count grew, it is a failure of the device, as Fails says; nothing else is a failure of the device.

@@ -1,6 +1,5 @@
 -- What the code and its proofs say beside Spelling.
-use Rattle.std.specs.Prelude.{◌≡◌, ◌≢◌, ℕ, suc, ◌==◌, if◌then◌else◌, List, [], ◌∷◌, ◌++◌, codes}
-use Rattle.std.specs.List.{AllByRecursion}
+use Rattle.std.specs.{Prelude.{◌≡◌, ◌≢◌, ℕ, suc, ◌==◌, if◌then◌else◌, List, [], ◌∷◌, ◌++◌, codes}, List.AllByRecursion}
 use Rattle.dw_unwind.specs.Spelling.{Hexadecimal}
 
 -- the front of a line of memory

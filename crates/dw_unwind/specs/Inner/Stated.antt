@@ -1,7 +1,6 @@
 -- What the code's statements say.
-use Rattle.dw_unwind.specs.declared.line.Statement.{Statement as Line}
-use Rattle.dw_unwind.specs.declared.line.Statement.TheVariants.{Nothing, Counter, Register, Memory}
 use Rattle.dw_unwind.specs.Statement.{Statement, nothing, counter_is, register_is, memory_is}
+use Rattle.dw_unwind.specs.declared.line.{Statement.{Statement as Line}, Statement.TheVariants.{Nothing, Counter, Register, Memory}}
 
 abbrev pub stated : Line → Statement
 stated Nothing = nothing

@@ -1,11 +1,8 @@
 -- What the code and its proofs say beside CommandLine.
 use Rattle.std.specs.Prelude.{◌≡◌, true, false, List, [], ◌∷◌, Option, Some, None, codes, fold}
-use Rattle.clap.specs.declared.builder.arg.Arg.{Arg}
-use Rattle.clap.specs.declared.builder.command.Command.{Command}
-use Rattle.clap.specs.declared.builder.command.Command.TheViews.{out-Command}
 use Rattle.clap.specs.Words.{App, Rule, Text, app_of, new_app, rule_of, with_rule, with_subcommand}
-use Rattle.dw_words.specs.CommandLine.{dwframe, file, flag, operand, operands, option, program}
-use Rattle.dw_words.specs.declared.request.Name.{Name}
+use Rattle.clap.specs.declared.builder.{arg.Arg.Arg, command.Command.Command, command.Command.TheViews.out-Command}
+use Rattle.dw_words.specs.{CommandLine.{dwframe, file, flag, operand, operands, option, program}, declared.request.Name.Name}
 use Rattle.dw_words.specs.declared.request.Name.TheVariants as names
 
 -- an argument has this rule, and is no global one

@@ -1,23 +1,17 @@
 -- What the code and its proofs say beside Plan: the run of a subcommand with its values, as a function.
-use Rattle.std.specs.Prelude.{◌≡◌, ◌≢◌, ⊤, ℕ, ◌||◌, Bool, true, false, not, List, [], ◌∷◌, Option, Some, None, is_some, codes, slice_get, option_and_then, option_map, if◌then◌else◌, Result, Ok, Err, MatchResult}
-use Rattle.std.specs.Option.{option_map_or}
-use Rattle.std.specs.Str.{bytes_eq}
-use Rattle.clap.specs.declared.error.Error.{Error}
+use Rattle.std.specs.Prelude.{◌≡◌, ◌≢◌, ⊤, ℕ, ◌||◌, Bool, true, false, not, List, [], ◌∷◌, Option, Some, None, is_some, codes, slice_get}
+use Rattle.std.specs.{Prelude.{option_and_then, option_map, if◌then◌else◌, Result, Ok, Err, MatchResult}, Option.option_map_or, Str.bytes_eq}
+use Rattle.clap.specs.{Words.{Row, Text, first_of, kind_of}, declared.error.Error.Error}
 use Rattle.clap.specs.declared.error.ErrorKind.TheVariants as kinds
-use Rattle.clap.specs.Words.{Row, Text, first_of, kind_of}
-use Rattle.dw_num.specs.declared.target.Size.{Size}
-use Rattle.dw_num.specs.declared.target.Target.{Target}
+use Rattle.dw_num.specs.declared.target.{Size.Size, Target.Target}
 use Rattle.dw_op.specs.declared.profile.Profile.{Profile}
 use Rattle.dw_eval.specs.declared.policy.Policy.{Policy}
 use Rattle.dw_words.specs.Plan.{IsBad, Says, is_help, texts_of}
 use Rattle.dw_words.specs.Values.{address, all_read, block_of, cap_of, decimal, default_of, order_of, profile_of, size_of}
-use Rattle.dw_words.specs.declared.request.Job.{Job}
-use Rattle.dw_words.specs.declared.request.Name.{Name}
+use Rattle.dw_words.specs.declared.request.{Job.Job, Name.Name, PlanError.PlanError, Request.Request}
 use Rattle.dw_words.specs.declared.request.Name.TheVariants as names
-use Rattle.dw_words.specs.declared.request.Request.{Request}
-use Rattle.dw_words.specs.declared.request.Request.TheVariants as requests
-use Rattle.dw_words.specs.declared.request.PlanError.{PlanError}
 use Rattle.dw_words.specs.declared.request.PlanError.TheVariants as errors
+use Rattle.dw_words.specs.declared.request.Request.TheVariants as requests
 use Rattle.dw_words.specs.declared.request.Task as declared
 use Rattle.dw_words.specs.declared.request.Task.TheVariants as tasks
 

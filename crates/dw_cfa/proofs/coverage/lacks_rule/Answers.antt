@@ -1,6 +1,5 @@
-use Rattle.dw_cfa.proofs.Words.{◌||◌, [], ◌∷◌, false, ap, sym, ◌∙◌, arith, lacks_from, Outcome, Rules, rows_left, ◌≡◌, ℕ, Bool, true, List, Option, None, refl, Factors, Input, LocatedRow, Machine, Refusal, is_unset, leaves_one, row_then}
-use Rattle.dw_cfa.proofs.Words.{RanTo, here, state_of}
-use Rattle.dw_cfa.proofs.{RunSteps.rows_end, Lent.RunLaws.left_from}
+use Rattle.dw_cfa.proofs.Words.{◌||◌, [], ◌∷◌, false, ap, sym, ◌∙◌, arith, lacks_from, Outcome, Rules, rows_left, ◌≡◌, ℕ, Bool, true, List, Option, None, refl, Factors}
+use Rattle.dw_cfa.proofs.{Words.{Input, LocatedRow, Machine, Refusal, is_unset, leaves_one, row_then, RanTo, here, state_of}, Lent.RunLaws.left_from, RunSteps.rows_end}
 use Rattle.dw_cfa.proofs.coverage.lacks_rule.Goals as goal
 
 or_more : (x y z : Bool) → (x || (y || z)) ≡ ((x || y) || z)

@@ -1,5 +1,4 @@
-use Rattle.dw_cfa.proofs.Words.{ltb-false, ltb-true, sym, ap, ◌∙◌, arith, Outcome}
-use Rattle.dw_cfa.proofs.{RowsTo.{row_passed, stops_above, ends_above}, RunSteps.rows_end, StopsTo.{not_below, refused_here}}
+use Rattle.dw_cfa.proofs.{Words.{ltb-false, ltb-true, sym, ap, ◌∙◌, arith, Outcome}, RowsTo.{row_passed, stops_above, ends_above}, RunSteps.rows_end, StopsTo.{not_below, refused_here}}
 use Rattle.dw_cfa.proofs.execution.run_to.Goals as goal
 
 pub instrs-preserved : goal.instrs-preserved

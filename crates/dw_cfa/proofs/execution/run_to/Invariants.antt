@@ -1,5 +1,4 @@
-use Rattle.dw_cfa.proofs.Words.{◌≡◌, ◌≤◌, length, RunsSo, rows_left, stop_left}
-use Rattle.dw_cfa.proofs.RowsTo.{Passed}
+use Rattle.dw_cfa.proofs.{Words.{◌≡◌, ◌≤◌, length, RunsSo, rows_left, stop_left}, RowsTo.Passed}
 use Rattle.dw_cfa.proofs.execution.run_to.Given as goal
 
 abbrev pub invariant-instrs : goal.invariant-instrs

@@ -1,5 +1,4 @@
-use Rattle.dw_cfa.proofs.Words.{refl, arith, subst, AreBytes}
-use Rattle.dw_cfa.proofs.{RunSteps.initial_read, Turns.{entered, in_limit}}
+use Rattle.dw_cfa.proofs.{Words.{refl, arith, subst, AreBytes}, RunSteps.initial_read, Turns.{entered, in_limit}}
 use Rattle.dw_cfa.proofs.execution.write_one.Goals as goal
 
 pub execute-requires : goal.execute-requires

@@ -1,5 +1,4 @@
-use Rattle.dw_cfa.proofs.Words.{List, sym, ap, subst, ◌∙◌, RegRule, Rules, put, SameUnlisted}
-use Rattle.dw_cfa.proofs.{Lent.RowLists.Entry, Marked.far_copied}
+use Rattle.dw_cfa.proofs.{Words.{List, sym, ap, subst, ◌∙◌, RegRule, Rules, put, SameUnlisted}, Lent.RowLists.Entry, Marked.far_copied}
 use Rattle.dw_cfa.proofs.kept_row.copy_listed.Goals as goal
 
 pub marks-preserved : goal.marks-preserved

@@ -1,7 +1,6 @@
-use Rattle.dw_cfa.proofs.Words.{sym, ◌∙◌, FirstRowIsBegin, OneHolds, OneCount, rule}
-use Rattle.dw_cfa.proofs.{Match.{restores_matched, match_exists}, Lent.FaultPlaces.run_within, Lent.InstrCounts.{counts_exists, one_count}, Lent.Openings.{first_cfa, first_rule}, Lent.SameRows.same_rows}
+use Rattle.dw_cfa.proofs.{Words.{sym, ◌∙◌, FirstRowIsBegin, OneHolds, OneCount, rule}, Lent.FaultPlaces.run_within, Lent.Given.{one_run, refused_where_fault, given_where_kept, given_falls, given_holds}}
+use Rattle.dw_cfa.proofs.{Lent.InstrCounts.{counts_exists, one_count}, Lent.Openings.{first_cfa, first_rule}, Lent.SameRows.same_rows, Match.{restores_matched, match_exists}}
 use Rattle.dw_cfa.proofs.laws.row_laws.Goals as goal
-use Rattle.dw_cfa.proofs.Lent.Given.{one_run, refused_where_fault, given_where_kept, given_falls, given_holds}
 
 one_holds : OneHolds
 one_holds cie fde k row other v w = same_rows row other v.listed w.listed (v.cfa ∙ sym w.cfa) (λ r. v.rules r ∙ sym (w.rules r))

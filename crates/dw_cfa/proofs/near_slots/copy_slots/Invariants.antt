@@ -1,5 +1,4 @@
-use Rattle.dw_cfa.proofs.Words.{◌≡◌, ◌-◌, ◌≤◌, length, SameOutside}
-use Rattle.dw_cfa.proofs.Copied.{SameBelow}
+use Rattle.dw_cfa.proofs.{Words.{◌≡◌, ◌-◌, ◌≤◌, length, SameOutside}, Copied.SameBelow}
 use Rattle.dw_cfa.proofs.near_slots.copy_slots.Given as goal
 
 abbrev pub invariant-slots : goal.invariant-slots

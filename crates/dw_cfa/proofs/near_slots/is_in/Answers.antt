@@ -1,5 +1,4 @@
-use Rattle.dw_cfa.proofs.Words.{◌≡◌, ◌-◌, ◌+◌, ℕ, ap, arith, bit_at, nat_eq, ◌∙◌}
-use Rattle.dw_cfa.proofs.Slots.{high_half, low_half}
+use Rattle.dw_cfa.proofs.{Words.{◌≡◌, ◌-◌, ◌+◌, ℕ, ap, arith, bit_at, nat_eq, ◌∙◌}, Slots.{high_half, low_half}}
 use Rattle.dw_cfa.proofs.near_slots.is_in.Goals as goal
 
 pub returns-then-register-lt64 : goal.returns-then-register-lt64

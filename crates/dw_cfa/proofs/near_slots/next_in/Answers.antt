@@ -1,5 +1,4 @@
-use Rattle.dw_cfa.proofs.Words.{arith}
-use Rattle.dw_cfa.proofs.Slots.{both_halves, first_low}
+use Rattle.dw_cfa.proofs.{Words.arith, Slots.{both_halves, first_low}}
 use Rattle.dw_cfa.proofs.near_slots.next_in.Goals as goal
 
 pub returns-in-Some : goal.returns-in-Some

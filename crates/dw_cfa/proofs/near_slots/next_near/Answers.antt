@@ -1,5 +1,4 @@
-use Rattle.dw_cfa.proofs.Words.{ℕ, Some, None, ap, get_or, subst, FirstBit, no_slot}
-use Rattle.dw_cfa.proofs.Slots.{none_used, next_used}
+use Rattle.dw_cfa.proofs.{Words.{ℕ, Some, None, ap, get_or, subst, FirstBit, no_slot}, Slots.{none_used, next_used}}
 use Rattle.dw_cfa.proofs.near_slots.next_near.Goals as goal
 
 pub returns-in_default : goal.returns-in_default

@@ -1,5 +1,4 @@
-use Rattle.dw_cfa.proofs.Words.{refl, arith}
-use Rattle.dw_cfa.proofs.Turns.{in_limit}
+use Rattle.dw_cfa.proofs.{Words.{refl, arith}, Turns.in_limit}
 use Rattle.dw_cfa.proofs.noted.read_instr.Goals as goal
 
 pub execute-requires : goal.execute-requires

@@ -1,5 +1,4 @@
-use Rattle.dw_cfa.proofs.Words.{sym}
-use Rattle.dw_cfa.proofs.Expressions.{expression_found}
+use Rattle.dw_cfa.proofs.{Words.sym, Expressions.expression_found}
 use Rattle.dw_cfa.proofs.opcode.accept_at.Goals as goal
 
 pub returns-then-known : goal.returns-then-known

@@ -1,5 +1,4 @@
-use Rattle.dw_cfa.proofs.Words.{ap, ◌∙◌, sym, Listing, answers, answers_row}
-use Rattle.dw_cfa.proofs.FirstRows.{answers_first}
+use Rattle.dw_cfa.proofs.{Words.{ap, ◌∙◌, sym, Listing, answers, answers_row}, FirstRows.answers_first}
 use Rattle.dw_cfa.proofs.opening.first_row.Goals as goal
 
 pub returns-then-moves_at_once : goal.returns-then-moves_at_once

@@ -1,5 +1,4 @@
-use Rattle.dw_cfa.proofs.Words.{w64, rules, FitsSigned, to_z-of_z}
-use Rattle.dw_cfa.proofs.FirstRows.{signed_given}
+use Rattle.dw_cfa.proofs.{Words.{w64, rules, FitsSigned, to_z-of_z}, FirstRows.signed_given}
 use Rattle.dw_cfa.proofs.opening.offset_by.Goals as goal
 
 pub returns-then-code-eq19 : goal.returns-then-code-eq19

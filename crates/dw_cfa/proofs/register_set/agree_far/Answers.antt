@@ -1,5 +1,4 @@
-use Rattle.dw_cfa.proofs.Words.{◌∙◌, is_agreed}
-use Rattle.dw_cfa.proofs.RegisterSets.{next_leaves, rest_up}
+use Rattle.dw_cfa.proofs.{Words.{◌∙◌, is_agreed}, RegisterSets.{next_leaves, rest_up}}
 use Rattle.dw_cfa.proofs.register_set.agree_far.Goals as goal
 
 pub registers-preserved : goal.registers-preserved

@@ -1,5 +1,4 @@
-use Rattle.dw_cfa.proofs.Words.{◌≡◌, length, AreSpecified, is_agreed}
-use Rattle.dw_cfa.proofs.RegisterSets.{StillLeaves}
+use Rattle.dw_cfa.proofs.{Words.{◌≡◌, length, AreSpecified, is_agreed}, RegisterSets.StillLeaves}
 use Rattle.dw_cfa.proofs.register_set.agree_far.Given as goal
 
 abbrev pub invariant-registers : goal.invariant-registers

@@ -1,7 +1,5 @@
-use Rattle.dw_cfa.proofs.Words.{ap, arith, err_from_is_err_and, Outcome}
-use Rattle.dw_cfa.proofs.RunSteps.{run_stuck, run_ran}
+use Rattle.dw_cfa.proofs.{Words.{ap, arith, err_from_is_err_and, Outcome}, Lent.Given.refusal_weaker, RunSteps.{run_stuck, run_ran}}
 use Rattle.dw_cfa.proofs.room.run_both.Goals as goal
-use Rattle.dw_cfa.proofs.Lent.Given.{refusal_weaker}
 
 pub returns-in_err-lead : goal.returns-in_err-lead
 returns-in_err-lead c =

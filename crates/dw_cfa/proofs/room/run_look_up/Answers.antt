@@ -1,7 +1,5 @@
-use Rattle.dw_cfa.proofs.Words.{ap, arith, ◌∙◌, None, address_limit, err_from_is_err_and, Outcome, Target, look_up_at}
-use Rattle.dw_cfa.proofs.{LookUps.look_up_ran, RunSteps.run_stuck}
+use Rattle.dw_cfa.proofs.{Words.{ap, arith, ◌∙◌, None, address_limit, err_from_is_err_and, Outcome, Target, look_up_at}, Lent.Given.refusal_weaker, LookUps.look_up_ran, RunSteps.run_stuck}
 use Rattle.dw_cfa.proofs.room.run_look_up.Goals as goal
-use Rattle.dw_cfa.proofs.Lent.Given.{refusal_weaker}
 
 pub returns-in_err-run_initial : goal.returns-in_err-run_initial
 returns-in_err-run_initial c =

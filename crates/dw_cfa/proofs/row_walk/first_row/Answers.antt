@@ -1,5 +1,4 @@
-use Rattle.dw_cfa.proofs.Words.{rules, ap, subst, sym, ◌∙◌, AreBytes, Outcome, Rules, GivesRow, rows_left, progress_after, AllSpecify}
-use Rattle.dw_cfa.proofs.{StaySpecified.{led_keeps, row_behind}, Walks.{led_initial, led_ran, left_any, row_left}}
+use Rattle.dw_cfa.proofs.{Words.{rules, ap, subst, sym, ◌∙◌, AreBytes, Outcome, Rules, GivesRow, rows_left, progress_after, AllSpecify}, StaySpecified.{led_keeps, row_behind}, Walks.{led_initial, led_ran, left_any, row_left}}
 use Rattle.dw_cfa.proofs.row_walk.first_row.Goals as goal
 
 pub ready-requires-clause-runs : goal.ready-requires-clause-runs

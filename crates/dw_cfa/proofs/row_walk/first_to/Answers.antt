@@ -1,6 +1,5 @@
-use Rattle.dw_cfa.proofs.Words.{rules, refl, ap, subst, ◌∙◌, IfOk, AreBytes, Outcome, rows_left, WalkedTo}
-use Rattle.dw_cfa.proofs.{RowsTo.{only_memory, walked}, StaySpecified.led_keeps, Walks.{led_initial, led_ran, row_left}}
 use Rattle.dw_cfa.specs.declared.steps.Progress.TheVariants as progress
+use Rattle.dw_cfa.proofs.{Words.{rules, refl, ap, subst, ◌∙◌, IfOk, AreBytes, Outcome, rows_left, WalkedTo}, RowsTo.{only_memory, walked}, StaySpecified.led_keeps, Walks.{led_initial, led_ran, row_left}}
 use Rattle.dw_cfa.proofs.row_walk.first_to.Goals as goal
 
 pub ready-requires-clause-runs : goal.ready-requires-clause-runs

@@ -1,5 +1,4 @@
-use Rattle.dw_cfa.proofs.Words.{◌≡◌, Ok, subst, Factors, blank, initial_row, placed, program_input}
-use Rattle.dw_cfa.proofs.Walks.{initial_elsewhere}
+use Rattle.dw_cfa.proofs.{Words.{◌≡◌, Ok, subst, Factors, blank, initial_row, placed, program_input}, Walks.initial_elsewhere}
 use Rattle.dw_cfa.proofs.row_walk.leads_same.Goals as goal
 
 pub returns : goal.returns

@@ -1,5 +1,4 @@
-use Rattle.dw_cfa.proofs.Words.{Option, ℕ, List, sym, ap, subst, ◌∙◌, RegRule, Held, BeganWith}
-use Rattle.dw_cfa.proofs.StatesLaws.{began}
+use Rattle.dw_cfa.proofs.{Words.{Option, ℕ, List, sym, ap, subst, ◌∙◌, RegRule, Held, BeganWith}, StatesLaws.began}
 use Rattle.dw_cfa.proofs.row_walk.run_cie.Goals as goal
 
 pub returns-clause-ok : goal.returns-clause-ok

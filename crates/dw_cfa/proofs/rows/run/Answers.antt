@@ -1,6 +1,5 @@
-use Rattle.dw_cfa.proofs.Words.{arith, program_input}
+use Rattle.dw_cfa.proofs.{Words.{arith, program_input}, Lent.Given.run_answers}
 use Rattle.dw_cfa.proofs.rows.run.Goals as goal
-use Rattle.dw_cfa.proofs.Lent.Given.{run_answers}
 
 pub returns : goal.returns
 returns c =

@@ -1,5 +1,4 @@
-use Rattle.dw_cfa.proofs.Words.{arith, refl}
-use Rattle.dw_cfa.proofs.{Difference.{above, none_above, left_differs, right_differs, both_differ, both_same}, Lent.Equal.not_one}
+use Rattle.dw_cfa.proofs.{Words.{arith, refl}, Difference.{above, none_above, left_differs, right_differs, both_differ, both_same}, Lent.Equal.not_one}
 use Rattle.dw_cfa.proofs.tree.first_difference.Goals as goal
 
 pub returns-in_default-next : goal.returns-in_default-next

@@ -1,5 +1,4 @@
-use Rattle.dw_cfa.proofs.Words.{length}
-use Rattle.dw_cfa.proofs.Difference.{BothLeft}
+use Rattle.dw_cfa.proofs.{Words.length, Difference.BothLeft}
 use Rattle.dw_cfa.proofs.tree.first_difference.Given as goal
 
 abbrev pub invariant-rules : goal.invariant-rules

@@ -1,5 +1,4 @@
-use Rattle.dw_cfa.proofs.Words.{◌≡◌, ap, ◌∙◌, Some, None, Option, unwrap_or, option_copied, RegRule, Unspecified}
-use Rattle.dw_cfa.proofs.WideRows.{found_is}
+use Rattle.dw_cfa.proofs.{Words.{◌≡◌, ap, ◌∙◌, Some, None, Option, unwrap_or, option_copied, RegRule, Unspecified}, WideRows.found_is}
 use Rattle.dw_cfa.proofs.tree.rule_in_tree.Goals as goal
 
 pub returns-in-Some : goal.returns-in-Some

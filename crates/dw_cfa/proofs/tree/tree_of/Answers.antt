@@ -1,5 +1,4 @@
-use Rattle.dw_cfa.proofs.Words.{List, ◌++◌, sym, ap, ◌∙◌, nat_cmp, RegRule, insert_entry}
-use Rattle.dw_cfa.proofs.{Lent.RowLists.Entry, WideRows.one_more}
+use Rattle.dw_cfa.proofs.{Words.{List, ◌++◌, sym, ap, ◌∙◌, nat_cmp, RegRule, insert_entry}, Lent.RowLists.Entry, WideRows.one_more}
 use Rattle.dw_cfa.proofs.tree.tree_of.Goals as goal
 
 pub rules-preserved : goal.rules-preserved

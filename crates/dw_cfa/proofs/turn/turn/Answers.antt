@@ -1,5 +1,4 @@
-use Rattle.dw_cfa.proofs.Words.{refl, subst, arith, false, AreBytes, instr_at}
-use Rattle.dw_cfa.proofs.{RunSteps.rows_read, Turns.{stays, turned}}
+use Rattle.dw_cfa.proofs.{Words.{refl, subst, arith, false, AreBytes, instr_at}, RunSteps.rows_read, Turns.{stays, turned}}
 use Rattle.dw_cfa.proofs.turn.turn.Goals as goal
 
 pub execute-requires : goal.execute-requires

@@ -1,5 +1,4 @@
-use Rattle.dw_command.proofs.Words.{◌∙◌, length, refl, sym}
-use Rattle.dw_command.proofs.AddressLines.{none_left, read_all, read_bad, read_more, read_none, some_left}
+use Rattle.dw_command.proofs.{Words.{◌∙◌, length, refl, sym}, AddressLines.{none_left, read_all, read_bad, read_more, read_none, some_left}}
 use Rattle.dw_command.proofs.address_lines.add_lines.Goals as goal
 
 pub loop-rest-init : goal.loop-rest-init

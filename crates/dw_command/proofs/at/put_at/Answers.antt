@@ -1,5 +1,4 @@
-use Rattle.dw_command.proofs.Words.{◌∙◌, Some, None, ap, sym, Fde}
-use Rattle.dw_command.proofs.LookedUp.{ends_low, has_fde, has_row, tells_none, tells_some}
+use Rattle.dw_command.proofs.{Words.{◌∙◌, Some, None, ap, sym, Fde}, LookedUp.{ends_low, has_fde, has_row, tells_none, tells_some}}
 use Rattle.dw_command.proofs.at.put_at.Goals as goal
 
 pub returns-then-not-branch-clause-put : goal.returns-then-not-branch-clause-put

@@ -1,5 +1,4 @@
-use Rattle.dw_command.proofs.Words.{Appends-trans}
-use Rattle.dw_command.proofs.Puts.{on_ok}
+use Rattle.dw_command.proofs.{Words.Appends-trans, Puts.on_ok}
 use Rattle.dw_command.proofs.at.put_found.Goals as goal
 
 pub returns-clause-put : goal.returns-clause-put

@@ -1,5 +1,4 @@
-use Rattle.dw_command.proofs.Words.{Ok, Err, ◌∙◌, ap, inl, inr, refl, err_from_is_err_and, Keeps-refl, lines_in, output_of}
-use Rattle.dw_command.proofs.Endings.{behind_lines, text_at}
+use Rattle.dw_command.proofs.{Words.{Ok, Err, ◌∙◌, ap, inl, inr, refl, err_from_is_err_and, Keeps-refl, lines_in, output_of}, Endings.{behind_lines, text_at}}
 use Rattle.dw_command.proofs.at.run_at.Goals as goal
 
 pub returns-in_err-text : goal.returns-in_err-text

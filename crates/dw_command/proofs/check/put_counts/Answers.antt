@@ -1,5 +1,4 @@
-use Rattle.dw_command.proofs.Words.{◌≡◌, refl, rules, Appends-trans, Appends-kept}
-use Rattle.dw_command.proofs.Puts.{behind_kept}
+use Rattle.dw_command.proofs.{Words.{◌≡◌, refl, rules, Appends-trans, Appends-kept}, Puts.behind_kept}
 use Rattle.dw_command.proofs.check.put_counts.Goals as goal
 
 pub returns : goal.returns

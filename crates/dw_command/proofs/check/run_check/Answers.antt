@@ -1,5 +1,4 @@
-use Rattle.dw_command.proofs.Words.{inl, inr, refl, err_from_is_err_and, Keeps-refl}
-use Rattle.dw_command.proofs.Endings.{counted, lent}
+use Rattle.dw_command.proofs.{Words.{inl, inr, refl, err_from_is_err_and, Keeps-refl}, Endings.{counted, lent}}
 use Rattle.dw_command.proofs.check.run_check.Goals as goal
 
 pub returns-in_err-table : goal.returns-in_err-table

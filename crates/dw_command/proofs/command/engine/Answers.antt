@@ -1,5 +1,4 @@
-use Rattle.dw_command.proofs.Words.{map, rules, string_bytes}
-use Rattle.dw_command.proofs.Loans.{ends, of_loan}
+use Rattle.dw_command.proofs.{Words.{map, rules, string_bytes}, Loans.{ends, of_loan}}
 use Rattle.dw_command.proofs.command.engine.Goals as goal
 
 pub returns-clause-runs : goal.returns-clause-runs

@@ -1,5 +1,4 @@
-use Rattle.dw_command.proofs.Words.{length, AtEnds, Costs, Cuts, EvalEnds, Normalises, OverFile, Prints, ListsFdes, Tallies, UnwindEnds, costs_text, output_of, member_text, counts_text, entry_text, lines}
-use Rattle.dw_command.proofs.Endings.{done}
+use Rattle.dw_command.proofs.{Words.{length, AtEnds, Costs, Cuts, EvalEnds, Normalises, OverFile, Prints, ListsFdes, Tallies, UnwindEnds, costs_text, output_of, member_text, counts_text, entry_text, lines}, Endings.done}
 use Rattle.dw_command.proofs.command.run_job.Goals as goal
 
 pub returns-in-At-clause-ends : goal.returns-in-At-clause-ends

@@ -1,5 +1,4 @@
-use Rattle.dw_command.proofs.Words.{arith}
-use Rattle.dw_command.proofs.Members.{all_counted}
+use Rattle.dw_command.proofs.{Words.arith, Members.all_counted}
 use Rattle.dw_command.proofs.cost.count_all.Goals as goal
 
 pub returns : goal.returns

@@ -1,5 +1,4 @@
-use Rattle.dw_command.proofs.Words.{◌∙◌, ℕ, ◌+◌, ◌<◌, map, length, subst, ap, get_or, take, total, change_count}
-use Rattle.dw_command.proofs.{Members.{as_many, come_all, counted_more, no_member}, TextLines.total_more}
+use Rattle.dw_command.proofs.{Words.{◌∙◌, ℕ, ◌+◌, ◌<◌, map, length, subst, ap, get_or, take, total, change_count}, Members.{as_many, come_all, counted_more, no_member}, TextLines.total_more}
 use Rattle.dw_command.proofs.cost.count_each.Goals as goal
 
 pub loop-place-preserved : goal.loop-place-preserved

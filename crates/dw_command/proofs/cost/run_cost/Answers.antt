@@ -1,6 +1,5 @@
-use Rattle.dw_command.proofs.Words.{Err, inl, inr, refl, err_from_is_err_and, Keeps-refl, output_of}
 use Rattle.dw_num.specs.declared.error.ReadError.TheVariants.{OutOfMemory}
-use Rattle.dw_command.proofs.Endings.{behind_length, lent, loaded}
+use Rattle.dw_command.proofs.{Words.{Err, inl, inr, refl, err_from_is_err_and, Keeps-refl, output_of}, Endings.{behind_length, lent, loaded}}
 use Rattle.dw_command.proofs.cost.run_cost.Goals as goal
 
 pub returns-in_err-len : goal.returns-in_err-len

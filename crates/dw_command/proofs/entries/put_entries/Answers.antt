@@ -1,5 +1,4 @@
-use Rattle.dw_command.proofs.Words.{◌∙◌, List, ℕ, subst, sym, Appends-trans, Adds, entry_text}
-use Rattle.dw_command.proofs.TextLines.{lines_more}
+use Rattle.dw_command.proofs.{Words.{◌∙◌, List, ℕ, subst, sym, Appends-trans, Adds, entry_text}, TextLines.lines_more}
 use Rattle.dw_command.proofs.entries.put_entries.Goals as goal
 
 pub loop-entry-preserved : goal.loop-entry-preserved

@@ -1,5 +1,4 @@
-use Rattle.dw_command.proofs.Words.{inl, inr, refl, err_from_is_err_and, Keeps-refl}
-use Rattle.dw_command.proofs.Endings.{lent, loaded}
+use Rattle.dw_command.proofs.{Words.{inl, inr, refl, err_from_is_err_and, Keeps-refl}, Endings.{lent, loaded}}
 use Rattle.dw_command.proofs.entries.run_entries.Goals as goal
 
 pub returns-in_err-list : goal.returns-in_err-list

@@ -1,5 +1,4 @@
-use Rattle.dw_command.proofs.Words.{Err, inl, inr, refl, err_from_is_err_and, Keeps-refl, output_of}
-use Rattle.dw_command.proofs.Endings.{behind_block, block_refused}
+use Rattle.dw_command.proofs.{Words.{Err, inl, inr, refl, err_from_is_err_and, Keeps-refl, output_of}, Endings.{behind_block, block_refused}}
 use Rattle.dw_command.proofs.eval.run_eval.Goals as goal
 
 pub returns-in_err-list : goal.returns-in_err-list

@@ -1,5 +1,4 @@
-use Rattle.dw_command.proofs.Words.{refl, err_from_is_err_and}
-use Rattle.dw_command.proofs.Endings.{evaluated}
+use Rattle.dw_command.proofs.{Words.{refl, err_from_is_err_and}, Endings.evaluated}
 use Rattle.dw_command.proofs.eval.value_of.Goals as goal
 
 pub returns-in_err-evaluate : goal.returns-in_err-evaluate

@@ -1,5 +1,4 @@
-use Rattle.dw_command.proofs.Words.{◌≡◌, ◌∙◌, ◌++◌, ℕ, List, ap, refl, rules, subst, sym, Appends-kept, Appends-trans, Adds, least_text, numbered}
-use Rattle.dw_command.proofs.OpLines.{numbered_bare}
+use Rattle.dw_command.proofs.{Words.{◌≡◌, ◌∙◌, ◌++◌, ℕ, List, ap, refl, rules, subst, sym, Appends-kept, Appends-trans, Adds, least_text, numbered}, OpLines.numbered_bare}
 use Rattle.dw_command.proofs.expr.put_expression.Goals as goal
 
 pub returns : goal.returns

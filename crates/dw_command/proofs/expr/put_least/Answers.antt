@@ -1,5 +1,4 @@
-use Rattle.dw_command.proofs.Words.{◌∙◌, ℕ, List, subst, sym, Appends-kept, Appends-trans, Adds}
-use Rattle.dw_command.proofs.{HexLines.least_some, Puts.behind_kept}
+use Rattle.dw_command.proofs.{Words.{◌∙◌, ℕ, List, subst, sym, Appends-kept, Appends-trans, Adds}, HexLines.least_some, Puts.behind_kept}
 use Rattle.dw_command.proofs.expr.put_least.Goals as goal
 
 pub returns-clause-put : goal.returns-clause-put

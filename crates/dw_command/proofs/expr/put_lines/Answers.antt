@@ -1,5 +1,4 @@
-use Rattle.dw_command.proofs.Words.{◌≡◌, ◌∙◌, ℕ, suc, ◌+◌, List, ◌++◌, codes, decimal, drop, get_or, subst, arith, drop_more, Op, Addr, op_text, put_so_far, line_end, numbered}
-use Rattle.dw_command.proofs.TextLines.{Leads, leads_on}
+use Rattle.dw_command.proofs.{Words.{◌≡◌, ◌∙◌, ℕ, suc, ◌+◌, List, ◌++◌, codes, decimal, drop, get_or, subst, arith, drop_more, Op, Addr, op_text, put_so_far, line_end, numbered}, TextLines.{Leads, leads_on}}
 use Rattle.dw_command.proofs.expr.put_lines.Goals as goal
 
 pub loop-index-preserved : goal.loop-index-preserved

@@ -1,5 +1,4 @@
-use Rattle.dw_command.proofs.Words.{◌≡◌, drop, put_so_far, numbered}
-use Rattle.dw_command.proofs.TextLines.{Leads}
+use Rattle.dw_command.proofs.{Words.{◌≡◌, drop, put_so_far, numbered}, TextLines.Leads}
 use Rattle.dw_command.proofs.expr.put_lines.Given as goal
 
 abbrev pub invariant-loop-index : goal.invariant-loop-index

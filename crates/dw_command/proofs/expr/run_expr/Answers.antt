@@ -1,6 +1,5 @@
-use Rattle.dw_command.proofs.Words.{ℕ, List, inl, subst, sym, Target}
 use Rattle.dw_op.specs.Least.{LeastBlock}
-use Rattle.dw_command.proofs.Blocks.{is_block, same_target, not_memory}
+use Rattle.dw_command.proofs.{Words.{ℕ, List, inl, subst, sym, Target}, Blocks.{is_block, same_target, not_memory}}
 use Rattle.dw_command.proofs.expr.run_expr.Goals as goal
 
 pub unreachable-requires : goal.unreachable-requires

@@ -1,5 +1,4 @@
-use Rattle.dw_command.proofs.Words.{◌∙◌, ◌%◌, ◌*◌, ◌^◌, ap, ℕ, bit_and, bit_or}
-use Rattle.dw_command.proofs.EightDigits.{eight}
+use Rattle.dw_command.proofs.{Words.{◌∙◌, ◌%◌, ◌*◌, ◌^◌, ap, ℕ, bit_and, bit_or}, EightDigits.eight}
 use Rattle.dw_command.proofs.listing.hex_digits.Goals as goal
 
 pub returns : goal.returns

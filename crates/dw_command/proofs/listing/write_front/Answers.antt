@@ -1,5 +1,4 @@
-use Rattle.dw_command.proofs.Words.{◌-◌, List, ℕ, length, take, drop, ap, arith, subst, length-drop, take_rest, Appends, Appends-trans}
-use Rattle.dw_command.proofs.Pieces.{piece_more}
+use Rattle.dw_command.proofs.{Words.{◌-◌, List, ℕ, length, take, drop, ap, arith, subst, length-drop, take_rest, Appends, Appends-trans}, Pieces.piece_more}
 use Rattle.dw_command.proofs.listing.write_front.Goals as goal
 
 pub writes-preserved : goal.writes-preserved

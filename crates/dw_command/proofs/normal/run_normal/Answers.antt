@@ -1,5 +1,4 @@
-use Rattle.dw_command.proofs.Words.{inl, err_from_is_err_and, output_of}
-use Rattle.dw_command.proofs.Endings.{finished, lent, unwritten}
+use Rattle.dw_command.proofs.{Words.{inl, err_from_is_err_and, output_of}, Endings.{finished, lent, unwritten}}
 use Rattle.dw_command.proofs.normal.run_normal.Goals as goal
 
 pub returns-in_err-normalise_to : goal.returns-in_err-normalise_to

@@ -1,5 +1,4 @@
-use Rattle.dw_command.proofs.Words.{Appends-trans}
-use Rattle.dw_command.proofs.Puts.{behind_kept}
+use Rattle.dw_command.proofs.{Words.Appends-trans, Puts.behind_kept}
 use Rattle.dw_command.proofs.row_text.put_fde.Goals as goal
 
 pub returns-clause-put : goal.returns-clause-put

@@ -1,5 +1,4 @@
-use Rattle.dw_command.proofs.Words.{◌≡◌, ◌≤◌, length, put_so_far, operations_text}
-use Rattle.dw_command.proofs.{OpLines.left_text, TextLines.Leads}
+use Rattle.dw_command.proofs.{Words.{◌≡◌, ◌≤◌, length, put_so_far, operations_text}, OpLines.left_text, TextLines.Leads}
 use Rattle.dw_command.proofs.row_text.put_operations.Given as goal
 
 abbrev pub invariant-loop-op : goal.invariant-loop-op

@@ -1,6 +1,5 @@
-use Rattle.dw_command.proofs.Words.{◌++◌, ◌∙◌, ℕ, List, codes, append_assoc, false, subst, sym, digits, Appends-kept, Appends-trans, Adds, put_so_far, cfa_text, column_text, lines}
 use Rattle.dw_cfa.specs.declared.rule.{CfaRule.CfaRule, RegRule.RegRule}
-use Rattle.dw_command.proofs.{Puts.behind_kept, TextLines.{Leads, leads_to}}
+use Rattle.dw_command.proofs.{Words.{◌++◌, ◌∙◌, ℕ, List, codes, append_assoc, false, subst, sym, digits, Appends-kept, Appends-trans, Adds, put_so_far, cfa_text, column_text, lines}, Puts.behind_kept, TextLines.{Leads, leads_to}}
 use Rattle.dw_command.proofs.row_text.put_row.Goals as goal
 
 pub returns-clause-put : goal.returns-clause-put

@@ -1,5 +1,4 @@
-use Rattle.dw_command.proofs.Words.{◌≡◌, length, put_so_far, column_text, lines}
-use Rattle.dw_command.proofs.TextLines.{Leads}
+use Rattle.dw_command.proofs.{Words.{◌≡◌, length, put_so_far, column_text, lines}, TextLines.Leads}
 use Rattle.dw_command.proofs.row_text.put_row.Given as goal
 
 abbrev pub invariant-columns : goal.invariant-columns

@@ -1,5 +1,4 @@
-use Rattle.dw_command.proofs.Words.{◌≡◌, length, AllByRecursion, put_so_far, row_text, lines}
-use Rattle.dw_command.proofs.{Members.IsLow, TextLines.Leads}
+use Rattle.dw_command.proofs.{Words.{◌≡◌, length, AllByRecursion, put_so_far, row_text, lines}, Members.IsLow, TextLines.Leads}
 use Rattle.dw_command.proofs.rows.put_changes.Given as goal
 
 abbrev pub decreases-changes : goal.decreases-changes

@@ -1,5 +1,4 @@
-use Rattle.dw_command.proofs.Words.{inl, inr, refl, err_from_is_err_and, Keeps-refl}
-use Rattle.dw_command.proofs.{Endings.{lent, loaded}, Members.members_at}
+use Rattle.dw_command.proofs.{Words.{inl, inr, refl, err_from_is_err_and, Keeps-refl}, Endings.{lent, loaded}, Members.members_at}
 use Rattle.dw_command.proofs.rows.run_rows.Goals as goal
 
 pub returns-in_err-table : goal.returns-in_err-table

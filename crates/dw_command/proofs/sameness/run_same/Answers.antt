@@ -1,5 +1,4 @@
-use Rattle.dw_command.proofs.Words.{Ok, Err, inl, inr, refl, err_from_is_err_and, Keeps-refl}
-use Rattle.dw_command.proofs.Endings.{lent, load_before}
+use Rattle.dw_command.proofs.{Words.{Ok, Err, inl, inr, refl, err_from_is_err_and, Keeps-refl}, Endings.{lent, load_before}}
 use Rattle.dw_command.proofs.sameness.run_same.Goals as goal
 
 pub returns-in_err-second-clause-ends : goal.returns-in_err-second-clause-ends

@@ -1,5 +1,4 @@
-use Rattle.dw_command.proofs.Words.{◌≡◌, ◌∙◌, ◌∷◌, ◌++◌, [], ℕ, List, get_or, refl, subst, sym, ap, take, Appends-nil, Appends-trans, encode_lower, Adds, put_so_far}
-use Rattle.dw_command.proofs.{HexLines.{encode_more, encode_none, ok_so}, Puts.behind_kept}
+use Rattle.dw_command.proofs.{Words.{◌≡◌, ◌∙◌, ◌∷◌, ◌++◌, [], ℕ, List, get_or, refl, subst, sym, ap, take, Appends-nil, Appends-trans, encode_lower, Adds, put_so_far}, HexLines.{encode_more, encode_none, ok_so}, Puts.behind_kept}
 use Rattle.dw_command.proofs.texts.put_hex.Goals as goal
 
 pub loop-byte-init : goal.loop-byte-init

@@ -1,5 +1,4 @@
-use Rattle.dw_command.proofs.Words.{inl, refl, err_from_is_err_and}
-use Rattle.dw_command.proofs.Endings.{unwound}
+use Rattle.dw_command.proofs.{Words.{inl, refl, err_from_is_err_and}, Endings.unwound}
 use Rattle.dw_command.proofs.unwind.frame_of.Goals as goal
 
 pub returns-in_err-unwind : goal.returns-in_err-unwind

@@ -1,5 +1,4 @@
-use Rattle.dw_command.proofs.Words.{◌∙◌, List, ℕ, subst, sym, Appends-trans, Adds, register_text}
-use Rattle.dw_command.proofs.TextLines.{lines_more}
+use Rattle.dw_command.proofs.{Words.{◌∙◌, List, ℕ, subst, sym, Appends-trans, Adds, register_text}, TextLines.lines_more}
 use Rattle.dw_command.proofs.unwind.put_registers.Goals as goal
 
 pub loop-register-preserved : goal.loop-register-preserved

@@ -1,5 +1,4 @@
-use Rattle.dw_command.proofs.Words.{Ok, Err, inl, inr, refl, err_from_is_err_and, output_of, Keeps-refl}
-use Rattle.dw_command.proofs.Endings.{behind_files, dump_before}
+use Rattle.dw_command.proofs.{Words.{Ok, Err, inl, inr, refl, err_from_is_err_and, output_of, Keeps-refl}, Endings.{behind_files, dump_before}}
 use Rattle.dw_command.proofs.unwind.run_unwind.Goals as goal
 
 pub returns-in_err-text : goal.returns-in_err-text

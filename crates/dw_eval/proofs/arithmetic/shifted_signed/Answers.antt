@@ -1,5 +1,4 @@
-use Rattle.dw_eval.proofs.Words.{◌≤◌, ◌∙◌, w64, arith, to_z-of_z, bit_count}
-use Rattle.dw_eval.proofs.Signed.{shifted_far}
+use Rattle.dw_eval.proofs.{Words.{◌≤◌, ◌∙◌, w64, arith, to_z-of_z, bit_count}, Signed.shifted_far}
 use Rattle.dw_eval.proofs.arithmetic.shifted_signed.Goals as goal
 
 pub returns-else-t-bit_count : goal.returns-else-t-bit_count

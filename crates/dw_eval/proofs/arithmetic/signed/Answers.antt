@@ -1,5 +1,4 @@
-use Rattle.dw_eval.proofs.Words.{arith}
-use Rattle.dw_eval.proofs.Signed.{signed_half, signed_whole}
+use Rattle.dw_eval.proofs.{Words.arith, Signed.{signed_half, signed_whole}}
 use Rattle.dw_eval.proofs.arithmetic.signed.Goals as goal
 
 pub returns-in-Four : goal.returns-in-Four

@@ -1,5 +1,4 @@
-use Rattle.dw_eval.proofs.Words.{ap, ◌∙◌, arith, err_from_is_err_and, context}
-use Rattle.dw_eval.proofs.ValueLoop.{access_at, value_more, value_stop, value_limit}
+use Rattle.dw_eval.proofs.{Words.{ap, ◌∙◌, arith, err_from_is_err_and, context}, ValueLoop.{access_at, value_more, value_stop, value_limit}}
 use Rattle.dw_eval.proofs.evaluation.run.Goals as goal
 
 pub step-requires-clause-access : goal.step-requires-clause-access

@@ -1,5 +1,4 @@
-use Rattle.dw_eval.proofs.Words.{ap, ◌∙◌, arith, refl, err_from_is_err_and, context, state_of}
-use Rattle.dw_eval.proofs.{ValueLoop.access_at, PlaceLoop.{place_more, place_stop, place_limit}}
+use Rattle.dw_eval.proofs.{Words.{ap, ◌∙◌, arith, refl, err_from_is_err_and, context, state_of}, PlaceLoop.{place_more, place_stop, place_limit}, ValueLoop.access_at}
 use Rattle.dw_eval.proofs.location.run.Goals as goal
 
 pub step-requires-clause-access : goal.step-requires-clause-access

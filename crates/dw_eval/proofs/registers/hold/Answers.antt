@@ -1,5 +1,4 @@
-use Rattle.dw_eval.proofs.Words.{◌≡◌, ℕ, Some, subst, arith, if◌then◌else◌, ◌==◌, any_held}
-use Rattle.dw_eval.proofs.RegisterLaws.{far_put, near_put}
+use Rattle.dw_eval.proofs.{Words.{◌≡◌, ℕ, Some, subst, arith, if◌then◌else◌, ◌==◌, any_held}, RegisterLaws.{far_put, near_put}}
 use Rattle.dw_eval.proofs.registers.hold.Goals as goal
 
 pub returns-then-index-lt-NEAR-clause-held : goal.returns-then-index-lt-NEAR-clause-held

@@ -1,5 +1,4 @@
-use Rattle.dw_library.proofs.Words.{rules, refl, fde_in}
-use Rattle.dw_library.proofs.Changed.{written_more}
+use Rattle.dw_library.proofs.{Words.{rules, refl, fde_in}, Changed.written_more}
 use Rattle.dw_library.proofs.changes.put_change.Goals as goal
 
 pub returns : goal.returns

@@ -1,5 +1,4 @@
-use Rattle.dw_library.proofs.Words.{ℕ, List, ◌∷◌, [], ◌++◌, ◌∙◌, ap, subst, sym, AllByRecursion, append_snoc, Rules, IsLow}
-use Rattle.dw_library.proofs.Changed.{row_shown}
+use Rattle.dw_library.proofs.{Words.{ℕ, List, ◌∷◌, [], ◌++◌, ◌∙◌, ap, subst, sym, AllByRecursion, append_snoc, Rules, IsLow}, Changed.row_shown}
 use Rattle.dw_library.proofs.changes.put_changes.Goals as goal
 
 pub told-preserved : goal.told-preserved

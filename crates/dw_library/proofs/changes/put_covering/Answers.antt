@@ -1,5 +1,4 @@
-use Rattle.dw_library.proofs.Words.{inl, subst, sym, IsAmong, Covers, Fde}
-use Rattle.dw_library.proofs.Changed.{among_get, no_fde}
+use Rattle.dw_library.proofs.{Words.{inl, subst, sym, IsAmong, Covers, Fde}, Changed.{among_get, no_fde}}
 use Rattle.dw_library.proofs.changes.put_covering.Goals as goal
 
 pub returns-in-Ok : goal.returns-in-Ok

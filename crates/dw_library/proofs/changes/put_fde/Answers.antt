@@ -1,8 +1,6 @@
 use Rattle.dw_library.proofs.Words.{◌≡◌, ◌∙◌, ◌<◌, ℕ, List, length, arith, ap, subst, sym, get_or, ChangesOf, Fde, Change, Rule, Fits}
-use Rattle.dw_library.proofs.Changed.{changes_low, entry_is, no_fde, place_low}
-use Rattle.dw_library.proofs.Written.{over_length}
+use Rattle.dw_library.proofs.{Changed.{changes_low, entry_is, no_fde, place_low}, Written.over_length, changes.put_fde.Goals.After-index}
 use Rattle.dw_library.proofs.changes.put_fde.Goals as goal
-use Rattle.dw_library.proofs.changes.put_fde.Goals.{After-index}
 
 inside : (c : After-index) → c.args.fde.place < length c.index.result.now
 inside c =

@@ -1,5 +1,4 @@
-use Rattle.dw_library.proofs.Words.{◌∙◌, Err, refl, sym, held_in}
-use Rattle.dw_library.proofs.Evaluated.{fault_told}
+use Rattle.dw_library.proofs.{Words.{◌∙◌, Err, refl, sym, held_in}, Evaluated.fault_told}
 use Rattle.dw_library.proofs.evaluation.dwframe_evaluate.Goals as goal
 
 pub returns-in-Err-Fault : goal.returns-in-Err-Fault

@@ -1,5 +1,4 @@
-use Rattle.dw_library.proofs.Words.{◌≡◌, ℕ, List, ◌∷◌, ◌++◌, length, subst, RegRule, Block, AreBlocks, expressions_of, in_rule, in_rules}
-use Rattle.dw_library.proofs.JoinedBlocks.{grown, all_there}
+use Rattle.dw_library.proofs.{Words.{◌≡◌, ℕ, List, ◌∷◌, ◌++◌, length, subst, RegRule, Block, AreBlocks, expressions_of, in_rule, in_rules}, JoinedBlocks.{grown, all_there}}
 use Rattle.dw_library.proofs.expressions.gather.Goals as goal
 
 pub loop-register-preserved : goal.loop-register-preserved

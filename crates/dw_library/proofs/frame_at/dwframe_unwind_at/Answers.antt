@@ -1,5 +1,4 @@
-use Rattle.dw_library.proofs.Words.{refl, sym, ◌∙◌, held_in}
-use Rattle.dw_library.proofs.FramesAt.{own_fails}
+use Rattle.dw_library.proofs.{Words.{refl, sym, ◌∙◌, held_in}, FramesAt.own_fails}
 use Rattle.dw_library.proofs.frame_at.dwframe_unwind_at.Goals as goal
 
 pub returns-clause-own : goal.returns-clause-own

@@ -1,5 +1,4 @@
-use Rattle.dw_library.proofs.Words.{refl, held_in}
-use Rattle.dw_library.proofs.FramesAt.{any_told, own_told}
+use Rattle.dw_library.proofs.{Words.{refl, held_in}, FramesAt.{any_told, own_told}}
 use Rattle.dw_library.proofs.frame_at.frame_at.Goals as goal
 
 pub returns-clause-any : goal.returns-clause-any

@@ -1,5 +1,4 @@
-use Rattle.dw_library.proofs.Words.{List, map, [], Some, refl, sym, ap, ◌∙◌, inl, inr, length-map, AreFdes, Fde, rule_of}
-use Rattle.dw_library.proofs.Written.{has_fde, lent_listed, none_covers, rules_there}
+use Rattle.dw_library.proofs.{Words.{List, map, [], Some, refl, sym, ap, ◌∙◌, inl, inr, length-map, AreFdes, Fde, rule_of}, Written.{has_fde, lent_listed, none_covers, rules_there}}
 use Rattle.dw_library.proofs.looks.put_look.Goals as goal
 
 pub returns-in_default-clause-look : goal.returns-in_default-clause-look

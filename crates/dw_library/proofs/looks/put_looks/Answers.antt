@@ -1,5 +1,4 @@
-use Rattle.dw_library.proofs.Words.{refl, arith, rules_in}
-use Rattle.dw_library.proofs.Written.{room_now, wrote_more}
+use Rattle.dw_library.proofs.{Words.{refl, arith, rules_in}, Written.{room_now, wrote_more}}
 use Rattle.dw_library.proofs.looks.put_looks.Goals as goal
 
 pub addresses-preserved : goal.addresses-preserved

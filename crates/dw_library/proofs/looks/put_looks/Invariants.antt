@@ -1,5 +1,4 @@
-use Rattle.dw_library.proofs.Words.{◌≡◌}
-use Rattle.dw_library.proofs.Written.{Wrote}
+use Rattle.dw_library.proofs.{Words.{◌≡◌}, Written.Wrote}
 use Rattle.dw_library.proofs.looks.put_looks.Given as goal
 
 abbrev pub invariant-addresses : goal.invariant-addresses

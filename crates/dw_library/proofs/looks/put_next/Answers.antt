@@ -1,5 +1,4 @@
-use Rattle.dw_library.proofs.Words.{length}
-use Rattle.dw_library.proofs.Written.{left_within, written_left}
+use Rattle.dw_library.proofs.{Words.length, Written.{left_within, written_left}}
 use Rattle.dw_library.proofs.looks.put_next.Goals as goal
 
 pub returns-clause-look : goal.returns-clause-look

@@ -1,5 +1,4 @@
-use Rattle.dw_normal.proofs.Words.{◌-◌, place_behind}
-use Rattle.dw_normal.proofs.Apartness.{SameBelow}
+use Rattle.dw_normal.proofs.{Words.{◌-◌, place_behind}, Apartness.SameBelow}
 use Rattle.dw_normal.proofs.apart.list_differences.Given as goal
 
 abbrev pub invariant-registers : goal.invariant-registers

@@ -1,7 +1,6 @@
 use Rattle.dw_normal.proofs.Words.{get_or, List, map, sym, ap, ◌∙◌, subst, get_or-map, Member, AreMembers, fde_of, members_exist, IsBegun, SharesIn, IsReady, IsShown, Changing, row_or_blank, shown_row, Section, StandsApart, AreSame}
-use Rattle.dw_normal.proofs.{Apartness.{known_behind, still_same}, Filled.{on_ok, where_ok}, Grouped.no_member, Placed.{below, listed_row, listed_some, ready_at, same_row}}
+use Rattle.dw_normal.proofs.{Apartness.{known_behind, still_same}, Filled.{on_ok, where_ok}, Grouped.no_member, Placed.{below, listed_row, listed_some, ready_at, same_row}, begun.begin_fde.Goals.After-list_apart}
 use Rattle.dw_normal.proofs.begun.begin_fde.Goals as goal
-use Rattle.dw_normal.proofs.begun.begin_fde.Goals.{After-list_apart}
 
 pub shared_row-begun-requires-clause-some : goal.shared_row-begun-requires-clause-some
 shared_row-begun-requires-clause-some c = listed_some c.accepted.ensures.bytes c.accepted.ensures.accepted c.requires.rows c.requires.place c.fde-listed.ensures

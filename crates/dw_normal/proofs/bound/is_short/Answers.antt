@@ -1,5 +1,4 @@
-use Rattle.dw_normal.proofs.Words.{ℕ, ◌+◌, ◌<◌, length, take, refl, sym, subst, arith, Fde, Shares}
-use Rattle.dw_normal.proofs.Short.{next_share, short_enough}
+use Rattle.dw_normal.proofs.{Words.{ℕ, ◌+◌, ◌<◌, length, take, refl, sym, subst, arith, Fde, Shares}, Short.{next_share, short_enough}}
 use Rattle.dw_normal.proofs.bound.is_short.Goals as goal
 
 pub returns : goal.returns

@@ -1,5 +1,4 @@
-use Rattle.dw_normal.proofs.Words.{◌≡◌, ◌++◌, ◌-◌, length, replicate, fixed_bytes, length-fixed, fde_instrs, initial_of, program_bytes, fde, contents, missing}
-use Rattle.dw_normal.proofs.Filled.{fde_filled, on_ok}
+use Rattle.dw_normal.proofs.{Words.{◌≡◌, ◌++◌, ◌-◌, length, replicate, fixed_bytes, length-fixed, fde_instrs, initial_of, program_bytes, fde, contents, missing}, Filled.{fde_filled, on_ok}}
 use Rattle.dw_normal.proofs.contents.fill_fde.Goals as goal
 
 pub returns-clause-contents : goal.returns-clause-contents

@@ -1,8 +1,7 @@
-use Rattle.dw_normal.proofs.Words.{◌≡◌, ℕ, ◌+◌, ◌++◌, ◌-◌, ◌<◌, List, get_or, Option, refl, sym, ap, ◌∙◌, subst, IsSome, fixed_bytes, Target, address_limit, fde_instrs, initial_of, program_bytes, fde, contents, Member, AreMembers}
-use Rattle.dw_normal.proofs.Words.{members_exist, IsReady, fde_with}
-use Rattle.dw_normal.proofs.{Filled.on_ok, Grouped.no_member, Located.{Located, has_place, place_fits, place_own, begin_fits, begins_below, range_fits}, Placed.below}
+use Rattle.dw_normal.proofs.Words.{◌≡◌, ℕ, ◌+◌, ◌++◌, ◌-◌, ◌<◌, List, get_or, Option, refl, sym, ap, ◌∙◌, subst, IsSome, fixed_bytes, Target, address_limit, fde_instrs}
+use Rattle.dw_normal.proofs.{Words.{initial_of, program_bytes, fde, contents, Member, AreMembers, members_exist, IsReady, fde_with}, Filled.on_ok, Grouped.no_member}
+use Rattle.dw_normal.proofs.{Located.{Located, has_place, place_fits, place_own, begin_fits, begins_below, range_fits}, Placed.below, entry.fill_fde_at.Goals.In_ok-begin_fde}
 use Rattle.dw_normal.proofs.entry.fill_fde_at.Goals as goal
-use Rattle.dw_normal.proofs.entry.fill_fde_at.Goals.{In_ok-begin_fde}
 
 -- the FDE is located among the members of the table
 abbrev LocatedIn : In_ok-begin_fde → List Member → Member → Type 0

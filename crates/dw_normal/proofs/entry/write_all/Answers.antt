@@ -1,5 +1,4 @@
-use Rattle.dw_normal.proofs.Words.{ℕ, ◌<◌, ◌-◌, sym, subst, ◌^◌, members_exist}
-use Rattle.dw_normal.proofs.{Entries.{fde_counted, fdes_fail, fdes_next, fdes_end}, Joined.put_so}
+use Rattle.dw_normal.proofs.{Words.{ℕ, ◌<◌, ◌-◌, sym, subst, ◌^◌, members_exist}, Entries.{fde_counted, fdes_fail, fdes_next, fdes_end}, Joined.put_so}
 use Rattle.dw_normal.proofs.entry.write_all.Goals as goal
 
 pub write_fde-put-requires-clause-room : goal.write_fde-put-requires-clause-room

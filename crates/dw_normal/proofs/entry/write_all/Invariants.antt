@@ -1,6 +1,5 @@
-use Rattle.dw_normal.proofs.Words.{◌≡◌, SharesIn}
 use Rattle.dw_normal.specs.Inner.Writing.{StandsIn}
-use Rattle.dw_normal.proofs.Entries.{FdesPut}
+use Rattle.dw_normal.proofs.{Words.{◌≡◌, SharesIn}, Entries.FdesPut}
 use Rattle.dw_normal.proofs.entry.write_all.Given as goal
 
 abbrev pub invariant-fdes : goal.invariant-fdes

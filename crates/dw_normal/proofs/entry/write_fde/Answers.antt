@@ -1,9 +1,8 @@
-use Rattle.dw_normal.proofs.Words.{◌≡◌, ◌++◌, ◌<◌, ◌≤◌, length, get_or, sym, ap, ◌∙◌, subst, fixed_bytes, ◌^◌, Target, contents, entry_bytes, members_exist, fde_with, Puts}
 use Rattle.dw_num.specs.declared.target.Form.TheVariants.{Dwarf32}
 use Rattle.dw_section.specs.Cut.{entry, item_bytes}
-use Rattle.dw_normal.proofs.{Grouped.no_member, Joined.{ok_of, none_put}, Located.contents_low, Placed.below}
+use Rattle.dw_normal.proofs.Words.{◌≡◌, ◌++◌, ◌<◌, ◌≤◌, length, get_or, sym, ap, ◌∙◌, subst, fixed_bytes, ◌^◌, Target, contents, entry_bytes, members_exist, fde_with, Puts}
+use Rattle.dw_normal.proofs.{Grouped.no_member, Joined.{ok_of, none_put}, Located.contents_low, Placed.below, entry.write_fde.Given.Over, entry.write_fde.Goals.After-target}
 use Rattle.dw_normal.proofs.entry.write_fde.Goals as goal
-use Rattle.dw_normal.proofs.entry.write_fde.{Given.Over, Goals.After-target}
 
 low : (g : Over) (c : After-target g) → (4 ≤ length c.fill_fde_at.new.out.items) × (length c.fill_fde_at.new.out.items < 2 ^ 32)
 low g c =

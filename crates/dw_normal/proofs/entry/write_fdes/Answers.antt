@@ -1,5 +1,4 @@
-use Rattle.dw_normal.proofs.Words.{ℕ, Option, refl, sym, subst, ◌∙◌, arith, IsSome, Appends-nil}
-use Rattle.dw_normal.proofs.{Placed.as_many, Sited.is_placed, Summed.none_bytes}
+use Rattle.dw_normal.proofs.{Words.{ℕ, Option, refl, sym, subst, ◌∙◌, arith, IsSome, Appends-nil}, Placed.as_many, Sited.is_placed, Summed.none_bytes}
 use Rattle.dw_normal.proofs.entry.write_fdes.Goals as goal
 
 pub index-cie_at-requires : goal.index-cie_at-requires

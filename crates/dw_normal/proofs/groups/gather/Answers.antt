@@ -1,5 +1,4 @@
-use Rattle.dw_normal.proofs.Words.{◌<◌, ◌∙◌, ap, length, map, subst, arith, Bool, IsTrue, length-map, take_all, Fde, fde_of, initial_rows}
-use Rattle.dw_normal.proofs.{Grouped.{no_member, rows_more}, Short.{share_added, short_where}}
+use Rattle.dw_normal.proofs.{Words.{◌<◌, ◌∙◌, ap, length, map, subst, arith, Bool, IsTrue, length-map, take_all, Fde, fde_of, initial_rows}, Grouped.{no_member, rows_more}, Short.{share_added, short_where}}
 use Rattle.dw_normal.proofs.groups.gather.Goals as goal
 
 pub fdes-preserved : goal.fdes-preserved

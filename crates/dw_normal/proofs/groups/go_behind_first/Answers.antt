@@ -1,5 +1,4 @@
-use Rattle.dw_normal.proofs.Words.{◌≡◌, ◌<◌, Some, map, sym, ap, ◌∙◌, subst, ℕ, length-map, members_exist, fde_of, get_or, IsShown, row_or_blank}
-use Rattle.dw_normal.proofs.{ChangesToCome.behind, Filled.on_ok, Grouped.no_member, KnownCies.stands_behind}
+use Rattle.dw_normal.proofs.{Words.{◌≡◌, ◌<◌, Some, map, sym, ap, ◌∙◌, subst, ℕ, length-map, members_exist, fde_of, get_or, IsShown, row_or_blank}, ChangesToCome.behind, Filled.on_ok, Grouped.no_member, KnownCies.stands_behind}
 use Rattle.dw_normal.proofs.groups.go_behind_first.Goals as goal
 
 pub returns-clause-behind : goal.returns-clause-behind

@@ -1,5 +1,4 @@
-use Rattle.dw_normal.proofs.Words.{◌≡◌, ◌<◌, ℕ, List, map, get_or, length, sym, ap, ◌∙◌, subst, IfSome, get_or-map, length-map, Fde, OpensBehind, Member, AreMembers, fde_of, HasJoined}
-use Rattle.dw_normal.proofs.Again.{joined_is, then_joined}
+use Rattle.dw_normal.proofs.{Words.{◌≡◌, ◌<◌, ℕ, List, map, get_or, length, sym, ap, ◌∙◌, subst, IfSome, get_or-map, length-map, Fde, OpensBehind, Member, AreMembers, fde_of, HasJoined}, Again.{joined_is, then_joined}}
 use Rattle.dw_normal.proofs.groups.join_fde.Goals as goal
 
 pub returns-then-is_joined-clause-rows : goal.returns-then-is_joined-clause-rows

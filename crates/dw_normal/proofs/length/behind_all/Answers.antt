@@ -1,5 +1,4 @@
-use Rattle.dw_normal.proofs.Words.{◌<◌, length, arith, take_all, members_exist}
-use Rattle.dw_normal.proofs.{Grouped.no_member, Placed.as_many, Summed.{fdes_more, fdes_over}}
+use Rattle.dw_normal.proofs.{Words.{◌<◌, length, arith, take_all, members_exist}, Grouped.no_member, Placed.as_many, Summed.{fdes_more, fdes_over}}
 use Rattle.dw_normal.proofs.length.behind_all.Goals as goal
 
 pub behind_member-requires-clause-room : goal.behind_member-requires-clause-room

@@ -1,5 +1,4 @@
-use Rattle.dw_normal.proofs.Words.{ap, length, arith}
-use Rattle.dw_normal.proofs.{Placed.as_many, Summed.none_bytes}
+use Rattle.dw_normal.proofs.{Words.{ap, length, arith}, Placed.as_many, Summed.none_bytes}
 use Rattle.dw_normal.proofs.length.behind_fdes.Goals as goal
 
 pub returns-then-count-eq0 : goal.returns-then-count-eq0

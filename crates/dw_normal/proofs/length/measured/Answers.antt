@@ -1,5 +1,4 @@
-use Rattle.dw_normal.proofs.Words.{arith, members_exist}
-use Rattle.dw_normal.proofs.{Placed.rows_fit, Summed.{over_cies, over_fdes, within}}
+use Rattle.dw_normal.proofs.{Words.{arith, members_exist}, Placed.rows_fit, Summed.{over_cies, over_fdes, within}}
 use Rattle.dw_normal.proofs.length.measured.Goals as goal
 
 pub behind_cies-requires : goal.behind_cies-requires

@@ -1,7 +1,5 @@
-use Rattle.dw_normal.proofs.Words.{Some, ap, sym, subst, ◌∙◌, Registers, StandsBy}
-use Rattle.dw_normal.proofs.TwinRows.{are_beside, sets_hold}
+use Rattle.dw_normal.proofs.{Words.{Some, ap, sym, subst, ◌∙◌, Registers, StandsBy}, TwinRows.{are_beside, sets_hold}, likeness.same_behind_cies.Goals.After-take-twin}
 use Rattle.dw_normal.proofs.likeness.same_behind_cies.Goals as goal
-use Rattle.dw_normal.proofs.likeness.same_behind_cies.Goals.{After-take-twin}
 
 stands : (c : After-take-twin) → StandsBy c.args.first.now c.take-twin.new.self.changed c.args.cie_at
 stands c = subst (λ (set : Registers). StandsBy c.args.first.now set c.args.cie_at) (sym c.take-twin.ensures.same.0) c.requires.stands

@@ -1,7 +1,6 @@
-use Rattle.dw_normal.proofs.Words.{AllocError, refl, sym, ◌∙◌, shown_row}
-use Rattle.dw_normal.proofs.{Alike.{untrue, not_so, too_short, ends, same_address, same_shown, beside_more}, ChangesToCome.{Given, given, none_given}}
+use Rattle.dw_normal.proofs.{Words.{AllocError, refl, sym, ◌∙◌, shown_row}, Alike.{untrue, not_so, too_short, ends, same_address, same_shown, beside_more}}
+use Rattle.dw_normal.proofs.{ChangesToCome.{Given, given, none_given}, likeness.same_later.Goals.{In-Some, In-Some-2}}
 use Rattle.dw_normal.proofs.likeness.same_later.Goals as goal
-use Rattle.dw_normal.proofs.likeness.same_later.Goals.{In-Some, In-Some-2}
 
 one : (c : In-Some) → Given c.changes.first c.advance.new.self c.in-Some.address
 one c = given AllocError c.changes.first c.advance.new.self c.in_ok-address.field-0 c.in-Some.address c.in_ok-address.ensures.gives c.in-Some.is

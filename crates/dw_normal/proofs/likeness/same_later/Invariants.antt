@@ -1,5 +1,4 @@
-use Rattle.dw_normal.proofs.Words.{◌≡◌, length, Some, Rules}
-use Rattle.dw_normal.proofs.Alike.{Beside}
+use Rattle.dw_normal.proofs.{Words.{◌≡◌, length, Some, Rules}, Alike.Beside}
 use Rattle.dw_normal.proofs.likeness.same_later.Given as goal
 
 abbrev pub invariant-changes : goal.invariant-changes

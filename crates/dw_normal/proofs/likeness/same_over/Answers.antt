@@ -1,5 +1,4 @@
-use Rattle.dw_normal.proofs.Words.{◌≡◌, ◌<◌, List, length, get_or, ap, refl, arith, take_more_same, Member}
-use Rattle.dw_normal.proofs.{Alike.{not_so, apart, all_same}, Grouped.no_member, Placed.as_many}
+use Rattle.dw_normal.proofs.{Words.{◌≡◌, ◌<◌, List, length, get_or, ap, refl, arith, take_more_same, Member}, Alike.{not_so, apart, all_same}, Grouped.no_member, Placed.as_many}
 use Rattle.dw_normal.proofs.likeness.same_over.Goals as goal
 
 pub fdes-init : goal.fdes-init

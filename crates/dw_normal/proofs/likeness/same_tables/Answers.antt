@@ -1,5 +1,4 @@
-use Rattle.dw_normal.proofs.Words.{◌≡◌, ◌∙◌, ap, sym, arith, length, Changing}
-use Rattle.dw_normal.proofs.{Alike.not_so, Placed.as_many}
+use Rattle.dw_normal.proofs.{Words.{◌≡◌, ◌∙◌, ap, sym, arith, length, Changing}, Alike.not_so, Placed.as_many}
 use Rattle.dw_normal.proofs.likeness.same_tables.Goals as goal
 
 pub returns-then-fde_count-count : goal.returns-then-fde_count-count

@@ -1,5 +1,4 @@
-use Rattle.dw_normal.proofs.Words.{sym, subst, Target, FitsCap}
-use Rattle.dw_normal.proofs.Reports.{is_within, second_too_long, tables_decided}
+use Rattle.dw_normal.proofs.{Words.{sym, subst, Target, FitsCap}, Reports.{is_within, second_too_long, tables_decided}}
 use Rattle.dw_normal.proofs.normal.compared.Goals as goal
 
 pub returns-in-Err-short_table-clause-refused : goal.returns-in-Err-short_table-clause-refused

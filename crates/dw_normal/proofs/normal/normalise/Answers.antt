@@ -1,7 +1,5 @@
-use Rattle.dw_normal.proofs.Words.{Some, Refuses, NormalFault}
-use Rattle.dw_normal.proofs.{Reports.{tape_only, tape_fault, only_memory, only_long}, FaultPlaces.refused_within}
+use Rattle.dw_normal.proofs.{Words.{Some, Refuses, NormalFault}, FaultPlaces.refused_within, Reports.{tape_only, tape_fault, only_memory, only_long}, normal.normalise.Goals.After-unread}
 use Rattle.dw_normal.proofs.normal.normalise.Goals as goal
-use Rattle.dw_normal.proofs.normal.normalise.Goals.{After-unread}
 
 refused : (c : After-unread) → Refuses (NormalFault c.args.target c.args.cap c.args.bytes.now) c.unread.result
 refused c =

@@ -1,5 +1,4 @@
-use Rattle.dw_normal.proofs.Words.{First, Second}
-use Rattle.dw_normal.proofs.{Reports.{first_fault, second_fault, blamed_only, both_within, compared_only}, FaultPlaces.{first_within, lengths_within, second_within}}
+use Rattle.dw_normal.proofs.{Words.{First, Second}, FaultPlaces.{first_within, lengths_within, second_within}, Reports.{first_fault, second_fault, blamed_only, both_within, compared_only}}
 use Rattle.dw_normal.proofs.normal.same.Goals as goal
 
 pub returns-in-Err-clause-only : goal.returns-in-Err-clause-only

@@ -1,5 +1,4 @@
-use Rattle.dw_normal.proofs.Words.{refl}
-use Rattle.dw_normal.proofs.Reports.{is_within}
+use Rattle.dw_normal.proofs.{Words.refl, Reports.is_within}
 use Rattle.dw_normal.proofs.normal.same_as_itself.Goals as goal
 
 pub returns-in-Ok-clause-found : goal.returns-in-Ok-clause-found

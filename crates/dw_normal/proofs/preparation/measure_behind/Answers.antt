@@ -1,5 +1,4 @@
-use Rattle.dw_normal.proofs.Words.{refl}
-use Rattle.dw_normal.proofs.Reports.{is_measured, is_too_long}
+use Rattle.dw_normal.proofs.{Words.refl, Reports.{is_measured, is_too_long}}
 use Rattle.dw_normal.proofs.preparation.measure_behind.Goals as goal
 
 pub returns-in-Ok-Some-clause-found : goal.returns-in-Ok-Some-clause-found

@@ -1,5 +1,4 @@
-use Rattle.dw_normal.proofs.Words.{◌≡◌, ◌++◌, ◌∙◌, difference, program_bytes, rules_from}
-use Rattle.dw_normal.proofs.{Filled.on_ok, RulesLeft.{rules_fit, put_behind}}
+use Rattle.dw_normal.proofs.{Words.{◌≡◌, ◌++◌, ◌∙◌, difference, program_bytes, rules_from}, Filled.on_ok, RulesLeft.{rules_fit, put_behind}}
 use Rattle.dw_normal.proofs.program.push_difference.Goals as goal
 
 pub push_rules-requires : goal.push_rules-requires

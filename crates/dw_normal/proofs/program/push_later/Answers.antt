@@ -1,7 +1,6 @@
 use Rattle.dw_normal.proofs.Words.{AllocError, ◌≡◌, ℕ, List, ◌++◌, sym, ap, ◌∙◌, subst, AllByRecursion, append-nil, Rules, difference, InstrFits, program_bytes, row_or_blank, shown_row}
-use Rattle.dw_normal.proofs.{ChangesToCome.{Given, given, none_given}, Passes.{none_later, shown_before, some_before, step_up, step_fits, step_stand, step_written}}
+use Rattle.dw_normal.proofs.{ChangesToCome.{Given, given, none_given}, Passes.{none_later, shown_before, some_before, step_up, step_fits, step_stand, step_written}, program.push_later.Goals.In-Some}
 use Rattle.dw_normal.proofs.program.push_later.Goals as goal
-use Rattle.dw_normal.proofs.program.push_later.Goals.{In-Some}
 
 next : (c : In-Some) → Given c.changes.changes c.advance.new.self c.in-Some.address
 next c = given AllocError c.changes.changes c.advance.new.self c.in_ok-address.field-0 c.in-Some.address c.in_ok-address.ensures.gives c.in-Some.is

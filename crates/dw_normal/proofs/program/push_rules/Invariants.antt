@@ -1,5 +1,4 @@
-use Rattle.dw_normal.proofs.Words.{length, place_behind, rules_from}
-use Rattle.dw_normal.proofs.RulesLeft.{PutBefore}
+use Rattle.dw_normal.proofs.{Words.{length, place_behind, rules_from}, RulesLeft.PutBefore}
 use Rattle.dw_normal.proofs.program.push_rules.Given as goal
 
 abbrev pub invariant-registers : goal.invariant-registers

@@ -1,5 +1,4 @@
-use Rattle.dw_normal.proofs.Words.{ℕ, length, Option, subst, difference, program_bytes, Leaves, shown_row}
-use Rattle.dw_normal.proofs.Measured.{first_over}
+use Rattle.dw_normal.proofs.{Words.{ℕ, length, Option, subst, difference, program_bytes, Leaves, shown_row}, Measured.first_over}
 use Rattle.dw_normal.proofs.room.behind_fde.Goals as goal
 
 pub returns-in_default-clause-leaves : goal.returns-in_default-clause-leaves

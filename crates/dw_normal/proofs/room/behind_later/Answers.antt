@@ -1,7 +1,6 @@
 use Rattle.dw_normal.proofs.Words.{AllocError, ◌≡◌, ◌+◌, ◌++◌, length, sym, ap, ◌∙◌, subst, arith, AllByRecursion, Rules, difference, InstrFits, instr_bytes, program_bytes, row_or_blank, shown_row, move}
-use Rattle.dw_normal.proofs.{Measured.two_long, ChangesToCome.{Given, given, none_given}, Passes.{none_later, shown_before, some_before, step_up, step_fits, step_stand, step_long}}
+use Rattle.dw_normal.proofs.{ChangesToCome.{Given, given, none_given}, Measured.two_long, Passes.{none_later, shown_before, some_before, step_up, step_fits, step_stand, step_long}, room.behind_later.Goals.{After-behind, In-Some}}
 use Rattle.dw_normal.proofs.room.behind_later.Goals as goal
-use Rattle.dw_normal.proofs.room.behind_later.Goals.{After-behind, In-Some}
 
 next : (c : In-Some) → Given c.changes.changes c.advance.new.self c.in-Some.address
 next c = given AllocError c.changes.changes c.advance.new.self c.in_ok-address.field-0 c.in-Some.address c.in_ok-address.ensures.gives c.in-Some.is

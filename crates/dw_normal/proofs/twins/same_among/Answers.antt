@@ -1,5 +1,4 @@
-use Rattle.dw_normal.proofs.Words.{refl, sym, ◌∙◌}
-use Rattle.dw_normal.proofs.TwinRows.{one_row}
+use Rattle.dw_normal.proofs.{Words.{refl, sym, ◌∙◌}, TwinRows.one_row}
 use Rattle.dw_normal.proofs.twins.same_among.Goals as goal
 
 pub returns-then-is_same : goal.returns-then-is_same

@@ -1,6 +1,5 @@
-use Rattle.dw_num.proofs.Words.{Ok, Err, refl, ◌∙◌, sym, arith, Input, Read}
 use Rattle.dw_num.specs.Laws.{IsRest, StaysIn, ReadsStay, OneUleb, OneSleb, ShortestUleb, ShortestSleb}
-use Rattle.dw_num.proofs.Lent.Shortest.{appends_uleb, appends_sleb, puts_uleb, puts_sleb}
+use Rattle.dw_num.proofs.{Words.{Ok, Err, refl, ◌∙◌, sym, arith, Input, Read}, Lent.Shortest.{appends_uleb, appends_sleb, puts_uleb, puts_sleb}}
 use Rattle.dw_num.proofs.Lent.Stays.{Stays, take_stays, fixed_stays, address_stays, unit_length_stays, uleb_stays, sleb_stays, register_stays}
 use Rattle.dw_num.proofs.laws.number_laws.Goals as goal
 

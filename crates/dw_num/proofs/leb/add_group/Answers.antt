@@ -1,7 +1,6 @@
-use Rattle.dw_num.proofs.Words.{arith, ◌+◌, ◌≡◌, ◌*◌, ◌^◌, ◌%◌, inl, inr}
-use Rattle.dw_num.proofs.LebLemmas.{far_group, ninth_group, group_shifted, ninth_shifted, total_of}
-use Rattle.dw_num.proofs.leb.add_group.Goals as goal
+use Rattle.dw_num.proofs.{Words.{arith, ◌+◌, ◌≡◌, ◌*◌, ◌^◌, ◌%◌, inl, inr}, LebLemmas.{far_group, ninth_group, group_shifted, ninth_shifted, total_of}}
 use Rattle.dw_num.proofs.leb.add_group.Goals.{then-place-gt-TOP_PLACE-via-then-place-gt-TOP_PLACE, then-place-gt-TOP_PLACE-via-else-place-gt-TOP_PLACE+then-group-gt-TOP_GROUP}
+use Rattle.dw_num.proofs.leb.add_group.Goals as goal
 
 pub returns-then-place-gt-TOP_PLACE : goal.returns-then-place-gt-TOP_PLACE
 returns-then-place-gt-TOP_PLACE c = elim c.then-place-gt-TOP_PLACE.branch [

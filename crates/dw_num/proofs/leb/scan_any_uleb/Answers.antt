@@ -1,7 +1,5 @@
-use Rattle.dw_num.proofs.Words.{arith, ◌+◌, ◌*◌, ◌^◌, ◌%◌}
-use Rattle.dw_num.proofs.LebLemmas.{leb_len-more, leb_len-last, Grows, grows}
+use Rattle.dw_num.proofs.{Words.{arith, ◌+◌, ◌*◌, ◌^◌, ◌%◌}, LebLemmas.{leb_len-more, leb_len-last, Grows, grows}, leb.scan_any_uleb.Goals.After-from}
 use Rattle.dw_num.proofs.leb.scan_any_uleb.Goals as goal
-use Rattle.dw_num.proofs.leb.scan_any_uleb.Goals.{After-from}
 
 grown : (c : After-from) → Grows c.args.bytes.now c.loop-i.i (c.loop-i.total + (c.from.result * 2 ^ (7 * c.loop-i.i)) % 2 ^ 64)
 grown c = grows c.args.bytes.now c.loop-i.i c.loop-i.total c.from.result c.loop-i-test.true c.if-i-gt8.false c.from.ensures c.loop-i.invariant.total c.loop-i.invariant.small

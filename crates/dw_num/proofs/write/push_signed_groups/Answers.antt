@@ -1,5 +1,4 @@
-use Rattle.dw_num.proofs.Words.{◌+◌, arith, as_signed}
-use Rattle.dw_num.proofs.Lent.Shortest.{appends_sleb, as_signed-fits, ends, goes, shortest_signed-last, shortest_signed-next}
+use Rattle.dw_num.proofs.{Words.{◌+◌, arith, as_signed}, Lent.Shortest.{appends_sleb, as_signed-fits, ends, goes, shortest_signed-last, shortest_signed-next}}
 use Rattle.dw_num.proofs.write.push_signed_groups.Goals as goal
 
 pub groups-preserved : goal.groups-preserved

@@ -1,5 +1,4 @@
-use Rattle.dw_num.proofs.Words.{◌<◌, ◌^◌, as_signed, shortest_sleb}
-use Rattle.dw_num.proofs.Lent.Shortest.{IsGoing}
+use Rattle.dw_num.proofs.{Words.{◌<◌, ◌^◌, as_signed, shortest_sleb}, Lent.Shortest.IsGoing}
 use Rattle.dw_num.proofs.write.push_signed_groups.Given as goal
 
 abbrev pub invariant-groups : goal.invariant-groups

@@ -1,5 +1,4 @@
-use Rattle.dw_op.proofs.Words.{map, err_from_is_err_and, refuses_by, bare}
-use Rattle.dw_op.proofs.{Lent.Blocks.{block_found, fault_found}, Lent.FaultPlaces.fault_within, Decoded.{only_memory, one_list}}
+use Rattle.dw_op.proofs.{Words.{map, err_from_is_err_and, refuses_by, bare}, Decoded.{only_memory, one_list}, Lent.Blocks.{block_found, fault_found}, Lent.FaultPlaces.fault_within}
 use Rattle.dw_op.proofs.block.decode.Goals as goal
 
 pub returns-in_err-ops-clause-only : goal.returns-in_err-ops-clause-only

@@ -1,5 +1,4 @@
-use Rattle.dw_op.proofs.Words.{length, map, bare, block_input, place_index}
-use Rattle.dw_op.proofs.Decoded.{OpsSo}
+use Rattle.dw_op.proofs.{Words.{length, map, bare, block_input, place_index}, Decoded.OpsSo}
 use Rattle.dw_op.proofs.block.decode_ops.Given as goal
 
 abbrev pub invariant-ops : goal.invariant-ops

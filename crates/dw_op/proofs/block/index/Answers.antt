@@ -1,5 +1,4 @@
-use Rattle.dw_op.proofs.Words.{◌∙◌}
-use Rattle.dw_op.proofs.Search.{index_searched}
+use Rattle.dw_op.proofs.{Words.{◌∙◌}, Search.index_searched}
 use Rattle.dw_op.proofs.block.index.Goals as goal
 
 pub returns : goal.returns

@@ -1,5 +1,4 @@
-use Rattle.dw_op.proofs.Words.{arith, length, err_from_is_err_and, bare_step, block_input}
-use Rattle.dw_op.proofs.Decoded.{starts_more, starts_end, starts_stuck}
+use Rattle.dw_op.proofs.{Words.{arith, length, err_from_is_err_and, bare_step, block_input}, Decoded.{starts_more, starts_end, starts_stuck}}
 use Rattle.dw_op.proofs.block.starts.Goals as goal
 
 pub returns-in_err-next_step-clause-first : goal.returns-in_err-next_step-clause-first

@@ -1,5 +1,4 @@
-use Rattle.dw_op.proofs.Words.{length, block_input}
-use Rattle.dw_op.proofs.Decoded.{StartsSo}
+use Rattle.dw_op.proofs.{Words.{length, block_input}, Decoded.StartsSo}
 use Rattle.dw_op.proofs.block.starts.Given as goal
 
 abbrev pub invariant-ops : goal.invariant-ops

@@ -1,5 +1,4 @@
-use Rattle.dw_op.proofs.Words.{sym, ◌∙◌}
-use Rattle.dw_op.proofs.Lent.Lines.{same_op, op_same, parts_line, line_parts}
+use Rattle.dw_op.proofs.{Words.{sym, ◌∙◌}, Lent.Lines.{same_op, op_same, parts_line, line_parts}}
 use Rattle.dw_op.proofs.equality.same_op.Goals as goal
 
 pub returns : goal.returns

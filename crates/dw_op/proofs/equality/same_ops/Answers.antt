@@ -1,5 +1,4 @@
-use Rattle.dw_op.proofs.Words.{refl, arith, false≢true, Addr}
-use Rattle.dw_op.proofs.Lent.Lines.{same_at, at_same}
+use Rattle.dw_op.proofs.{Words.{refl, arith, false≢true, Addr}, Lent.Lines.{same_at, at_same}}
 use Rattle.dw_op.proofs.equality.same_ops.Goals as goal
 
 pub returns-then-not-same_op : goal.returns-then-not-same_op

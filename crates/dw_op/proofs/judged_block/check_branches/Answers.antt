@@ -1,5 +1,4 @@
-use Rattle.dw_op.proofs.Words.{Ok, None, err_from_is_err_and, block_input, Walks}
-use Rattle.dw_op.proofs.Judgement.{check_bad, check_end}
+use Rattle.dw_op.proofs.{Words.{Ok, None, err_from_is_err_and, block_input, Walks}, Judgement.{check_bad, check_end}}
 use Rattle.dw_op.proofs.judged_block.check_branches.Goals as goal
 
 pub returns-in_err-next_op-clause-first : goal.returns-in_err-next_op-clause-first

@@ -1,5 +1,4 @@
-use Rattle.dw_op.proofs.Words.{length, block_input}
-use Rattle.dw_op.proofs.Judgement.{CheckSo}
+use Rattle.dw_op.proofs.{Words.{length, block_input}, Judgement.CheckSo}
 use Rattle.dw_op.proofs.judged_block.check_branches.Given as goal
 
 abbrev pub invariant-ops : goal.invariant-ops

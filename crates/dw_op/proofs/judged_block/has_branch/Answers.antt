@@ -1,5 +1,4 @@
-use Rattle.dw_op.proofs.Words.{arith, ap, err_from_is_err_and, bare, bare_step, block_input}
-use Rattle.dw_op.proofs.Judgement.{read_plain, read_jump, read_end, read_plain_end, read_stuck}
+use Rattle.dw_op.proofs.{Words.{arith, ap, err_from_is_err_and, bare, bare_step, block_input}, Judgement.{read_plain, read_jump, read_end, read_plain_end, read_stuck}}
 use Rattle.dw_op.proofs.judged_block.has_branch.Goals as goal
 
 pub returns-in_err-next_step-clause-first : goal.returns-in_err-next_step-clause-first

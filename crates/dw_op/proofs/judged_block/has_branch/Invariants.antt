@@ -1,5 +1,4 @@
-use Rattle.dw_op.proofs.Words.{length, block_input}
-use Rattle.dw_op.proofs.Judgement.{ReadSo}
+use Rattle.dw_op.proofs.{Words.{length, block_input}, Judgement.ReadSo}
 use Rattle.dw_op.proofs.judged_block.has_branch.Given as goal
 
 abbrev pub invariant-ops : goal.invariant-ops

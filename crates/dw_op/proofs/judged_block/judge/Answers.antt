@@ -1,5 +1,4 @@
-use Rattle.dw_op.proofs.Words.{err_from_is_err_and, block_input, Frame}
-use Rattle.dw_op.proofs.Lent.Blocks.{decoded_fault}
+use Rattle.dw_op.proofs.{Words.{err_from_is_err_and, block_input, Frame}, Lent.Blocks.decoded_fault}
 use Rattle.dw_op.proofs.judged_block.judge.Goals as goal
 
 pub returns-in_err-has_branch-clause-first : goal.returns-in_err-has_branch-clause-first

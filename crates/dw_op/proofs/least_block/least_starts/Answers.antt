@@ -1,5 +1,4 @@
-use Rattle.dw_op.proofs.Words.{◌≡◌, ◌+◌, map, arith, Addr, bare, start, blank_parts}
-use Rattle.dw_op.proofs.Lent.EncodeLaws.{start_next, starts_more}
+use Rattle.dw_op.proofs.{Words.{◌≡◌, ◌+◌, map, arith, Addr, bare, start, blank_parts}, Lent.EncodeLaws.{start_next, starts_more}}
 use Rattle.dw_op.proofs.least_block.least_starts.Goals as goal
 
 pub loop-op-preserved : goal.loop-op-preserved

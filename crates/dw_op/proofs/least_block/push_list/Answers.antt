@@ -1,5 +1,4 @@
-use Rattle.dw_op.proofs.Words.{◌≡◌, ◌++◌, LeastBlock, IsAppended, blank_parts, least_block, EachFits}
-use Rattle.dw_op.proofs.Lent.{LeastBlocks.least_block_is, EncodeLaws.on_ok}
+use Rattle.dw_op.proofs.{Words.{◌≡◌, ◌++◌, LeastBlock, IsAppended, blank_parts, least_block, EachFits}, Lent.EncodeLaws.on_ok, Lent.LeastBlocks.least_block_is}
 use Rattle.dw_op.proofs.least_block.push_list.Goals as goal
 
 pub returns-clause-ok : goal.returns-clause-ok

@@ -1,5 +1,4 @@
-use Rattle.dw_op.proofs.Words.{◌≡◌, ℕ, ◌<◌, length, take, drop, map, get_or, Addr, bare, branch_target, blank_parts, BranchFits}
-use Rattle.dw_op.proofs.Lent.EncodeLaws.{IsGoing}
+use Rattle.dw_op.proofs.{Words.{◌≡◌, ℕ, ◌<◌, length, take, drop, map, get_or, Addr, bare, branch_target, blank_parts, BranchFits}, Lent.EncodeLaws.IsGoing}
 use Rattle.dw_op.proofs.least_block.push_ops.Given as goal
 
 abbrev pub invariant-loop-index : goal.invariant-loop-index

@@ -1,5 +1,4 @@
-use Rattle.dw_op.proofs.Words.{Ok, None, Walks, Walked, bare}
-use Rattle.dw_op.proofs.LeastSpellings.{put_start, put_near, put_next, put_end}
+use Rattle.dw_op.proofs.{Words.{Ok, None, Walks, Walked, bare}, LeastSpellings.{put_start, put_near, put_next, put_end}}
 use Rattle.dw_op.proofs.least_expression.put_block.Goals as goal
 
 pub ops-init : goal.ops-init

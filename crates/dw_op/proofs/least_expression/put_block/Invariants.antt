@@ -1,5 +1,4 @@
-use Rattle.dw_op.proofs.Words.{length}
-use Rattle.dw_op.proofs.LeastSpellings.{Putting}
+use Rattle.dw_op.proofs.{Words.length, LeastSpellings.Putting}
 use Rattle.dw_op.proofs.least_expression.put_block.Given as goal
 
 abbrev pub invariant-ops : goal.invariant-ops

@@ -1,5 +1,4 @@
-use Rattle.dw_op.proofs.Words.{refl, length, arith, below_more, false≢true, length-map, Addr, InRange}
-use Rattle.dw_op.proofs.Lent.Ranges.{all_of, first_bad}
+use Rattle.dw_op.proofs.{Words.{refl, length, arith, below_more, false≢true, length-map, Addr, InRange}, Lent.Ranges.{all_of, first_bad}}
 use Rattle.dw_op.proofs.list.first_bad.Goals as goal
 
 pub returns-then-not-is_in_range : goal.returns-then-not-is_in_range

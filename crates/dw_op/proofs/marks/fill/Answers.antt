@@ -1,5 +1,4 @@
-use Rattle.dw_op.proofs.Words.{◌-◌, arith}
-use Rattle.dw_op.proofs.Marked.{fill_more}
+use Rattle.dw_op.proofs.{Words.{◌-◌, arith}, Marked.fill_more}
 use Rattle.dw_op.proofs.marks.fill.Goals as goal
 
 pub marks-preserved : goal.marks-preserved

@@ -1,5 +1,4 @@
-use Rattle.dw_op.proofs.Words.{◌-◌, length}
-use Rattle.dw_op.proofs.Marked.{FillSo}
+use Rattle.dw_op.proofs.{Words.{◌-◌, length}, Marked.FillSo}
 use Rattle.dw_op.proofs.marks.fill.Given as goal
 
 abbrev pub invariant-marks : goal.invariant-marks

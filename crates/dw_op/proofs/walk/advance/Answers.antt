@@ -1,5 +1,4 @@
-use Rattle.dw_op.proofs.Words.{arith, bare_step}
-use Rattle.dw_op.proofs.WalkStarts.{room_for, shifted_more}
+use Rattle.dw_op.proofs.{Words.{arith, bare_step}, WalkStarts.{room_for, shifted_more}}
 use Rattle.dw_op.proofs.walk.advance.Goals as goal
 
 pub ops-preserved : goal.ops-preserved

@@ -1,5 +1,4 @@
-use Rattle.dw_op.proofs.Words.{arith, bare_step}
-use Rattle.dw_op.proofs.WalkStarts.{room_for, shifted_more, count_stuck, count_here, count_past}
+use Rattle.dw_op.proofs.{Words.{arith, bare_step}, WalkStarts.{room_for, shifted_more, count_stuck, count_here, count_past}}
 use Rattle.dw_op.proofs.walk.sum_from.Goals as goal
 
 pub returns-in-Err-clause-exact : goal.returns-in-Err-clause-exact

@@ -1,5 +1,4 @@
-use Rattle.dw_section.proofs.Words.{◌≡◌, ◌∷◌, None, Some, refl, sym, ap, ◌∙◌, subst, LocatedRow, Shows, Walking, changes_among, shown_if}
-use Rattle.dw_section.proofs.ChangesAmong.{no_fault, found, passes}
+use Rattle.dw_section.proofs.{Words.{◌≡◌, ◌∷◌, None, Some, refl, sym, ap, ◌∙◌, subst, LocatedRow, Shows, Walking, changes_among, shown_if}, ChangesAmong.{no_fault, found, passes}}
 use Rattle.dw_section.proofs.change.find_change.Goals as goal
 
 pub returns-then-not-is_shown-clause-finds : goal.returns-then-not-is_shown-clause-finds

@@ -1,5 +1,4 @@
-use Rattle.dw_section.proofs.Words.{◌-◌, place_behind}
-use Rattle.dw_section.proofs.BehindCie.{Listed}
+use Rattle.dw_section.proofs.{Words.{◌-◌, place_behind}, BehindCie.Listed}
 use Rattle.dw_section.proofs.change.list_differences.Given as goal
 
 abbrev pub invariant-registers : goal.invariant-registers

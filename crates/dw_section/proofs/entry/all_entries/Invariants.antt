@@ -1,5 +1,4 @@
-use Rattle.dw_section.proofs.Words.{length}
-use Rattle.dw_section.proofs.Items.{IsListed}
+use Rattle.dw_section.proofs.{Words.length, Items.IsListed}
 use Rattle.dw_section.proofs.entry.all_entries.Given as goal
 
 abbrev pub invariant-items : goal.invariant-items

@@ -1,5 +1,4 @@
-use Rattle.dw_section.proofs.Words.{length}
-use Rattle.dw_section.proofs.Tally.{IsTallied}
+use Rattle.dw_section.proofs.{Words.length, Tally.IsTallied}
 use Rattle.dw_section.proofs.entry.cut.Given as goal
 
 abbrev pub invariant-items : goal.invariant-items

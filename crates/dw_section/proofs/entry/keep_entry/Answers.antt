@@ -1,5 +1,4 @@
-use Rattle.dw_section.proofs.Words.{◌∙◌}
-use Rattle.dw_section.proofs.Tally.{placed_cie, placed_fde}
+use Rattle.dw_section.proofs.{Words.{◌∙◌}, Tally.{placed_cie, placed_fde}}
 use Rattle.dw_section.proofs.entry.keep_entry.Goals as goal
 
 pub returns-in_ok-push-in-Cie : goal.returns-in_ok-push-in-Cie

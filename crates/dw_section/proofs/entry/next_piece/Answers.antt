@@ -1,5 +1,4 @@
-use Rattle.dw_section.proofs.Words.{arith}
-use Rattle.dw_section.proofs.Left.{left_entry, left_none, left_stuck}
+use Rattle.dw_section.proofs.{Words.arith, Left.{left_entry, left_none, left_stuck}}
 use Rattle.dw_section.proofs.entry.next_piece.Goals as goal
 
 pub returns-in-Ok-Entry-clause-gives : goal.returns-in-Ok-Entry-clause-gives

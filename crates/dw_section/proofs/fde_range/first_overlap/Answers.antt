@@ -1,5 +1,4 @@
-use Rattle.dw_section.proofs.Words.{map, take, arith, get_or, map_more, range_in}
-use Rattle.dw_section.proofs.{Ordered.{overlap_more, overlap_at}, Lent.FdeLookup.none}
+use Rattle.dw_section.proofs.{Words.{map, take, arith, get_or, map_more, range_in}, Lent.FdeLookup.none, Ordered.{overlap_more, overlap_at}}
 use Rattle.dw_section.proofs.fde_range.first_overlap.Goals as goal
 
 pub returns-then-begin-greatest : goal.returns-then-begin-greatest

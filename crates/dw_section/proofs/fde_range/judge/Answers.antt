@@ -1,5 +1,4 @@
-use Rattle.dw_section.proofs.Words.{Dwarf32, entry_in}
-use Rattle.dw_section.proofs.{Stages.handed_on, Tables.judged_more}
+use Rattle.dw_section.proofs.{Words.{Dwarf32, entry_in}, Stages.handed_on, Tables.judged_more}
 use Rattle.dw_section.proofs.fde_range.judge.Goals as goal
 
 pub returns-in_err-lacks-clause-stuck : goal.returns-in_err-lacks-clause-stuck

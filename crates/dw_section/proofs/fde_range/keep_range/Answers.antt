@@ -1,5 +1,4 @@
-use Rattle.dw_section.proofs.Words.{IsRanged}
-use Rattle.dw_section.proofs.Stages.{all_push}
+use Rattle.dw_section.proofs.{Words.IsRanged, Stages.all_push}
 use Rattle.dw_section.proofs.fde_range.keep_range.Goals as goal
 
 pub returns-in_ok-push-clause-each : goal.returns-in_ok-push-clause-each

@@ -1,5 +1,4 @@
-use Rattle.dw_section.proofs.Words.{rules, true, ◌≡◌, inl, add-one, IsNonDecreasingBy-from_sort_by_key, answers_always, IsPermutation-refl, Ranged}
-use Rattle.dw_section.proofs.{Ordered.{ascends_from, sorted_ascends}, Tables.in_order}
+use Rattle.dw_section.proofs.{Words.{rules, true, ◌≡◌, inl, add-one, IsNonDecreasingBy-from_sort_by_key, answers_always, IsPermutation-refl, Ranged}, Ordered.{ascends_from, sorted_ascends}, Tables.in_order}
 use Rattle.dw_section.proofs.fde_range.put_in_order.Goals as goal
 
 pub returns-in_ok-sort_by_key : goal.returns-in_ok-sort_by_key

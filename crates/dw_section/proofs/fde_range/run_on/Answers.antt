@@ -1,8 +1,7 @@
-use Rattle.dw_section.proofs.Words.{◌≡◌, List, ◌∷◌, map, refl, inl, inr, AllByRecursion, Dwarf32, piece_in, initial_in, Has, Head, HeadsLeft, FdeHolds, FdeStuck, FdeRuns, FdeBroken, Pieces, PiecesLeft, refuses_by}
-use Rattle.dw_section.proofs.{Between.{between_next, between_stuck, between_among, between_later, between_rest}, FdeWalk.{says_holds, says_tells, says_fits, places_at, headers_exist, fields_fault}}
-use Rattle.dw_section.proofs.{KeptCies.{of_headers, some_headers, places_are}, Left.{left_all, heads_all, heads_next, heads_none, stays_then}, Stages.{all_push, handed_on}, Walk.{Walk, walk_start, walk_next, walk_end, walk_stuck}}
+use Rattle.dw_section.proofs.{Words.{◌≡◌, List, ◌∷◌, map, refl, inl, inr, AllByRecursion, Dwarf32, piece_in, initial_in, Has, Head, HeadsLeft, FdeHolds, FdeStuck, FdeRuns, FdeBroken, Pieces, PiecesLeft, refuses_by}, Between.between_next}
+use Rattle.dw_section.proofs.{Between.{between_stuck, between_among, between_later, between_rest}, FdeWalk.{says_holds, says_tells, says_fits, places_at, headers_exist, fields_fault}, KeptCies.{of_headers, some_headers, places_are}}
+use Rattle.dw_section.proofs.{Left.{left_all, heads_all, heads_next, heads_none, stays_then}, Stages.{all_push, handed_on}, Walk.{Walk, walk_start, walk_next, walk_end, walk_stuck}, fde_range.run_on.Goals.{In-Some, In_ok-fde}}
 use Rattle.dw_section.proofs.fde_range.run_on.Goals as goal
-use Rattle.dw_section.proofs.fde_range.run_on.Goals.{In-Some, In_ok-fde}
 
 -- the header of the piece that comes next
 next : (c : In-Some) (hs : List Head) → HeadsLeft c.args.places.now c.pieces.cursor hs

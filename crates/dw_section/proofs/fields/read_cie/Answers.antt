@@ -1,5 +1,4 @@
-use Rattle.dw_section.proofs.Words.{◌∙◌, empty_string, sizes, factors, behind_id, fields_at}
-use Rattle.dw_section.proofs.Lent.FieldTable.{refused_on, passes_then}
+use Rattle.dw_section.proofs.{Words.{◌∙◌, empty_string, sizes, factors, behind_id, fields_at}, Lent.FieldTable.{refused_on, passes_then}}
 use Rattle.dw_section.proofs.fields.read_cie.Goals as goal
 
 pub returns-in_err-version : goal.returns-in_err-version

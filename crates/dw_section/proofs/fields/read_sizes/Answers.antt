@@ -1,5 +1,4 @@
-use Rattle.dw_section.proofs.Words.{◌≡◌, ◌==◌, arith, field, fixed, unless, sizes, fields_at, SegmentSelector}
-use Rattle.dw_section.proofs.Lent.FieldTable.{refused_on, passes_then}
+use Rattle.dw_section.proofs.{Words.{◌≡◌, ◌==◌, arith, field, fixed, unless, sizes, fields_at, SegmentSelector}, Lent.FieldTable.{refused_on, passes_then}}
 use Rattle.dw_section.proofs.fields.read_sizes.Goals as goal
 
 pub returns-in_err-want_byte : goal.returns-in_err-want_byte

@@ -1,5 +1,4 @@
-use Rattle.dw_section.proofs.Words.{arith}
-use Rattle.dw_section.proofs.Counts.{few_pieces}
+use Rattle.dw_section.proofs.{Words.arith, Counts.few_pieces}
 use Rattle.dw_section.proofs.header.all_headers.Goals as goal
 
 pub overflow_add-count : goal.overflow_add-count

@@ -1,5 +1,4 @@
-use Rattle.dw_section.proofs.Words.{◌≡◌, ◌+◌, ◌∙◌, List, length, sym, ap, subst, arith, Piece, Rises, cie_places}
-use Rattle.dw_section.proofs.{Items.one_pieces, Lent.HeaderLaws.pieces_rise}
+use Rattle.dw_section.proofs.{Words.{◌≡◌, ◌+◌, ◌∙◌, List, length, sym, ap, subst, arith, Piece, Rises, cie_places}, Items.one_pieces, Lent.HeaderLaws.pieces_rise}
 use Rattle.dw_section.proofs.header.cies_of.Goals as goal
 
 pub returns-clause-found : goal.returns-clause-found

@@ -1,5 +1,4 @@
-use Rattle.dw_section.proofs.Words.{sym, subst, Has, Head, piece_in}
-use Rattle.dw_section.proofs.Lent.HeaderLaws.{cie_apart, cie_faulty}
+use Rattle.dw_section.proofs.{Words.{sym, subst, Has, Head, piece_in}, Lent.HeaderLaws.{cie_apart, cie_faulty}}
 use Rattle.dw_section.proofs.header.header_of.Goals as goal
 
 pub returns-in-Ok-clause-found : goal.returns-in-Ok-clause-found

@@ -1,5 +1,4 @@
-use Rattle.dw_section.proofs.Words.{map, head_in}
-use Rattle.dw_section.proofs.{FaultPlaces.{headers_within, errors_within}, FirstFault.{fault_or_headers, only_answer}, Lent.HeaderLaws.one_headers}
+use Rattle.dw_section.proofs.{Words.{map, head_in}, FaultPlaces.{headers_within, errors_within}, FirstFault.{fault_or_headers, only_answer}, Lent.HeaderLaws.one_headers}
 use Rattle.dw_section.proofs.header.headers.Goals as goal
 
 pub returns-clause-only : goal.returns-clause-only

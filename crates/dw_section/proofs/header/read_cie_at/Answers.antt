@@ -1,5 +1,4 @@
-use Rattle.dw_section.proofs.Words.{subst, IfOk, IfErr, CieStuck, IsRead, Piece, initial_in}
-use Rattle.dw_section.proofs.Lent.HeaderLaws.{cie_stuck}
+use Rattle.dw_section.proofs.{Words.{subst, IfOk, IfErr, CieStuck, IsRead, Piece, initial_in}, Lent.HeaderLaws.cie_stuck}
 use Rattle.dw_section.proofs.header.read_cie_at.Goals as goal
 
 pub unreachable-requires : goal.unreachable-requires

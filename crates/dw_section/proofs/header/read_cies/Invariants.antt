@@ -1,5 +1,4 @@
-use Rattle.dw_section.proofs.Words.{◌≡◌, List, map, drop, AllZip, Piece, Pieces, IsRead, cie_pieces, cie_places}
-use Rattle.dw_section.proofs.Between.{Between}
+use Rattle.dw_section.proofs.{Words.{◌≡◌, List, map, drop, AllZip, Piece, Pieces, IsRead, cie_pieces, cie_places}, Between.Between}
 use Rattle.dw_section.proofs.header.read_cies.Given as goal
 
 abbrev pub invariant-loop-at : goal.invariant-loop-at

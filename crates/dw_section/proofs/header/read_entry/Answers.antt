@@ -1,7 +1,5 @@
-use Rattle.dw_section.proofs.Words.{arith, refl, inr, piece_in, program_of, IsFde}
-use Rattle.dw_section.proofs.Lent.HeaderLaws.{fde_reads, fields_end}
+use Rattle.dw_section.proofs.{Words.{arith, refl, inr, piece_in, program_of, IsFde}, Lent.HeaderLaws.{fde_reads, fields_end}, header.read_entry.Goals.In_ok-fields}
 use Rattle.dw_section.proofs.header.read_entry.Goals as goal
-use Rattle.dw_section.proofs.header.read_entry.Goals.{In_ok-fields}
 
 is : (c : In_ok-fields) → IsFde c.args.target c.args.places.now (piece_in c.args.piece.now) c.in_ok-fields.fields (program_of c.read_fde.new.cursor)
 is c = fde_reads c.args.target c.args.places.now (piece_in c.args.piece.now) c.read_fde.new.cursor c.in_ok-fields.fields c.are_bytes.ensures c.requires.kind (rw c.new-cursor.ensures at c.in_ok-fields.ensures)

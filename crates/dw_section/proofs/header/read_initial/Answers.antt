@@ -1,6 +1,5 @@
-use Rattle.dw_section.proofs.Words.{arith, refl, inl, w64, piece_in, program_of}
 use Rattle.std.proofs.lemmas.Int.{to_z-of_z}
-use Rattle.dw_section.proofs.Lent.{HeaderLaws.{cie_reads, fields_end}, FieldTable.cie_said}
+use Rattle.dw_section.proofs.{Words.{arith, refl, inl, w64, piece_in, program_of}, Lent.FieldTable.cie_said, Lent.HeaderLaws.{cie_reads, fields_end}}
 use Rattle.dw_section.proofs.header.read_initial.Goals as goal
 
 pub rest_of-requires : goal.rest_of-requires

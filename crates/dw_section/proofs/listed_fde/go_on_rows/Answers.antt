@@ -1,5 +1,4 @@
-use Rattle.dw_section.proofs.Words.{◌∙◌, ap, arith, subst, sym, span_of, input_of, Gives, List, Led, LocatedRow, RunsTo, program_input, stepping, Stepping}
-use Rattle.dw_section.proofs.FdeRows.{one_outcome}
+use Rattle.dw_section.proofs.{Words.{◌∙◌, ap, arith, subst, sym, span_of, input_of, Gives, List, Led, LocatedRow, RunsTo, program_input, stepping, Stepping}, FdeRows.one_outcome}
 use Rattle.dw_section.proofs.listed_fde.go_on_rows.Goals as goal
 
 pub go_on-requires-clause-known : goal.go_on-requires-clause-known

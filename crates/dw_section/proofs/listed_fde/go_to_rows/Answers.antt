@@ -1,5 +1,4 @@
-use Rattle.dw_section.proofs.Words.{◌∙◌, ap, arith, span_of, input_of, stepping, Stepping}
-use Rattle.dw_section.proofs.FdeRows.{one_outcome}
+use Rattle.dw_section.proofs.{Words.{◌∙◌, ap, arith, span_of, input_of, stepping, Stepping}, FdeRows.one_outcome}
 use Rattle.dw_section.proofs.listed_fde.go_to_rows.Goals as goal
 
 pub returns-clause-steps : goal.returns-clause-steps

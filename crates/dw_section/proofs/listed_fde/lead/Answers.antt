@@ -1,5 +1,4 @@
-use Rattle.dw_section.proofs.Words.{◌≡◌, ℕ, Option, subst, arith, led_to, LedBy, LedSo}
-use Rattle.dw_section.proofs.CieLaws.{one_led}
+use Rattle.dw_section.proofs.{Words.{◌≡◌, ℕ, Option, subst, arith, led_to, LedBy, LedSo}, CieLaws.one_led}
 use Rattle.dw_section.proofs.listed_fde.lead.Goals as goal
 
 pub go_on_rows-requires-clause-led : goal.go_on_rows-requires-clause-led

@@ -1,5 +1,4 @@
-use Rattle.dw_section.proofs.Words.{◌≡◌, sym, ap, ◌∙◌, kept, place_behind, is_specified}
-use Rattle.dw_section.proofs.Dropped.{all_dropped, one_dropped, one_stays}
+use Rattle.dw_section.proofs.{Words.{◌≡◌, sym, ap, ◌∙◌, kept, place_behind, is_specified}, Dropped.{all_dropped, one_dropped, one_stays}}
 use Rattle.dw_section.proofs.narrow_row.drop_altered.Goals as goal
 
 pub registers-preserved-then-not-is_specified : goal.registers-preserved-then-not-is_specified

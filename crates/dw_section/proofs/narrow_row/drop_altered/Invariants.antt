@@ -1,5 +1,4 @@
-use Rattle.dw_section.proofs.Words.{◌-◌, place_behind}
-use Rattle.dw_section.proofs.Dropped.{DropsBelow}
+use Rattle.dw_section.proofs.{Words.{◌-◌, place_behind}, Dropped.DropsBelow}
 use Rattle.dw_section.proofs.narrow_row.drop_altered.Given as goal
 
 abbrev pub invariant-registers : goal.invariant-registers

@@ -1,5 +1,4 @@
-use Rattle.dw_section.proofs.Words.{rules, arith, nat_lt, IsPartitionPoint-from_clause, IsPartitionedBy-ltb, Initial, place_of}
-use Rattle.dw_section.proofs.Lent.Judged.{initials_ascend, found_initial}
+use Rattle.dw_section.proofs.{Words.{rules, arith, nat_lt, IsPartitionPoint-from_clause, IsPartitionedBy-ltb, Initial, place_of}, Lent.Judged.{initials_ascend, found_initial}}
 use Rattle.dw_section.proofs.program.index_of.Goals as goal
 
 pub returns : goal.returns

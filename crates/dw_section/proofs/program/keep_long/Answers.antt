@@ -1,5 +1,4 @@
-use Rattle.dw_section.proofs.Words.{IsLong}
-use Rattle.dw_section.proofs.Stages.{all_push}
+use Rattle.dw_section.proofs.{Words.IsLong, Stages.all_push}
 use Rattle.dw_section.proofs.program.keep_long.Goals as goal
 
 pub returns : goal.returns

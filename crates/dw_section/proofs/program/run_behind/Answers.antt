@@ -1,5 +1,4 @@
-use Rattle.dw_section.proofs.Words.{Option, ℕ, sym, subst, IfOk-weaker, IfErr-weaker, span_of, IsBehind, refuses_by}
-use Rattle.dw_section.proofs.Lent.Judged.{behind_stays, behind_found, behind_broken}
+use Rattle.dw_section.proofs.{Words.{Option, ℕ, sym, subst, IfOk-weaker, IfErr-weaker, span_of, IsBehind, refuses_by}, Lent.Judged.{behind_stays, behind_found, behind_broken}}
 use Rattle.dw_section.proofs.program.run_behind.Goals as goal
 
 pub returns-in-Some-clause-found : goal.returns-in-Some-clause-found

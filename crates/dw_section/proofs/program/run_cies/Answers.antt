@@ -1,5 +1,4 @@
-use Rattle.dw_section.proofs.Words.{sym, take, subst, AllByRecursion, Dwarf32, drop_more, take-append-drop, take_all, refuses_by, take_more}
-use Rattle.dw_section.proofs.{KeptCies.{Ran, all_ran, first_broken}, Stages.{all_push, handed_on}}
+use Rattle.dw_section.proofs.{Words.{sym, take, subst, AllByRecursion, Dwarf32, drop_more, take-append-drop, take_all, refuses_by, take_more}, KeptCies.{Ran, all_ran, first_broken}, Stages.{all_push, handed_on}}
 use Rattle.dw_section.proofs.program.run_cies.Goals as goal
 
 pub loop-cie-preserved : goal.loop-cie-preserved

@@ -1,5 +1,4 @@
-use Rattle.dw_section.proofs.Words.{take, AllByRecursion}
-use Rattle.dw_section.proofs.KeptCies.{Ran}
+use Rattle.dw_section.proofs.{Words.{take, AllByRecursion}, KeptCies.Ran}
 use Rattle.dw_section.proofs.program.run_cies.Given as goal
 
 abbrev pub invariant-loop-cie : goal.invariant-loop-cie

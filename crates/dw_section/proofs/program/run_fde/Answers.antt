@@ -1,5 +1,4 @@
-use Rattle.dw_section.proofs.Words.{subst, arith, span_of, input_of, FdeFault, Rules, AreSpecified, rules_behind, refuses_by}
-use Rattle.dw_section.proofs.Stages.{handed_on}
+use Rattle.dw_section.proofs.{Words.{subst, arith, span_of, input_of, FdeFault, Rules, AreSpecified, rules_behind, refuses_by}, Stages.handed_on}
 use Rattle.dw_section.proofs.program.run_fde.Goals as goal
 
 pub returns-in_err-lacks-clause-stuck : goal.returns-in_err-lacks-clause-stuck

@@ -1,5 +1,4 @@
-use Rattle.dw_section.proofs.Words.{◌++◌, ◌∷◌, [], take, map, get_or, arith, map_more, IsRanged, range_in, Starts, all_zipped_more}
-use Rattle.dw_section.proofs.{Counts.total_push, Lent.Judged.all_get, RowLookup.{is_program, starts_at}, Lent.FdeLookup.none}
+use Rattle.dw_section.proofs.{Words.{◌++◌, ◌∷◌, [], take, map, get_or, arith, map_more, IsRanged, range_in, Starts, all_zipped_more}, Counts.total_push, Lent.FdeLookup.none, Lent.Judged.all_get, RowLookup.{is_program, starts_at}}
 use Rattle.dw_section.proofs.row_count.sum_starts.Goals as goal
 
 pub starts_of-sum-requires : goal.starts_of-sum-requires

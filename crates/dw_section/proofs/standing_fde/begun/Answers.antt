@@ -1,5 +1,4 @@
-use Rattle.dw_section.proofs.Words.{get_or, rules, arith, nat_le, leb-true, leb-false, IsPartitionPoint-from_clause, IsPartitionedBy-leb, Ranged}
-use Rattle.dw_section.proofs.Lent.FdeLookup.{begins_ascend}
+use Rattle.dw_section.proofs.{Words.{get_or, rules, arith, nat_le, leb-true, leb-false, IsPartitionPoint-from_clause, IsPartitionedBy-leb, Ranged}, Lent.FdeLookup.begins_ascend}
 use Rattle.dw_section.proofs.standing_fde.begun.Goals as goal
 
 pub returns-clause-divides : goal.returns-clause-divides

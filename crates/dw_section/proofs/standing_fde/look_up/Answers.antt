@@ -1,7 +1,6 @@
 use Rattle.dw_section.proofs.Words.{◌≤◌, length, map, refl, sym, subst, inr, arith, err_from_is_err_and, Fde, IsRanged, IsTable, range_in, fde_in, NoneCovers, IsAmong, LookUpFault, StandingFault, length-map}
-use Rattle.dw_section.proofs.{Lent.FdeLookup.{listed_are, ranged_of, fde_listed, listed_fde}, StandFaults.refuses_more, StandFits.standing_fits, Stages.handed_on}
+use Rattle.dw_section.proofs.{Lent.FdeLookup.{listed_are, ranged_of, fde_listed, listed_fde}, Stages.handed_on, StandFaults.refuses_more, StandFits.standing_fits, standing_fde.look_up.Goals.In-Some}
 use Rattle.dw_section.proofs.standing_fde.look_up.Goals as goal
-use Rattle.dw_section.proofs.standing_fde.look_up.Goals.{In-Some}
 
 ranged : (c : In-Some) (t : IsTable c.args.target c.args.bytes.now c.args.index.now) → IsRanged t.indexed.headers c.in-Some.entry
 ranged c t = let i = c.in-Some.ensures.among in subst (IsRanged t.indexed.headers) (sym (i.2 c.in-Some.entry)) (ranged_of c.args.target c.args.bytes.now c.args.index.now t i.0 c.in-Some.entry i.1)

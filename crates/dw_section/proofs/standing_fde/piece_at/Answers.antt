@@ -1,5 +1,4 @@
-use Rattle.dw_section.proofs.Words.{refl, sym, arith}
-use Rattle.dw_section.proofs.{StandLaws.{rest_is, never_stuck, stands_here, one_piece}, StandPlaces.item_within, Stages.handed_on}
+use Rattle.dw_section.proofs.{Words.{refl, sym, arith}, Stages.handed_on, StandLaws.{rest_is, never_stuck, stands_here, one_piece}, StandPlaces.item_within}
 use Rattle.dw_section.proofs.standing_fde.piece_at.Goals as goal
 
 pub returns-in_err-next_part-clause-only : goal.returns-in_err-next_part-clause-only

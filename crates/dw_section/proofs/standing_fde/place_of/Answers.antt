@@ -1,5 +1,4 @@
-use Rattle.dw_section.proofs.Words.{◌-◌, ◌+◌, ◌<◌, ◌≤◌, length, get_or, arith, inl, inr, leb_tells, get_or_default}
-use Rattle.dw_section.proofs.Lent.FdeLookup.{none_above, none_covers, none}
+use Rattle.dw_section.proofs.{Words.{◌-◌, ◌+◌, ◌<◌, ◌≤◌, length, get_or, arith, inl, inr, leb_tells, get_or_default}, Lent.FdeLookup.{none_above, none_covers, none}}
 use Rattle.dw_section.proofs.standing_fde.place_of.Goals as goal
 
 pub returns-then-begun-eq0-clause-none : goal.returns-then-begun-eq0-clause-none

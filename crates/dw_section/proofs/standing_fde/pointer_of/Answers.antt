@@ -1,5 +1,4 @@
-use Rattle.dw_section.proofs.Words.{sym, ◌++◌, append_assoc, ◌∙◌, ap, List, ℕ, ◌≡◌, FdeHead, FdeFields, piece_in}
-use Rattle.dw_section.proofs.StandLaws.{fde_from}
+use Rattle.dw_section.proofs.{Words.{sym, ◌++◌, append_assoc, ◌∙◌, ap, List, ℕ, ◌≡◌, FdeHead, FdeFields, piece_in}, StandLaws.fde_from}
 use Rattle.dw_section.proofs.standing_fde.pointer_of.Goals as goal
 
 pub returns-clause-only : goal.returns-clause-only

@@ -1,5 +1,4 @@
-use Rattle.dw_section.proofs.Words.{arith, span_of, input_of, one_run}
-use Rattle.dw_section.proofs.StandPlaces.{lies_in_programs}
+use Rattle.dw_section.proofs.{Words.{arith, span_of, input_of, one_run}, StandPlaces.lies_in_programs}
 use Rattle.dw_section.proofs.standing_fde.run_fde.Goals as goal
 
 pub returns-clause-runs : goal.returns-clause-runs

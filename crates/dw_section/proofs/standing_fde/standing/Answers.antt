@@ -1,5 +1,4 @@
-use Rattle.dw_section.proofs.Words.{sym, ap, [], ◌∷◌, ◌∙◌, fde, Piece}
-use Rattle.dw_section.proofs.{Lent.Heads.has_at, StandLaws.fde_from}
+use Rattle.dw_section.proofs.{Words.{sym, ap, [], ◌∷◌, ◌∙◌, fde, Piece}, Lent.Heads.has_at, StandLaws.fde_from}
 use Rattle.dw_section.proofs.standing_fde.standing.Goals as goal
 
 pub returns-in_err-piece-clause-only : goal.returns-in_err-piece-clause-only

@@ -1,5 +1,4 @@
-use Rattle.dw_section.proofs.Words.{List, inl, inr, subst, AreInitials, Head, refuses_by}
-use Rattle.dw_section.proofs.{FdeWalk.{headers_exist, fields_fault}, KeptCies.of_headers, Left.left_all, Lent.HeaderLaws.one_headers, Lent.Heads.heads_rise, Tables.nonempty_rise}
+use Rattle.dw_section.proofs.{Words.{List, inl, inr, subst, AreInitials, Head, refuses_by}, FdeWalk.{headers_exist, fields_fault}, KeptCies.of_headers, Left.left_all, Lent.HeaderLaws.one_headers, Lent.Heads.heads_rise, Tables.nonempty_rise}
 use Rattle.dw_section.proofs.table.judged.Goals as goal
 
 pub returns-in-Err-clause-first : goal.returns-in-Err-clause-first

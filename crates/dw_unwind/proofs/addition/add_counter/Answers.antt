@@ -1,5 +1,4 @@
-use Rattle.dw_unwind.proofs.Words.{◌≡◌, true, Option, ℕ, subst, sym, ◌∙◌, arith, refl, is_some, counter_is, counter}
-use Rattle.dw_unwind.proofs.KeepLaws.{repeats, keeps_counter}
+use Rattle.dw_unwind.proofs.{Words.{◌≡◌, true, Option, ℕ, subst, sym, ◌∙◌, arith, refl, is_some, counter_is, counter}, KeepLaws.{repeats, keeps_counter}}
 use Rattle.dw_unwind.proofs.addition.add_counter.Goals as goal
 
 pub returns-then-is_some : goal.returns-then-is_some

@@ -1,5 +1,4 @@
-use Rattle.dw_unwind.proofs.Words.{◌≡◌, ◌+◌, ◌≤◌, length, arith, refl}
-use Rattle.dw_unwind.proofs.KeepLaws.{keeps_memory}
+use Rattle.dw_unwind.proofs.{Words.{◌≡◌, ◌+◌, ◌≤◌, length, arith, refl}, KeepLaws.keeps_memory}
 use Rattle.dw_unwind.proofs.addition.add_memory.Goals as goal
 
 pub returns : goal.returns

@@ -1,5 +1,4 @@
-use Rattle.dw_unwind.proofs.Words.{◌≡◌, ◌<◌, true, false, Option, ℕ, subst, sym, ◌∙◌, arith, refl, is_some, register_is, register}
-use Rattle.dw_unwind.proofs.KeepLaws.{repeats, keeps_register, told_own}
+use Rattle.dw_unwind.proofs.{Words.{◌≡◌, ◌<◌, true, false, Option, ℕ, subst, sym, ◌∙◌, arith, refl, is_some, register_is, register}, KeepLaws.{repeats, keeps_register, told_own}}
 use Rattle.dw_unwind.proofs.addition.add_register.Goals as goal
 
 pub returns-then-is_some : goal.returns-then-is_some

@@ -1,7 +1,5 @@
-use Rattle.dw_unwind.proofs.Words.{ℕ, ◌+◌, ◌<◌, List, [], ◌++◌, length, take, drop, ap, refl, arith, ◌∙◌, AllZip-long, SaysWithin, Takes, lines_of}
-use Rattle.dw_unwind.proofs.LineLaws.{lines_first, so_far_more, some_left}
+use Rattle.dw_unwind.proofs.{Words.{ℕ, ◌+◌, ◌<◌, List, [], ◌++◌, length, take, drop, ap, refl, arith, ◌∙◌, AllZip-long, SaysWithin, Takes, lines_of}, LineLaws.{lines_first, so_far_more, some_left}, addition.gather.Goals.In_ok-code}
 use Rattle.dw_unwind.proofs.addition.gather.Goals as goal
-use Rattle.dw_unwind.proofs.addition.gather.Goals.{In_ok-code}
 
 some : (c : In_ok-code) → 0 < length c.loop-rest.rest.now
 some c = some_left (length c.loop-rest.rest.now) c.is_empty.result c.is_empty.ensures c.loop-rest-test.true

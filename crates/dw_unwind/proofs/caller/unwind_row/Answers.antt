@@ -1,5 +1,4 @@
-use Rattle.dw_unwind.proofs.Words.{FrameIs, FrameFails, stopped}
-use Rattle.dw_unwind.proofs.ColumnLaws.{over_answered}
+use Rattle.dw_unwind.proofs.{Words.{FrameIs, FrameFails, stopped}, ColumnLaws.over_answered}
 use Rattle.dw_unwind.proofs.caller.unwind_row.Goals as goal
 
 pub returns-clause-answered : goal.returns-clause-answered

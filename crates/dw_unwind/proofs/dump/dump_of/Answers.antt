@@ -1,7 +1,5 @@
-use Rattle.dw_unwind.proofs.Words.{◌^◌, length, ◌∙◌, lines_of, Gathers, AreApart}
-use Rattle.dw_unwind.proofs.{DumpLaws.{overlap_fault, later_fault, all_said, kept_within, kept_byte}, RangeLaws.have_bytes}
+use Rattle.dw_unwind.proofs.{Words.{◌^◌, length, ◌∙◌, lines_of, Gathers, AreApart}, DumpLaws.{overlap_fault, later_fault, all_said, kept_within, kept_byte}, RangeLaws.have_bytes, dump.dump_of.Goals.{In_ok-fault, In_default}}
 use Rattle.dw_unwind.proofs.dump.dump_of.Goals as goal
-use Rattle.dw_unwind.proofs.dump.dump_of.Goals.{In_ok-fault, In_default}
 
 gathered : (c : In_ok-fault) → Gathers c.args.limit (lines_of c.args.text.now) c.gather.new.kept c.in_ok-fault.fault
 gathered c = c.in_ok-fault.ensures {u = tt}

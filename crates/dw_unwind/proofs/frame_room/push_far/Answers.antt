@@ -1,7 +1,5 @@
-use Rattle.dw_unwind.proofs.Words.{◌≡◌, ℕ, true, false, subst, ◌==◌, registers_in}
-use Rattle.dw_unwind.proofs.Room.{in_near, in_more, pushed}
+use Rattle.dw_unwind.proofs.{Words.{◌≡◌, ℕ, true, false, subst, ◌==◌, registers_in}, Room.{in_near, in_more, pushed}, frame_room.push_far.Goals.{then-is_empty+in_ok-extend_from_slice, else-is_empty}}
 use Rattle.dw_unwind.proofs.frame_room.push_far.Goals as goal
-use Rattle.dw_unwind.proofs.frame_room.push_far.Goals.{then-is_empty+in_ok-extend_from_slice, else-is_empty}
 
 pub returns : goal.returns
 returns c =

@@ -1,5 +1,4 @@
-use Rattle.dw_unwind.proofs.Words.{subst, sym, HexPairs}
-use Rattle.dw_unwind.proofs.LineParts.{digits_lack_space, memory_parts}
+use Rattle.dw_unwind.proofs.{Words.{subst, sym, HexPairs}, LineParts.{digits_lack_space, memory_parts}}
 use Rattle.dw_unwind.proofs.line.memory_line.Goals as goal
 
 pub returns-in_default : goal.returns-in_default

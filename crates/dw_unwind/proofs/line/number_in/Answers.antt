@@ -1,5 +1,4 @@
-use Rattle.dw_unwind.proofs.Words.{arith}
-use Rattle.dw_unwind.proofs.Numbers.{grows}
+use Rattle.dw_unwind.proofs.{Words.arith, Numbers.grows}
 use Rattle.dw_unwind.proofs.line.number_in.Goals as goal
 
 pub overflow_mul-number : goal.overflow_mul-number

@@ -1,5 +1,4 @@
-use Rattle.dw_unwind.proofs.Words.{◌∷◌, sym, ◌∙◌, subst, codes, append_cancel_left, Hexadecimal}
-use Rattle.dw_unwind.proofs.LineParts.{digits_lack_space, register_parts}
+use Rattle.dw_unwind.proofs.{Words.{◌∷◌, sym, ◌∙◌, subst, codes, append_cancel_left, Hexadecimal}, LineParts.{digits_lack_space, register_parts}}
 use Rattle.dw_unwind.proofs.line.register_line.Goals as goal
 
 pub returns-in_err-name : goal.returns-in_err-name

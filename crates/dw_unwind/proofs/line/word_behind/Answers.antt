@@ -1,5 +1,4 @@
-use Rattle.dw_unwind.proofs.Words.{◌<◌, ◌+◌, length, arith, sym, ◌∙◌, ap, ◌++◌, take_rest, len_until}
-use Rattle.dw_unwind.proofs.LineParts.{word_within, lacks_front, until_parts}
+use Rattle.dw_unwind.proofs.{Words.{◌<◌, ◌+◌, length, arith, sym, ◌∙◌, ap, ◌++◌, take_rest, len_until}, LineParts.{word_within, lacks_front, until_parts}}
 use Rattle.dw_unwind.proofs.line.word_behind.Goals as goal
 
 pub returns-then-len-text : goal.returns-then-len-text

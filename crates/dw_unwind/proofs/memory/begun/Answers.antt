@@ -1,7 +1,6 @@
 use Rattle.dw_unwind.proofs.Words.{◌≡◌, true, false, get_or, rules, arith, nat_le, IsPartitionPoint, leb-true, leb-false, IsPartitionPoint-from_clause, IsPartitionedBy-leb, Range}
-use Rattle.dw_unwind.proofs.RangeLaws.{begins_rise}
+use Rattle.dw_unwind.proofs.{RangeLaws.begins_rise, memory.begun.Goals.After-partition_point}
 use Rattle.dw_unwind.proofs.memory.begun.Goals as goal
-use Rattle.dw_unwind.proofs.memory.begun.Goals.{After-partition_point}
 
 point : (c : After-partition_point) → IsPartitionPoint (λ (r : Range). nat_le r.address c.args.address ≡ true) (λ (r : Range). nat_le r.address c.args.address ≡ false) c.args.ranges.now c.partition_point.result
 point c =

@@ -1,5 +1,4 @@
-use Rattle.dw_unwind.proofs.Words.{◌-◌, ◌^◌, sym, arith, Range}
-use Rattle.dw_unwind.proofs.RangeLaws.{none_begun, byte_here, byte_missing}
+use Rattle.dw_unwind.proofs.{Words.{◌-◌, ◌^◌, sym, arith, Range}, RangeLaws.{none_begun, byte_here, byte_missing}}
 use Rattle.dw_unwind.proofs.memory.byte_at.Goals as goal
 
 no_range : Range

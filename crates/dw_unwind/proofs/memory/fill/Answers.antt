@@ -1,6 +1,5 @@
-use Rattle.dw_unwind.proofs.Words.{◌+◌, ◌^◌, ◌≤◌, ℕ, length, arith, sym, byte_among}
 use Rattle.dw_eval.proofs.Lent.MemoryBytes.{bytes_missing, bytes_all}
-use Rattle.dw_unwind.proofs.RangeLaws.{byte_past, end_below}
+use Rattle.dw_unwind.proofs.{Words.{◌+◌, ◌^◌, ◌≤◌, ℕ, length, arith, sym, byte_among}, RangeLaws.{byte_past, end_below}}
 use Rattle.dw_unwind.proofs.memory.fill.Goals as goal
 
 pub returns-in_default : goal.returns-in_default

@@ -1,5 +1,4 @@
-use Rattle.dw_unwind.proofs.Words.{◌-◌, arith}
-use Rattle.dw_unwind.proofs.RangeLaws.{neighbours_at}
+use Rattle.dw_unwind.proofs.{Words.{◌-◌, arith}, RangeLaws.neighbours_at}
 use Rattle.dw_unwind.proofs.ranges.ends_rise.Goals as goal
 
 pub returns-then-from-end_of : goal.returns-then-from-end_of

@@ -1,5 +1,4 @@
-use Rattle.dw_unwind.proofs.Words.{◌<◌, IsPermutation-refl, Range}
-use Rattle.dw_unwind.proofs.RangeLaws.{all_permuted, apart_permuted, apart_rise, rise_from}
+use Rattle.dw_unwind.proofs.{Words.{◌<◌, IsPermutation-refl, Range}, RangeLaws.{all_permuted, apart_permuted, apart_rise, rise_from}}
 use Rattle.dw_unwind.proofs.ranges.settle.Goals as goal
 
 pub returns-then-ends_rise-clause-rise : goal.returns-then-ends_rise-clause-rise

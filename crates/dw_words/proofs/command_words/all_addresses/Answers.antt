@@ -1,5 +1,4 @@
-use Rattle.dw_words.proofs.Words.{◌∙◌, ap, sym, Text, Bor, address}
-use Rattle.dw_words.proofs.AllRead.{read_more, read_none}
+use Rattle.dw_words.proofs.{Words.{◌∙◌, ap, sym, Text, Bor, address}, AllRead.{read_more, read_none}}
 use Rattle.dw_words.proofs.command_words.all_addresses.Goals as goal
 
 pub loop-text-preserved : goal.loop-text-preserved

@@ -1,5 +1,4 @@
-use Rattle.dw_words.proofs.Words.{◌≡◌, ◌∙◌, true, ap, rules, subst, map, string_bytes, err_from_is_err_and, out-Command, HasKind, app_of, found_of, rows_of, asked}
-use Rattle.dw_words.proofs.{Asked.reads, Jobs.job_so, Plans.{accepted, failed, refused}}
+use Rattle.dw_words.proofs.{Words.{◌≡◌, ◌∙◌, true, ap, rules, subst, map, string_bytes, err_from_is_err_and, out-Command, HasKind, app_of, found_of, rows_of, asked}, Asked.reads, Jobs.job_so, Plans.{accepted, failed, refused}}
 use Rattle.dw_words.proofs.command_words.plan.Goals as goal
 
 pub returns-in-Err : goal.returns-in-Err

@@ -1,5 +1,4 @@
-use Rattle.dw_words.proofs.Words.{◌∙◌, sym, err_from_is_err_and, found_of, rows_of}
-use Rattle.dw_words.proofs.Jobs.{run_fails}
+use Rattle.dw_words.proofs.{Words.{◌∙◌, sym, err_from_is_err_and, found_of, rows_of}, Jobs.run_fails}
 use Rattle.dw_words.proofs.command_words.run_in.Goals as goal
 
 pub returns-in_err-task : goal.returns-in_err-task

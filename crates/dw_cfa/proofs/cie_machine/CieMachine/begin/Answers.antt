@@ -1,6 +1,5 @@
-use Rattle.dw_cfa.proofs.Words.{arith, subst, Following, AreSpecified, program_input}
+use Rattle.dw_cfa.proofs.{Words.{arith, subst, Following, AreSpecified, program_input}, Lent.Given.follow_runs}
 use Rattle.dw_cfa.proofs.cie_machine.CieMachine.begin.Goals as goal
-use Rattle.dw_cfa.proofs.Lent.Given.{follow_runs}
 
 pub returns-clause-runs : goal.returns-clause-runs
 returns-clause-runs c =

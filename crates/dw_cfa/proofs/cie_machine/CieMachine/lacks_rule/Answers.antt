@@ -1,5 +1,4 @@
-use Rattle.dw_cfa.proofs.Words.{rows_left}
-use Rattle.dw_cfa.proofs.{Covered.lacks_tells, Lent.RunLaws.left_from}
+use Rattle.dw_cfa.proofs.{Words.rows_left, Covered.lacks_tells, Lent.RunLaws.left_from}
 use Rattle.dw_cfa.proofs.cie_machine.CieMachine.lacks_rule.Goals as goal
 
 pub returns-in-Ok-clause-found : goal.returns-in-Ok-clause-found

@@ -1,5 +1,4 @@
-use Rattle.dw_cfa.proofs.Words.{refl, Machine, program_input}
-use Rattle.dw_cfa.proofs.RunSteps.{started}
+use Rattle.dw_cfa.proofs.{Words.{refl, Machine, program_input}, RunSteps.started}
 use Rattle.dw_cfa.proofs.cie_machine.CieMachine.start.Goals as goal
 
 pub returns-clause-ok : goal.returns-clause-ok

@@ -1,5 +1,4 @@
-use Rattle.dw_cfa.proofs.Words.{rules, filter_same_pairs, entries_of, is_agreed}
-use Rattle.dw_cfa.proofs.Lent.Narrowed.{all_left, far_left}
+use Rattle.dw_cfa.proofs.{Words.{rules, filter_same_pairs, entries_of, is_agreed}, Lent.Narrowed.{all_left, far_left}}
 use Rattle.dw_cfa.proofs.entries.Entries.agree.Goals as goal
 
 pub returns : goal.returns

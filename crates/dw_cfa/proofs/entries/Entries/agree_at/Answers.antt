@@ -1,5 +1,4 @@
-use Rattle.dw_cfa.proofs.Words.{sym, entries_of, is_agreed}
-use Rattle.dw_cfa.proofs.{Slots.entries_ascend, Lent.Narrowed.leaves_none}
+use Rattle.dw_cfa.proofs.{Words.{sym, entries_of, is_agreed}, Lent.Narrowed.leaves_none, Slots.entries_ascend}
 use Rattle.dw_cfa.proofs.entries.Entries.agree_at.Goals as goal
 
 pub returns-then-not-has_same-clause-rules : goal.returns-then-not-has_same-clause-rules

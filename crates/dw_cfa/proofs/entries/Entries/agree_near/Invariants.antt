@@ -1,5 +1,4 @@
-use Rattle.dw_cfa.proofs.Words.{◌-◌, entries_of, is_agreed}
-use Rattle.dw_cfa.proofs.Lent.Skipped.{TestedBelow}
+use Rattle.dw_cfa.proofs.{Words.{◌-◌, entries_of, is_agreed}, Lent.Skipped.TestedBelow}
 use Rattle.dw_cfa.proofs.entries.Entries.agree_near.Given as goal
 
 abbrev pub invariant-slots : goal.invariant-slots

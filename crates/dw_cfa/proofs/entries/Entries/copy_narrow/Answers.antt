@@ -1,5 +1,4 @@
-use Rattle.dw_cfa.proofs.Words.{refl, Entries}
-use Rattle.dw_cfa.proofs.Copied.{slots_copied, slots_copied_so}
+use Rattle.dw_cfa.proofs.{Words.{refl, Entries}, Copied.{slots_copied, slots_copied_so}}
 use Rattle.dw_cfa.proofs.entries.Entries.copy_narrow.Goals as goal
 
 pub returns-clause-entries : goal.returns-clause-entries

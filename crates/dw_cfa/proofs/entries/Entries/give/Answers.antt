@@ -1,5 +1,4 @@
-use Rattle.dw_cfa.proofs.Words.{refl, entries_of, rule_in}
-use Rattle.dw_cfa.proofs.Lent.Equal.{test_at}
+use Rattle.dw_cfa.proofs.{Words.{refl, entries_of, rule_in}, Lent.Equal.test_at}
 use Rattle.dw_cfa.proofs.entries.Entries.give.Goals as goal
 
 pub returns : goal.returns

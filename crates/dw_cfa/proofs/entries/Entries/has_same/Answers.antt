@@ -1,5 +1,4 @@
-use Rattle.dw_cfa.proofs.Words.{entries_of, rule_in}
-use Rattle.dw_cfa.proofs.Lent.Equal.{test_at, test_of}
+use Rattle.dw_cfa.proofs.{Words.{entries_of, rule_in}, Lent.Equal.{test_at, test_of}}
 use Rattle.dw_cfa.proofs.entries.Entries.has_same.Goals as goal
 
 pub returns-then-register-ge-NEAR-clause-test : goal.returns-then-register-ge-NEAR-clause-test

@@ -1,5 +1,4 @@
-use Rattle.dw_cfa.proofs.Words.{entries_of}
-use Rattle.dw_cfa.proofs.{Slots.entries_ascend, Lent.Skipped.same_exactly}
+use Rattle.dw_cfa.proofs.{Words.entries_of, Lent.Skipped.same_exactly, Slots.entries_ascend}
 use Rattle.dw_cfa.proofs.entries.Entries.is_same.Goals as goal
 
 pub returns : goal.returns

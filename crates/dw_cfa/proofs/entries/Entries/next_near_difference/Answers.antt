@@ -1,5 +1,4 @@
-use Rattle.dw_cfa.proofs.Words.{refl, arith, entries_of}
-use Rattle.dw_cfa.proofs.Difference.{one_more, up_to_next}
+use Rattle.dw_cfa.proofs.{Words.{refl, arith, entries_of}, Difference.{one_more, up_to_next}}
 use Rattle.dw_cfa.proofs.entries.Entries.next_near_difference.Goals as goal
 
 pub slots-preserved : goal.slots-preserved

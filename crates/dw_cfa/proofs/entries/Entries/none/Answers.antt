@@ -1,5 +1,4 @@
-use Rattle.dw_cfa.proofs.Words.{refl, sym, subst, replicate, no_slot, AreSpecified}
-use Rattle.dw_cfa.proofs.Slots.{none_hold, none_listed}
+use Rattle.dw_cfa.proofs.{Words.{refl, sym, subst, replicate, no_slot, AreSpecified}, Slots.{none_hold, none_listed}}
 use Rattle.dw_cfa.proofs.entries.Entries.none.Goals as goal
 
 pub returns-clause-entries : goal.returns-clause-entries

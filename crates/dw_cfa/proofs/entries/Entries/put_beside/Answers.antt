@@ -1,6 +1,5 @@
-use Rattle.dw_cfa.proofs.Words.{ℕ, ap, arith, length-set, refl, set, ◌∙◌}
 use Rattle.dw_cfa.specs.declared.slot.Slot.TheVariants.{Beside}
-use Rattle.dw_cfa.proofs.Slots.{expression_holds, expression_put, put_so}
+use Rattle.dw_cfa.proofs.{Words.{ℕ, ap, arith, length-set, refl, set, ◌∙◌}, Slots.{expression_holds, expression_put, put_so}}
 use Rattle.dw_cfa.proofs.entries.Entries.put_beside.Goals as goal
 
 pub returns-clause-ok : goal.returns-clause-ok

@@ -1,5 +1,4 @@
-use Rattle.dw_cfa.proofs.Words.{ℕ, ap, length-set, set, ◌∙◌}
-use Rattle.dw_cfa.proofs.Slots.{plain_holds, plain_put}
+use Rattle.dw_cfa.proofs.{Words.{ℕ, ap, length-set, set, ◌∙◌}, Slots.{plain_holds, plain_put}}
 use Rattle.dw_cfa.proofs.entries.Entries.put_plain.Goals as goal
 
 pub returns-clause-entries : goal.returns-clause-entries

@@ -1,5 +1,4 @@
-use Rattle.dw_cfa.proofs.Words.{ℕ, ◌∙◌, sym, ap, get_or, Slot, slot_rule, no_slot, rule_in}
-use Rattle.dw_cfa.proofs.Slots.{is_given, is_set, not_in, not_set, one_in}
+use Rattle.dw_cfa.proofs.{Words.{ℕ, ◌∙◌, sym, ap, get_or, Slot, slot_rule, no_slot, rule_in}, Slots.{is_given, is_set, not_in, not_set, one_in}}
 use Rattle.dw_cfa.proofs.entries.Entries.slot.Goals as goal
 
 pub returns-then-not-is_in-clause-rule : goal.returns-then-not-is_in-clause-rule

@@ -1,5 +1,4 @@
-use Rattle.dw_cfa.proofs.Words.{◌∙◌, Unspecified, near_rule}
-use Rattle.dw_cfa.proofs.{Slots.{far_set, put_so}, WideRows.removed_is}
+use Rattle.dw_cfa.proofs.{Words.{◌∙◌, Unspecified, near_rule}, Slots.{far_set, put_so}, WideRows.removed_is}
 use Rattle.dw_cfa.proofs.entries.Entries.take_out.Goals as goal
 
 pub returns-clause-entries : goal.returns-clause-entries

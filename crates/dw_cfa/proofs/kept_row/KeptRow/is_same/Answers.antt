@@ -1,5 +1,4 @@
-use Rattle.dw_cfa.proofs.Words.{refl, sym, ◌∙◌}
-use Rattle.dw_cfa.proofs.Marked.{kept_exactly}
+use Rattle.dw_cfa.proofs.{Words.{refl, sym, ◌∙◌}, Marked.kept_exactly}
 use Rattle.dw_cfa.proofs.kept_row.KeptRow.is_same.Goals as goal
 
 pub returns-then-is_same : goal.returns-then-is_same

@@ -1,5 +1,4 @@
-use Rattle.dw_cfa.proofs.Words.{◌∙◌, err_from_is_err_and, marked}
-use Rattle.dw_cfa.proofs.RegisterSets.{more_added, none_else, rest_up, tree_next}
+use Rattle.dw_cfa.proofs.{Words.{◌∙◌, err_from_is_err_and, marked}, RegisterSets.{more_added, none_else, rest_up, tree_next}}
 use Rattle.dw_cfa.proofs.marks.Marks.mark_all.Goals as goal
 
 pub registers-preserved : goal.registers-preserved

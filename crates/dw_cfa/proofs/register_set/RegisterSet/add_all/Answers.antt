@@ -1,5 +1,4 @@
-use Rattle.dw_cfa.proofs.Words.{marked}
-use Rattle.dw_cfa.proofs.RegisterSets.{all_added, all_stay, no_others}
+use Rattle.dw_cfa.proofs.{Words.marked, RegisterSets.{all_added, all_stay, no_others}}
 use Rattle.dw_cfa.proofs.register_set.RegisterSet.add_all.Goals as goal
 
 pub returns-clause-added : goal.returns-clause-added

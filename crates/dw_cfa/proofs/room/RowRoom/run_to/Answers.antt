@@ -1,5 +1,4 @@
-use Rattle.dw_cfa.proofs.Words.{arith, program_input}
-use Rattle.dw_cfa.proofs.UpTo.{up_to}
+use Rattle.dw_cfa.proofs.{Words.{arith, program_input}, UpTo.up_to}
 use Rattle.dw_cfa.proofs.room.RowRoom.run_to.Goals as goal
 
 pub returns : goal.returns

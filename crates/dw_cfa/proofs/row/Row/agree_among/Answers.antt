@@ -1,5 +1,4 @@
-use Rattle.dw_cfa.proofs.Words.{refl, ◌∙◌}
-use Rattle.dw_cfa.proofs.{Lent.Equal.not_one, RegisterSets.{other_cfas, same_cfas}}
+use Rattle.dw_cfa.proofs.{Words.{refl, ◌∙◌}, Lent.Equal.not_one, RegisterSets.{other_cfas, same_cfas}}
 use Rattle.dw_cfa.proofs.row.Row.agree_among.Goals as goal
 
 pub returns-then-not-is_same : goal.returns-then-not-is_same

@@ -1,5 +1,4 @@
-use Rattle.dw_cfa.proofs.Words.{subst, Rules, AreSpecified}
-use Rattle.dw_cfa.proofs.Slots.{entries_ascend}
+use Rattle.dw_cfa.proofs.{Words.{subst, Rules, AreSpecified}, Slots.entries_ascend}
 use Rattle.dw_cfa.proofs.row.Row.ascends.Goals as goal
 
 pub returns : goal.returns

@@ -1,6 +1,5 @@
-use Rattle.dw_cfa.proofs.Words.{Ok, Err, IfOk-weaker, IfErr-weaker, program_input}
+use Rattle.dw_cfa.proofs.{Words.{Ok, Err, IfOk-weaker, IfErr-weaker, program_input}, Lent.Given.{leaves_to, refusal_weaker}}
 use Rattle.dw_cfa.proofs.row.Row.become_initial.Goals as goal
-use Rattle.dw_cfa.proofs.Lent.Given.{leaves_to, refusal_weaker}
 
 pub returns-clause-ok : goal.returns-clause-ok
 returns-clause-ok c =

@@ -1,5 +1,4 @@
-use Rattle.dw_cfa.proofs.Words.{ap, ◌∙◌, List, Rules, entries_of, without}
-use Rattle.dw_cfa.proofs.{Slots.entries_ascend, Lent.RowLists.Entry, Lent.Narrowed.put_out}
+use Rattle.dw_cfa.proofs.{Words.{ap, ◌∙◌, List, Rules, entries_of, without}, Lent.Narrowed.put_out, Lent.RowLists.Entry, Slots.entries_ascend}
 use Rattle.dw_cfa.proofs.row.Row.drop_register.Goals as goal
 
 pub returns : goal.returns

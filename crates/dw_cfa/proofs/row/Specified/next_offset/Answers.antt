@@ -1,5 +1,4 @@
-use Rattle.dw_cfa.proofs.Words.{rules, ◌≡◌, ◌∙◌, ℕ, suc, ◌+◌, arith, ap, far_behind, get_or, no_slot, rule_in, subst, sym, FirstBit, FitsSigned, Some, to_z-of_z, w64}
-use Rattle.dw_cfa.proofs.Slots.{next_used}
+use Rattle.dw_cfa.proofs.{Words.{rules, ◌≡◌, ◌∙◌, ℕ, suc, ◌+◌, arith, ap, far_behind, get_or, no_slot, rule_in, subst, sym, FirstBit, FitsSigned, Some, to_z-of_z, w64}, Slots.next_used}
 use Rattle.dw_cfa.proofs.row.Specified.next_offset.Goals as goal
 
 pub returns : goal.returns

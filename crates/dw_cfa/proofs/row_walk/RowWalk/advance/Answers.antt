@@ -1,7 +1,5 @@
-use Rattle.dw_cfa.proofs.Words.{Some, sym, subst, Progress, Rules, rows_left, progress_after, AreLeft, initial_of}
-use Rattle.dw_cfa.proofs.Walks.{goes_on_stands, stands_on}
+use Rattle.dw_cfa.proofs.{Words.{Some, sym, subst, Progress, Rules, rows_left, progress_after, AreLeft, initial_of}, Walks.{goes_on_stands, stands_on}, row_walk.RowWalk.advance.Goals.{then-is_err, else-is_err}}
 use Rattle.dw_cfa.proofs.row_walk.RowWalk.advance.Goals as goal
-use Rattle.dw_cfa.proofs.row_walk.RowWalk.advance.Goals.{then-is_err, else-is_err}
 
 pub returns-in-Ok-clause-stands : goal.returns-in-Ok-clause-stands
 returns-in-Ok-clause-stands c =

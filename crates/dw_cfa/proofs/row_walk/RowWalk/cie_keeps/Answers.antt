@@ -1,5 +1,4 @@
-use Rattle.dw_cfa.proofs.Words.{ap, Walking}
-use Rattle.dw_cfa.proofs.StaySpecified.{cie_keeps}
+use Rattle.dw_cfa.proofs.{Words.{ap, Walking}, StaySpecified.cie_keeps}
 use Rattle.dw_cfa.proofs.row_walk.RowWalk.cie_keeps.Goals as goal
 
 pub returns : goal.returns

@@ -1,6 +1,5 @@
-use Rattle.dw_cfa.proofs.Words.{subst, AreBytes, Walking}
+use Rattle.dw_cfa.proofs.{Words.{subst, AreBytes, Walking}, Lent.Given.given_runs}
 use Rattle.dw_cfa.proofs.row_walk.RowWalk.go_on.Goals as goal
-use Rattle.dw_cfa.proofs.Lent.Given.{given_runs}
 
 pub returns-clause-runs : goal.returns-clause-runs
 returns-clause-runs c =

@@ -1,5 +1,4 @@
-use Rattle.dw_cfa.proofs.Words.{sym, ap, subst, ◌∙◌, Machine, Held, Walking, WalksSo, walk_of}
-use Rattle.dw_cfa.proofs.Walks.{kept_walk, kept_walks}
+use Rattle.dw_cfa.proofs.{Words.{sym, ap, subst, ◌∙◌, Machine, Held, Walking, WalksSo, walk_of}, Walks.{kept_walk, kept_walks}}
 use Rattle.dw_cfa.proofs.row_walk.RowWalk.keep.Goals as goal
 
 abbrev with_states : Machine → Held → Machine

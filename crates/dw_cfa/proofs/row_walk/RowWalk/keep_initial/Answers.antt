@@ -1,5 +1,4 @@
-use Rattle.dw_cfa.proofs.Words.{Ok, ap, refl, sym, ◌∙◌, inl, subst, LeavesTo, Progress, Walking, initial_of, Led}
-use Rattle.dw_cfa.proofs.Walks.{led_initial, walk_from}
+use Rattle.dw_cfa.proofs.{Words.{Ok, ap, refl, sym, ◌∙◌, inl, subst, LeavesTo, Progress, Walking, initial_of, Led}, Walks.{led_initial, walk_from}}
 use Rattle.dw_cfa.proofs.row_walk.RowWalk.keep_initial.Goals as goal
 
 pub keep_ready-requires-clause-runs : goal.keep_ready-requires-clause-runs

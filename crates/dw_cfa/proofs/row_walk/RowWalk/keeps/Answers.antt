@@ -1,5 +1,4 @@
-use Rattle.dw_cfa.proofs.Words.{ap, Walking}
-use Rattle.dw_cfa.proofs.{StaySpecified.walk_keeps, Walks.begun_unknown}
+use Rattle.dw_cfa.proofs.{Words.{ap, Walking}, StaySpecified.walk_keeps, Walks.begun_unknown}
 use Rattle.dw_cfa.proofs.row_walk.RowWalk.keeps.Goals as goal
 
 pub returns-in-Begun-clause-exact : goal.returns-in-Begun-clause-exact

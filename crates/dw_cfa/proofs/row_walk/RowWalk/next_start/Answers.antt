@@ -1,5 +1,4 @@
-use Rattle.dw_cfa.proofs.Words.{Some, ap, sym, Walking}
-use Rattle.dw_cfa.proofs.Walks.{walk_from}
+use Rattle.dw_cfa.proofs.{Words.{Some, ap, sym, Walking}, Walks.walk_from}
 use Rattle.dw_cfa.proofs.row_walk.RowWalk.next_start.Goals as goal
 
 pub returns-in-Begun-clause-next : goal.returns-in-Begun-clause-next

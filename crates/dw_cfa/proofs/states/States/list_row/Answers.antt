@@ -1,5 +1,4 @@
-use Rattle.dw_cfa.proofs.Words.{ap, ◌∙◌, Rules}
-use Rattle.dw_cfa.proofs.StatesLaws.{listed_held, listed_so, mark_behind}
+use Rattle.dw_cfa.proofs.{Words.{ap, ◌∙◌, Rules}, StatesLaws.{listed_held, listed_so, mark_behind}}
 use Rattle.dw_cfa.proofs.states.States.list_row.Goals as goal
 
 pub invariant_of-self-2 : goal.invariant_of-self-2

@@ -1,5 +1,4 @@
-use Rattle.dw_cfa.proofs.Words.{ap, ◌∙◌, blank, held, Watching}
-use Rattle.dw_cfa.proofs.StatesLaws.{begun_held, begun_so}
+use Rattle.dw_cfa.proofs.{Words.{ap, ◌∙◌, blank, held, Watching}, StatesLaws.{begun_held, begun_so}}
 use Rattle.dw_cfa.proofs.states.States.new.Goals as goal
 
 pub invariant_of-result : goal.invariant_of-result

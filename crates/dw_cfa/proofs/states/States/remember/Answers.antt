@@ -1,5 +1,4 @@
-use Rattle.dw_cfa.proofs.Words.{refl, sym, ap, ◌∙◌, subst, length, saved_if, Bool, KeptSo, Rules}
-use Rattle.dw_cfa.proofs.StatesLaws.{saved_held, saved_so}
+use Rattle.dw_cfa.proofs.{Words.{refl, sym, ap, ◌∙◌, subst, length, saved_if, Bool, KeptSo, Rules}, StatesLaws.{saved_held, saved_so}}
 use Rattle.dw_cfa.proofs.states.States.remember.Goals as goal
 
 pub invariant_of-self : goal.invariant_of-self

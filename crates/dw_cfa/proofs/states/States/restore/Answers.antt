@@ -1,5 +1,4 @@
-use Rattle.dw_cfa.proofs.Words.{◌-◌, ◌∙◌, ap, reverse, sym, subst, rows_before, StatesSo, Watching}
-use Rattle.dw_cfa.proofs.StatesLaws.{back_held, begun_so, found_count, found_held, found_so, none_held, none_left, none_since}
+use Rattle.dw_cfa.proofs.{Words.{◌-◌, ◌∙◌, ap, reverse, sym, subst, rows_before, StatesSo, Watching}, StatesLaws.{back_held, begun_so, found_count, found_held, found_so, none_held, none_left, none_since}}
 use Rattle.dw_cfa.proofs.states.States.restore.Goals as goal
 
 pub overflow_sub-self : goal.overflow_sub-self

@@ -1,5 +1,4 @@
-use Rattle.dw_cfa.proofs.Words.{on_ok_weaker}
-use Rattle.dw_cfa.proofs.StatesLaws.{begun_so, rewound}
+use Rattle.dw_cfa.proofs.{Words.on_ok_weaker, StatesLaws.{begun_so, rewound}}
 use Rattle.dw_cfa.proofs.states.States.rewind.Goals as goal
 
 pub invariant_of-self : goal.invariant_of-self

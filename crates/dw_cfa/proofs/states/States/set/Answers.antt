@@ -1,5 +1,4 @@
-use Rattle.dw_cfa.proofs.Words.{subst, AreSpecified, Rules}
-use Rattle.dw_cfa.proofs.{Marked.set_so, StatesLaws.{marked_so, ruled, set_held, since_row, rows_set, rows_same}}
+use Rattle.dw_cfa.proofs.{Words.{subst, AreSpecified, Rules}, Marked.set_so, StatesLaws.{marked_so, ruled, set_held, since_row, rows_set, rows_same}}
 use Rattle.dw_cfa.proofs.states.States.set.Goals as goal
 
 pub invariant_of-self-2 : goal.invariant_of-self-2

@@ -1,5 +1,4 @@
-use Rattle.dw_cfa.proofs.Words.{ap, ◌∙◌, [], Held, first_if}
-use Rattle.dw_cfa.proofs.StatesLaws.{begun_held, begun_so}
+use Rattle.dw_cfa.proofs.{Words.{ap, ◌∙◌, [], Held, first_if}, StatesLaws.{begun_held, begun_so}}
 use Rattle.dw_cfa.proofs.states.States.track.Goals as goal
 
 pub invariant_of-self : goal.invariant_of-self

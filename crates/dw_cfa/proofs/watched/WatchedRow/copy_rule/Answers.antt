@@ -1,5 +1,4 @@
-use Rattle.dw_cfa.proofs.Words.{rule_in}
-use Rattle.dw_cfa.proofs.Marked.{set_so}
+use Rattle.dw_cfa.proofs.{Words.rule_in, Marked.set_so}
 use Rattle.dw_cfa.proofs.watched.WatchedRow.copy_rule.Goals as goal
 
 pub invariant_of-self-2 : goal.invariant_of-self-2

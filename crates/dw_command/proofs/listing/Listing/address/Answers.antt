@@ -1,5 +1,4 @@
-use Rattle.dw_command.proofs.Words.{take}
-use Rattle.dw_command.proofs.{Digits.is_last, Puts.in_room}
+use Rattle.dw_command.proofs.{Words.take, Digits.is_last, Puts.in_room}
 use Rattle.dw_command.proofs.listing.Listing.address.Goals as goal
 
 pub returns-in-Err-clause-put : goal.returns-in-Err-clause-put

@@ -1,6 +1,5 @@
-use Rattle.dw_command.proofs.Words.{◌≡◌, ◌∙◌, ◌++◌, ◌+◌, ◌∷◌, ◌/◌, ◌%◌, [], ℕ, List, ap, arith, take, decimal, append_assoc, decimal_two, decimal_pair}
 use Rattle.std.proofs.lemmas.Fmt.{decimal_digit}
-use Rattle.dw_command.proofs.Puts.{in_room}
+use Rattle.dw_command.proofs.{Words.{◌≡◌, ◌∙◌, ◌++◌, ◌+◌, ◌∷◌, ◌/◌, ◌%◌, [], ℕ, List, ap, arith, take, decimal, append_assoc, decimal_two, decimal_pair}, Puts.in_room}
 use Rattle.dw_command.proofs.listing.Listing.decimal.Goals as goal
 
 pub returns-then-number-lt10-clause-put : goal.returns-then-number-lt10-clause-put

@@ -1,5 +1,4 @@
-use Rattle.dw_command.proofs.Words.{◌≡◌, ◌∙◌, ◌++◌, ◌+◌, ◌*◌, ◌^◌, ◌/◌, ◌%◌, List, ℕ, false, ap, ap₂, arith, take, digits, append_assoc, last_digits}
-use Rattle.dw_command.proofs.{Digits.behind, Puts.in_room}
+use Rattle.dw_command.proofs.{Words.{◌≡◌, ◌∙◌, ◌++◌, ◌+◌, ◌*◌, ◌^◌, ◌/◌, ◌%◌, List, ℕ, false, ap, ap₂, arith, take, digits, append_assoc, last_digits}, Digits.behind, Puts.in_room}
 use Rattle.dw_command.proofs.listing.Listing.hex.Goals as goal
 
 pub returns-then-high-gt0-clause-put : goal.returns-then-high-gt0-clause-put

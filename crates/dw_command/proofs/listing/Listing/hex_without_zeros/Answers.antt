@@ -1,5 +1,4 @@
-use Rattle.dw_command.proofs.Words.{◌≡◌, ◌∙◌, ◌++◌, ◌+◌, List, ℕ, ap, arith, length, take, rules, ◌≤◌, length-take-le}
-use Rattle.dw_command.proofs.Digits.{led, no_zeros, taken_back}
+use Rattle.dw_command.proofs.{Words.{◌≡◌, ◌∙◌, ◌++◌, ◌+◌, List, ℕ, ap, arith, length, take, rules, ◌≤◌, length-take-le}, Digits.{led, no_zeros, taken_back}}
 use Rattle.dw_command.proofs.listing.Listing.hex_without_zeros.Goals as goal
 
 pub returns-clause-put : goal.returns-clause-put

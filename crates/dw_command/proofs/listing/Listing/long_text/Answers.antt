@@ -1,5 +1,4 @@
-use Rattle.dw_command.proofs.Words.{◌∙◌, ◌-◌, ◌++◌, List, ℕ, length, take, drop, ap, arith, sym, subst, append_assoc, length-drop, take_rest, Appends, Appends-trans, Appends-kept, put_so_far}
-use Rattle.dw_command.proofs.Pieces.{piece_more, gone_more}
+use Rattle.dw_command.proofs.{Words.{◌∙◌, ◌-◌, ◌++◌, List, ℕ, length, take, drop, ap, arith, sym, subst, append_assoc, length-drop, take_rest, Appends, Appends-trans, Appends-kept, put_so_far}, Pieces.{piece_more, gone_more}}
 use Rattle.dw_command.proofs.listing.Listing.long_text.Goals as goal
 
 pub pieces-preserved : goal.pieces-preserved

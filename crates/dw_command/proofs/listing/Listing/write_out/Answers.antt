@@ -1,5 +1,4 @@
-use Rattle.dw_command.proofs.Words.{◌≡◌, ◌∙◌, ◌≤◌, ◌-◌, ◌++◌, ap, sym, arith, ℕ, List, length, take, rules, append_known-moved}
-use Rattle.dw_command.proofs.Puts.{parted, whole}
+use Rattle.dw_command.proofs.{Words.{◌≡◌, ◌∙◌, ◌≤◌, ◌-◌, ◌++◌, ap, sym, arith, ℕ, List, length, take, rules, append_known-moved}, Puts.{parted, whole}}
 use Rattle.dw_command.proofs.listing.Listing.write_out.Goals as goal
 
 pub returns-then-done-len-clause-put : goal.returns-then-done-len-clause-put

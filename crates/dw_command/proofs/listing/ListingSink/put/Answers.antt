@@ -1,5 +1,4 @@
-use Rattle.dw_command.proofs.Words.{List, ℕ, ◌++◌, ◌∙◌, sym, ap, take}
-use Rattle.dw_command.proofs.Pieces.{was_ok, gone_of, front_again}
+use Rattle.dw_command.proofs.{Words.{List, ℕ, ◌++◌, ◌∙◌, sym, ap, take}, Pieces.{was_ok, gone_of, front_again}}
 use Rattle.dw_command.proofs.listing.ListingSink.put.Goals as goal
 
 pub returns-clause-room : goal.returns-clause-room

@@ -1,5 +1,4 @@
-use Rattle.dw_eval.proofs.Words.{◌≡◌, ℕ, List, Option, None, length, sym, subst, held, any_held}
-use Rattle.dw_eval.proofs.RegisterLaws.{first_count, view_end}
+use Rattle.dw_eval.proofs.{Words.{◌≡◌, ℕ, List, Option, None, length, sym, subst, held, any_held}, RegisterLaws.{first_count, view_end}}
 use Rattle.dw_eval.proofs.registers.Registers.end.Goals as goal
 
 pub returns-clause-exact : goal.returns-clause-exact

@@ -1,5 +1,4 @@
-use Rattle.dw_eval.proofs.Words.{◌≡◌, ◌∙◌, ℕ, List, Option, sym, subst, held}
-use Rattle.dw_eval.proofs.RegisterLaws.{view_holds}
+use Rattle.dw_eval.proofs.{Words.{◌≡◌, ◌∙◌, ℕ, List, Option, sym, subst, held}, RegisterLaws.view_holds}
 use Rattle.dw_eval.proofs.registers.Registers.get.Goals as goal
 
 pub returns : goal.returns

@@ -1,5 +1,4 @@
-use Rattle.dw_eval.proofs.Words.{refl, first_held}
-use Rattle.dw_eval.proofs.RegisterLaws.{none_so}
+use Rattle.dw_eval.proofs.{Words.{refl, first_held}, RegisterLaws.none_so}
 use Rattle.dw_eval.proofs.registers.Registers.new.Goals as goal
 
 pub invariant_of-result : goal.invariant_of-result

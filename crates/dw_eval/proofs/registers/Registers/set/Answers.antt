@@ -1,5 +1,4 @@
-use Rattle.dw_eval.proofs.Words.{◌≡◌, ◌∙◌, ◌+◌, ℕ, List, Option, Some, length, sym, ap, subst, if◌then◌else◌, ◌==◌, max, held, any_held, first_held}
-use Rattle.dw_eval.proofs.RegisterLaws.{first_count, put_held, put_so}
+use Rattle.dw_eval.proofs.{Words.{◌≡◌, ◌∙◌, ◌+◌, ℕ, List, Option, Some, length, sym, ap, subst, if◌then◌else◌, ◌==◌, max, held, any_held, first_held}, RegisterLaws.{first_count, put_held, put_so}}
 use Rattle.dw_eval.proofs.registers.Registers.set.Goals as goal
 
 pub returns-clause-set : goal.returns-clause-set

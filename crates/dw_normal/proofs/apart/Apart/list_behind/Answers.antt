@@ -1,8 +1,7 @@
-use Rattle.dw_normal.proofs.Words.{◌≡◌, ap, sym, subst, ◌∙◌, Registers, SameBeside, Known, AreLess}
 use Rattle.dw_normal.specs.declared.apart.Apart.{Apart}
-use Rattle.dw_normal.proofs.{Apartness.beside_both, KnownCies.puts_notes}
-use Rattle.dw_normal.proofs.apart.Apart.list_behind.Goals as goal
+use Rattle.dw_normal.proofs.{Words.{◌≡◌, ap, sym, subst, ◌∙◌, Registers, SameBeside, Known, AreLess}, Apartness.beside_both, KnownCies.puts_notes}
 use Rattle.dw_normal.proofs.apart.Apart.list_behind.Goals.{After-put, in-Some+in_ok-add_all-in-Some+in_ok-list_differences-in-Some, in-None+in_ok-list_differences-in-None}
+use Rattle.dw_normal.proofs.apart.Apart.list_behind.Goals as goal
 
 -- behind both arms the registers are listed, and what is known is what was left of it
 joined : (c : After-put) → (c.match-take.self.known ≡ c.take.new.self) × SameBeside c.match-take.self.registers c.args.shared.now c.args.first.now

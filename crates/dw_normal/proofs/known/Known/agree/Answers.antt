@@ -1,8 +1,6 @@
-use Rattle.dw_normal.proofs.Words.{sym, ◌∙◌, subst, Rules, agreed_of, Registers, AgreesBeside, SameBeside}
 use Rattle.dw_normal.specs.Inner.Known.{Puts}
-use Rattle.dw_normal.proofs.KnownCies.{agreed_beside, puts_notes}
+use Rattle.dw_normal.proofs.{Words.{sym, ◌∙◌, subst, Rules, agreed_of, Registers, AgreesBeside, SameBeside}, KnownCies.{agreed_beside, puts_notes}, known.Known.agree.Goals.{in-Some+in_ok-add_all-in-Some+in_ok-agree_among-in-Some, in-None}}
 use Rattle.dw_normal.proofs.known.Known.agree.Goals as goal
-use Rattle.dw_normal.proofs.known.Known.agree.Goals.{in-Some+in_ok-add_all-in-Some+in_ok-agree_among-in-Some, in-None}
 
 pub returns-clause-row : goal.returns-clause-row
 returns-clause-row c =

@@ -1,5 +1,4 @@
-use Rattle.dw_normal.proofs.Words.{None, sym, subst, IfSome, AreBeside}
-use Rattle.dw_normal.proofs.CiePairs.{twins_after}
+use Rattle.dw_normal.proofs.{Words.{None, sym, subst, IfSome, AreBeside}, CiePairs.twins_after}
 use Rattle.dw_normal.proofs.twins.Twins.take.Goals as goal
 
 pub returns-clause-found : goal.returns-clause-found

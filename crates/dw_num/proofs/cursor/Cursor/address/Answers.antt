@@ -1,5 +1,4 @@
-use Rattle.dw_num.proofs.Words.{subst, Input, AreBytes, Address, address_at}
-use Rattle.dw_num.proofs.Lent.{LebLaws.{found_of, only_of}, FixedLaws.{address_found, address_only}}
+use Rattle.dw_num.proofs.{Words.{subst, Input, AreBytes, Address, address_at}, Lent.FixedLaws.{address_found, address_only}, Lent.LebLaws.{found_of, only_of}}
 use Rattle.dw_num.proofs.cursor.Cursor.address.Goals as goal
 
 pub returns-clause-found : goal.returns-clause-found

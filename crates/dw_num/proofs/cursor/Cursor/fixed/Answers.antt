@@ -1,5 +1,4 @@
-use Rattle.dw_num.proofs.Words.{subst, Input, AreBytes, Fixed, fixed_at}
-use Rattle.dw_num.proofs.Lent.{LebLaws.{found_of, only_of}, FixedLaws.{fixed_found, fixed_only}}
+use Rattle.dw_num.proofs.{Words.{subst, Input, AreBytes, Fixed, fixed_at}, Lent.FixedLaws.{fixed_found, fixed_only}, Lent.LebLaws.{found_of, only_of}}
 use Rattle.dw_num.proofs.cursor.Cursor.fixed.Goals as goal
 
 pub returns-clause-found : goal.returns-clause-found

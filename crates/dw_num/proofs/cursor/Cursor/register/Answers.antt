@@ -1,5 +1,4 @@
-use Rattle.dw_num.proofs.Words.{subst, Input, AreBytes, Register, register_at}
-use Rattle.dw_num.proofs.Lent.LebLaws.{register_found, register_only, found_of, only_of}
+use Rattle.dw_num.proofs.{Words.{subst, Input, AreBytes, Register, register_at}, Lent.LebLaws.{register_found, register_only, found_of, only_of}}
 use Rattle.dw_num.proofs.cursor.Cursor.register.Goals as goal
 
 pub returns-clause-found : goal.returns-clause-found

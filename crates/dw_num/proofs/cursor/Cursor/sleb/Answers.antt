@@ -1,5 +1,4 @@
-use Rattle.dw_num.proofs.Words.{subst, Input, AreBytes, Sleb, sleb_at}
-use Rattle.dw_num.proofs.Lent.{LebLaws.{found_of, only_of}, SlebLaws.{sleb_found, sleb_only}}
+use Rattle.dw_num.proofs.{Words.{subst, Input, AreBytes, Sleb, sleb_at}, Lent.LebLaws.{found_of, only_of}, Lent.SlebLaws.{sleb_found, sleb_only}}
 use Rattle.dw_num.proofs.cursor.Cursor.sleb.Goals as goal
 
 pub returns-clause-found : goal.returns-clause-found

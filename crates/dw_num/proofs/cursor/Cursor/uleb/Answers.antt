@@ -1,5 +1,4 @@
-use Rattle.dw_num.proofs.Words.{subst, Input, AreBytes, Uleb, uleb_at}
-use Rattle.dw_num.proofs.Lent.LebLaws.{uleb_found, uleb_only, found_of, only_of}
+use Rattle.dw_num.proofs.{Words.{subst, Input, AreBytes, Uleb, uleb_at}, Lent.LebLaws.{uleb_found, uleb_only, found_of, only_of}}
 use Rattle.dw_num.proofs.cursor.Cursor.uleb.Goals as goal
 
 pub returns-clause-found : goal.returns-clause-found

@@ -1,5 +1,4 @@
-use Rattle.dw_num.proofs.Words.{subst, Input, AreBytes, SpellsLength, unit_length_at}
-use Rattle.dw_num.proofs.Lent.{FixedLaws.{unit_length_found, unit_length_only}, LebLaws.{found_of, only_of}}
+use Rattle.dw_num.proofs.{Words.{subst, Input, AreBytes, SpellsLength, unit_length_at}, Lent.FixedLaws.{unit_length_found, unit_length_only}, Lent.LebLaws.{found_of, only_of}}
 use Rattle.dw_num.proofs.cursor.Cursor.unit_length.Goals as goal
 
 pub returns-clause-found : goal.returns-clause-found

@@ -1,5 +1,4 @@
-use Rattle.dw_op.proofs.Words.{refl, err_from_is_err_and, Frame}
-use Rattle.dw_op.proofs.{Lent.Blocks.fault_found, Lent.FaultPlaces.fault_within, Judgement.{accepted_block, block_ops, refused_none}}
+use Rattle.dw_op.proofs.{Words.{refl, err_from_is_err_and, Frame}, Judgement.{accepted_block, block_ops, refused_none}, Lent.Blocks.fault_found, Lent.FaultPlaces.fault_within}
 use Rattle.dw_op.proofs.expression.ExprRef.accept.Goals as goal
 
 pub returns-in_err-judge-clause-only : goal.returns-in_err-judge-clause-only

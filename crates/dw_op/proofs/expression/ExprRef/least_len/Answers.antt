@@ -1,5 +1,4 @@
-use Rattle.dw_op.proofs.Words.{◌≡◌, ops_of}
-use Rattle.dw_op.proofs.LeastSpellings.{accepted_least}
+use Rattle.dw_op.proofs.{Words.{◌≡◌, ops_of}, LeastSpellings.accepted_least}
 use Rattle.dw_op.proofs.expression.ExprRef.least_len.Goals as goal
 
 pub returns : goal.returns

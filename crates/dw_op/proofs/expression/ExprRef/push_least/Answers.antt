@@ -1,5 +1,4 @@
-use Rattle.dw_op.proofs.Words.{◌≡◌, ◌++◌, ops_of, IsAppended, least_block, LeastBlock}
-use Rattle.dw_op.proofs.{Lent.EncodeLaws.on_ok, LeastSpellings.accepted_appended}
+use Rattle.dw_op.proofs.{Words.{◌≡◌, ◌++◌, ops_of, IsAppended, least_block, LeastBlock}, LeastSpellings.accepted_appended, Lent.EncodeLaws.on_ok}
 use Rattle.dw_op.proofs.expression.ExprRef.push_least.Goals as goal
 
 pub returns-clause-ok : goal.returns-clause-ok

@@ -1,7 +1,5 @@
-use Rattle.dw_op.proofs.Words.{Ok, Some, None, Option, Op, Walks}
-use Rattle.dw_op.proofs.Judgement.{steps_answer, left_bad}
+use Rattle.dw_op.proofs.{Words.{Ok, Some, None, Option, Op, Walks}, Judgement.{steps_answer, left_bad}, expression.OpSteps.step.Goals.{in-Ok-Some, in-Ok-None, in-Err}}
 use Rattle.dw_op.proofs.expression.OpSteps.step.Goals as goal
-use Rattle.dw_op.proofs.expression.OpSteps.step.Goals.{in-Ok-Some, in-Ok-None, in-Err}
 
 pub returns : goal.returns
 returns c = elim c.match-next_op.branch [

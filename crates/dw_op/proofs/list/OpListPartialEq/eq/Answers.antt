@@ -1,5 +1,4 @@
-use Rattle.dw_op.proofs.Words.{◌≡◌, rules}
-use Rattle.dw_op.proofs.Lent.Lines.{is_list_test}
+use Rattle.dw_op.proofs.{Words.{◌≡◌, rules}, Lent.Lines.is_list_test}
 use Rattle.dw_op.proofs.list.OpListPartialEq.eq.Goals as goal
 
 pub returns-then-eq-clause-test : goal.returns-then-eq-clause-test

@@ -1,5 +1,4 @@
-use Rattle.dw_op.proofs.Words.{ℕ, ◌+◌, refl, ◌≡◌, arith, Option, Some, None, ap, Frame, bare, bare_step, weight, sum_in, find_at, goes_to, block_of, SoughtSo}
-use Rattle.dw_op.proofs.Walkers.{gone_on, room_on, to_seek, walked_branch, walked_nowhere}
+use Rattle.dw_op.proofs.{Words.{ℕ, ◌+◌, refl, ◌≡◌, arith, Option, Some, None, ap, Frame, bare, bare_step, weight, sum_in, find_at, goes_to, block_of, SoughtSo}, Walkers.{gone_on, room_on, to_seek, walked_branch, walked_nowhere}}
 use Rattle.dw_op.proofs.walk.Walker.next_op.Goals as goal
 
 pub returns-in-Some : goal.returns-in-Some

@@ -1,5 +1,4 @@
-use Rattle.dw_op.proofs.Words.{◌-◌, Shifted}
-use Rattle.dw_op.proofs.Walkers.{window_moved}
+use Rattle.dw_op.proofs.{Words.{◌-◌, Shifted}, Walkers.window_moved}
 use Rattle.dw_op.proofs.walk.Walker.reach.Goals as goal
 
 pub returns-clause-so : goal.returns-clause-so

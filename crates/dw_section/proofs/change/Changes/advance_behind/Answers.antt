@@ -1,5 +1,4 @@
-use Rattle.dw_section.proofs.Words.{◌≡◌, ℕ, Option, ap, subst, Changing, LedBy, LedSo, Section}
-use Rattle.dw_section.proofs.BehindCie.{all_shown, cie_shown}
+use Rattle.dw_section.proofs.{Words.{◌≡◌, ℕ, Option, ap, subst, Changing, LedBy, LedSo, Section}, BehindCie.{all_shown, cie_shown}}
 use Rattle.dw_section.proofs.change.Changes.advance_behind.Goals as goal
 
 -- the walk was led to the CIE at this place

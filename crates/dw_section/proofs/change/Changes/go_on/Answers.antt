@@ -1,7 +1,6 @@
-use Rattle.dw_section.proofs.Words.{◌≡◌, ◌+◌, ◌∙◌, ap, arith, subst, sym, AreRowsOf, Changing, Section, Stepping, changing}
 use Rattle.dw_section.specs.declared.change.Changes.TheInside.{Inside}
+use Rattle.dw_section.proofs.{Words.{◌≡◌, ◌+◌, ◌∙◌, ap, arith, subst, sym, AreRowsOf, Changing, Section, Stepping, changing}, change.Changes.go_on.Goals.{then-self, else-self+else-long}}
 use Rattle.dw_section.proofs.change.Changes.go_on.Goals as goal
-use Rattle.dw_section.proofs.change.Changes.go_on.Goals.{then-self, else-self+else-long}
 
 abbrev section_of : Inside → Section
 section_of x = record { target = x.target; bytes = x.bytes.now }

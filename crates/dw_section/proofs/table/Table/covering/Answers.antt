@@ -1,5 +1,4 @@
-use Rattle.dw_section.proofs.Words.{sym, subst, fde_of, Covers}
-use Rattle.dw_section.proofs.{Lent.FdeLookup.fde_listed, RowLookup.runs_found}
+use Rattle.dw_section.proofs.{Words.{sym, subst, fde_of, Covers}, Lent.FdeLookup.fde_listed, RowLookup.runs_found}
 use Rattle.dw_section.proofs.table.Table.covering.Goals as goal
 
 pub returns-clause-fde : goal.returns-clause-fde

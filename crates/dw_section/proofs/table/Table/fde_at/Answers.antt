@@ -1,5 +1,4 @@
-use Rattle.dw_section.proofs.Words.{refl}
-use Rattle.dw_section.proofs.Lent.FdeLookup.{covers_listed, listed_are}
+use Rattle.dw_section.proofs.{Words.refl, Lent.FdeLookup.{covers_listed, listed_are}}
 use Rattle.dw_section.proofs.table.Table.fde_at.Goals as goal
 
 pub returns-in-Some : goal.returns-in-Some

@@ -1,5 +1,4 @@
-use Rattle.dw_section.proofs.Words.{length, ap, arith, length-map, fde_in}
-use Rattle.dw_section.proofs.Lent.FdeLookup.{listed_are}
+use Rattle.dw_section.proofs.{Words.{length, ap, arith, length-map, fde_in}, Lent.FdeLookup.listed_are}
 use Rattle.dw_section.proofs.table.Table.fde_count.Goals as goal
 
 pub returns : goal.returns

@@ -1,5 +1,4 @@
-use Rattle.dw_section.proofs.Words.{◌∙◌, sym, arith}
-use Rattle.dw_section.proofs.Lent.FdeLookup.{same_fde}
+use Rattle.dw_section.proofs.{Words.{◌∙◌, sym, arith}, Lent.FdeLookup.same_fde}
 use Rattle.dw_section.proofs.table.Table.found.Goals as goal
 
 pub returns-clause-found : goal.returns-clause-found

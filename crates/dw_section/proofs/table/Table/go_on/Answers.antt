@@ -1,5 +1,4 @@
-use Rattle.dw_section.proofs.Words.{◌∙◌, ap, Changing}
-use Rattle.dw_section.proofs.{CieLaws.found_led, RowLookup.runs_found}
+use Rattle.dw_section.proofs.{Words.{◌∙◌, ap, Changing}, CieLaws.found_led, RowLookup.runs_found}
 use Rattle.dw_section.proofs.table.Table.go_on.Goals as goal
 
 pub go_on-requires-clause-in_space : goal.go_on-requires-clause-in_space

@@ -1,7 +1,6 @@
 use Rattle.dw_section.proofs.Words.{◌<◌, List, length, get_or, ap, subst, ◌∙◌, arith, get_or_default, Head, IsRanged}
-use Rattle.dw_section.proofs.{Lent.FdeLookup.{none, listed_are, listed_place, listed_fde, ranged_of}, Lent.HeaderLaws.one_headers, RowLookup.table_some}
+use Rattle.dw_section.proofs.{Lent.FdeLookup.{none, listed_are, listed_place, listed_fde, ranged_of}, Lent.HeaderLaws.one_headers, RowLookup.table_some, table.Table.listed.Goals.After-index}
 use Rattle.dw_section.proofs.table.Table.listed.Goals as goal
-use Rattle.dw_section.proofs.table.Table.listed.Goals.{After-index}
 
 inside : (c : After-index) → c.args.fde.place < length c.index.result.now
 inside c = listed_place c.args.self.now.target c.args.self.now.bytes c.index.result.now c.args.fde.place c.index.ensures c.requires

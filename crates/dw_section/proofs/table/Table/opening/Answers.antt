@@ -1,5 +1,4 @@
-use Rattle.dw_section.proofs.Words.{ap, subst, Target, Section}
-use Rattle.dw_section.proofs.{Extents.found_lengths, Opened.{Opens, found_opening, only_opening}}
+use Rattle.dw_section.proofs.{Words.{ap, subst, Target, Section}, Extents.found_lengths, Opened.{Opens, found_opening, only_opening}}
 use Rattle.dw_section.proofs.table.Table.opening.Goals as goal
 
 pub returns-clause-lengths : goal.returns-clause-lengths

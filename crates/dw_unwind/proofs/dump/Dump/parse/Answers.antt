@@ -1,5 +1,4 @@
-use Rattle.dw_unwind.proofs.Words.{address_limit, lines_of}
-use Rattle.dw_unwind.proofs.OneDump.{only_dump, refuses_within}
+use Rattle.dw_unwind.proofs.{Words.{address_limit, lines_of}, OneDump.{only_dump, refuses_within}}
 use Rattle.dw_unwind.proofs.dump.Dump.parse.Goals as goal
 
 pub returns-clause-only : goal.returns-clause-only

@@ -1,5 +1,4 @@
-use Rattle.dw_unwind.proofs.Words.{◌≡◌, suc, ◌+◌, true, Ok, sym, ap, subst, ◌∙◌, arith, RegRule, context, RegisterIs, is_listed}
-use Rattle.dw_unwind.proofs.FrameLaws.{so_added}
+use Rattle.dw_unwind.proofs.{Words.{◌≡◌, suc, ◌+◌, true, Ok, sym, ap, subst, ◌∙◌, arith, RegRule, context, RegisterIs, is_listed}, FrameLaws.so_added}
 use Rattle.dw_unwind.proofs.machine.Machine.add_given.Goals as goal
 
 pub returns : goal.returns

@@ -1,5 +1,4 @@
-use Rattle.dw_unwind.proofs.Words.{ℕ, Option, Err, subst, arith, err_from_is_err_and, context, Over, Adds, IsLeft, RegistersAre, RegistersFail}
-use Rattle.dw_unwind.proofs.{ColumnLaws.over_error, FrameLaws.{left_before, left_none, so_all}}
+use Rattle.dw_unwind.proofs.{Words.{ℕ, Option, Err, subst, arith, err_from_is_err_and, context, Over, Adds, IsLeft, RegistersAre, RegistersFail}, ColumnLaws.over_error, FrameLaws.{left_before, left_none, so_all}}
 use Rattle.dw_unwind.proofs.machine.Machine.registers.Goals as goal
 
 pub returns-in_err-add-clause-so : goal.returns-in_err-add-clause-so

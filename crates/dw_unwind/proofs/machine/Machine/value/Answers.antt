@@ -1,5 +1,4 @@
-use Rattle.dw_unwind.proofs.Words.{subst, Expression, context, first_stack, ValueIs, ValueFails, Over}
-use Rattle.dw_unwind.proofs.ColumnLaws.{Tells, value_over}
+use Rattle.dw_unwind.proofs.{Words.{subst, Expression, context, first_stack, ValueIs, ValueFails, Over}, ColumnLaws.{Tells, value_over}}
 use Rattle.dw_unwind.proofs.machine.Machine.value.Goals as goal
 
 pub returns-clause-so : goal.returns-clause-so

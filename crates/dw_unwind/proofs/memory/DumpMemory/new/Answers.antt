@@ -1,5 +1,4 @@
-use Rattle.dw_unwind.proofs.Words.{◌^◌, length, IsSoundRange}
-use Rattle.dw_unwind.proofs.RangeLaws.{have_bytes, all_permuted, byte_permuted}
+use Rattle.dw_unwind.proofs.{Words.{◌^◌, length, IsSoundRange}, RangeLaws.{have_bytes, all_permuted, byte_permuted}}
 use Rattle.dw_unwind.proofs.memory.DumpMemory.new.Goals as goal
 
 pub settle-requires-clause-some : goal.settle-requires-clause-some
