@@ -1,9 +1,9 @@
 //! The registers of a row with their rules (6.4.1).
 
-ghost use Rattle.std.specs.Prelude.{◌≡◌, ◌<◌, ℤ, [], false, IfOk, IfSome, OnOk, OnErr, MatchOption, IsTrue, ◌↔◌};
+ghost use Rattle.std.specs.Prelude.{◌≡◌, ◌<◌, ℤ, [], IfOk, IfSome, OnOk, OnErr, MatchOption, IsTrue, ◌↔◌};
 ghost use Rattle.dw_cfa.specs.{Difference.{FirstDifference, place_behind}, Rows.{rule_in, is_specified}, declared.rule.RegRule.{RegRule as TheRule}};
 ghost use Rattle.dw_cfa.specs.{declared.rule.RegRule.TheVariants.{Offset, Unspecified}, declared.slot.Slot.TheVariants.Beside, Inner.Agreement.same_rule};
-ghost use Rattle.dw_cfa.specs.Inner.{Difference.{FirstBelow, SameUnset}, Entries.{entries_of, EntriesSo, IsSlotOf, slot_rule}, Marks.CopiedUpTo, Rows.put};
+ghost use Rattle.dw_cfa.specs.Inner.{Difference.{FirstBelow, SameUnset}, Entries.{entries_of, EntriesSo, IsSlotOf, slot_rule}, Rows.put};
 
 use crate::behind::{place_behind, start_behind};
 use crate::near_slots::{bit_of, copy_slots, is_in, next_in, same_slots};
@@ -401,38 +401,6 @@ impl<'a> Entries<'a> {
             place = register + 1;
         }
         Ok(())
-    }
-
-    // Gives the registers in a mask the rules that others give them, where all others below 128 have the same rules, and those
-    // beside slots are the same.
-    #[inline(always)]
-    fn copy_masked(&mut self, others: &Entries<'a>, mask: u128)
-        requires so { EntriesSo self.old }
-        requires others { EntriesSo others.now }
-        requires expressions { self.old.expressions.entries ≡ others.now.expressions.entries }
-        requires same { SameUnset mask (entries_of self.old) (entries_of others.now) }
-        ensures copied { CopiedUpTo 128 (entries_of others.now) (entries_of self.old) (entries_of self.new) }
-        ensures so { EntriesSo self.new }
-    {
-        copy_slots(&mut self.slots, &others.slots, others.used & mask);
-        self.used = others.used;
-    }
-
-    // The same where no rule is kept beside a slot, and says whether that is so.
-    #[inline(always)]
-    pub(crate) fn copy_among(&mut self, others: &Entries<'a>, mask: u128) -> bool
-        requires so { EntriesSo self.old }
-        requires others { EntriesSo others.now }
-        requires same { SameUnset mask (entries_of self.old) (entries_of others.now) }
-        ensures copied { IsTrue result → CopiedUpTo 128 (entries_of others.now) (entries_of self.old) (entries_of self.new) }
-        ensures so { EntriesSo self.new }
-        ensures stays { result ≡ false → entries_of self.new ≡ entries_of self.old }
-    {
-        if !self.expressions.is_empty() || !others.expressions.is_empty() {
-            return false;
-        }
-        self.copy_masked(others, mask);
-        true
     }
 
     // Makes them a copy of others, where both have the same trees.

@@ -20,6 +20,7 @@ mod laws;
 mod look_up;
 mod machine;
 mod marks;
+mod masked;
 mod near_slots;
 mod next_row;
 mod noted;
