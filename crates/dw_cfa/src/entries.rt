@@ -1,9 +1,9 @@
 //! The registers of a row with their rules (6.4.1).
 
 ghost use Rattle.std.specs.Prelude.{◌≡◌, ◌<◌, ℤ, [], IfOk, IfSome, OnOk, OnErr, MatchOption, IsTrue, ◌↔◌};
-ghost use Rattle.dw_cfa.specs.{Difference.{FirstDifference, place_behind}, Rows.{rule_in, is_specified}, declared.rule.RegRule.{RegRule as TheRule}};
-ghost use Rattle.dw_cfa.specs.{declared.rule.RegRule.TheVariants.{Offset, Unspecified}, declared.slot.Slot.TheVariants.Beside, Inner.Agreement.same_rule};
-ghost use Rattle.dw_cfa.specs.Inner.{Difference.{FirstBelow, SameUnset}, Entries.{entries_of, EntriesSo, IsSlotOf, slot_rule}, Rows.put};
+ghost use Rattle.dw_cfa.specs.{Difference.{FirstDifference, place_behind}, Rows.{rule_in, is_specified}};
+ghost use Rattle.dw_cfa.specs.declared.{rule.RegRule.{RegRule as TheRule}, rule.RegRule.TheVariants.{Offset, Unspecified}, slot.Slot.TheVariants.Beside};
+ghost use Rattle.dw_cfa.specs.Inner.{Agreement.same_rule, Difference.{FirstBelow, SameUnset}, Entries.{entries_of, EntriesSo, IsSlotOf, slot_rule}, Rows.put};
 
 use crate::behind::{place_behind, start_behind};
 use crate::near_slots::{bit_of, copy_slots, is_in, next_in, same_slots};
