@@ -9,7 +9,7 @@ pub use Rattle.clap.specs.{Faults.{step_fault, stray_fault, turn_fault, use_faul
 pub use Rattle.clap.specs.{Simple.{label_of, names_of, rows_at}, Walk.{Held, Names, Outcome, Step, Waiting, Walk, action_of, after_flag, after_step, answers_to, arg_by_id, arg_by_index, arg_by_long, arg_by_short, at_row, attached_value}}
 pub use Rattle.clap.specs.Walk.{bundle, bundle_step, default_rows, done, finished, flag_met, has_row, is_pending, long_met, long_or_other, more_values, most_values, nothing_held, option_met, option_word, plain_word, positional_held}
 pub use Rattle.clap.specs.Walk.{reacted, reading_by, rows_after, settled, settled_rows, short_met, short_or_plain, subcommand_met, subcommand_or_other, takes_several, takes_values, to_positional, trailing, used, used_as, used_by_id}
-pub use Rattle.clap.specs.{Walk.{value, values_or_missing, walk, walk_from, walked_from, with_default, with_values, without, word_met}, Words.{AddsArg, AddsSubcommand, App, HasKind, HasMatchesOf, Row, Rule, Text, app_of, fault_of}}
+pub use Rattle.clap.specs.{Walk.{values_or_missing, walk, walk_from, walked_from, with_default, with_values, without, word_met}, Words.{AddsArg, AddsSubcommand, App, HasKind, HasMatchesOf, Row, Rule, Text, app_of, fault_of}}
 pub use Rattle.clap.specs.{Words.{first_of, found_of, is_simple_and_free, new_app, rows_of, subcommand_name_of, subcommand_of, subcommand_rows_of, with_rule, with_subcommand}, declared.builder.command.Command.TheViews.out-Command}
 unfoldable pub use Rattle.clap.proofs.OnLiterals.{clap_on_literals}
 pub use Rattle.clap.proofs.WalkLemmas.{both, first_value-rows, raw_values-rows, walk_stopped}
