@@ -2,7 +2,7 @@
 use Rattle.dw_cfa.specs.declared.rule.CfaRule.TheVariants as cfa
 use Rattle.dw_cfa.specs.declared.rule.RegRule.TheVariants as rules
 use Rattle.dw_canon.proofs.Words.{◌≡◌, ℕ, zero, suc, ◌+◌, ◌*◌, ◌<◌, ◌≤◌, true, false, cond, List, [], ◌∷◌, length, refl, ap, ◌∙◌, inl, inr, arith, ℤ, pos, negsuc, neg_ℤ, unsigned_abs, nat_lt, count_by}
-use Rattle.dw_canon.proofs.Words.{is_positive, cases_Bool, length-append, Target, Register, shortest_uleb, shortest_sleb, shortest_uleb-most, shortest_uleb-one, shortest_uleb-ten, shortest_signed-ten, leb_some}
+use Rattle.dw_canon.proofs.Words.{is_positive, cases_Bool, length-append, Target, Register, shortest_uleb, shortest_sleb, shortest_uleb-most, shortest_uleb-one, shortest_uleb-ten, signed_length, leb_some}
 use Rattle.dw_canon.proofs.Words.{least_block, Expression, Code, Both, least_block_exists, least_no_longer, Factors, Instr, SetLoc, Advance, DefCfaExpression, Set, CfaRule, RegRule, IsOffset, BlockSpells}
 use Rattle.dw_canon.proofs.{Words.{InstrSpells, ProgramSpells, AdvanceSpells, RuleSpells, IsSpelled, by_table, moves_location, expression_bytes, rule_bytes, packed}, MemberLaws.count_more, Sums.{sum_of, if_own}}
 
@@ -38,9 +38,9 @@ pub abs_len : (n : ℤ) → IsOffset n → length (shortest_uleb (unsigned_abs n
 abs_len n h = shortest_uleb-ten (unsigned_abs n) (omega (arith, h))
 
 pub neg_len : (n : ℤ) → IsOffset n → length (shortest_sleb (neg_ℤ n)) ≤ 10
-neg_len (pos zero) h = shortest_signed-ten false 0 (omega arith)
-neg_len (pos (suc m)) h = shortest_signed-ten true m (omega (arith, h))
-neg_len (negsuc m) h = shortest_signed-ten false (suc m) (omega (arith, h))
+neg_len (pos zero) h = omega (arith, signed_length false 0, shortest_uleb-ten (2 * 0) (omega arith))
+neg_len (pos (suc m)) h = omega (arith, signed_length true m, shortest_uleb-ten (2 * m) (omega (arith, h)))
+neg_len (negsuc m) h = omega (arith, signed_length false (suc m), shortest_uleb-ten (2 * suc m) (omega (arith, h)))
 
 pub packed_len : (low c r : ℕ) → length (packed low c r) ≤ 1 + length (shortest_uleb r)
 packed_len low c r = elim (cases_Bool (nat_lt r 64)) [ inl e ↦ rw e (omega arith) | inr e ↦ rw e (omega arith) ]

@@ -7,7 +7,7 @@ pub use Rattle.std.proofs.lemmas.{Bool.{and_parts, cases_Bool, cases_lt, eqb-fal
 unfoldable pub use Rattle.dw_num.specs.Shortest.{shortest_sleb, shortest_uleb}
 pub use Rattle.dw_num.specs.{Fixed.{Address, Fixed, fixed_bytes}, Input.AreBytes, Leb.{IsLeb, Register}, Span.Span, Target.{address_limit, byte_count}}
 pub use Rattle.dw_num.specs.declared.target.{Form.TheVariants.Dwarf32, Order.Order, Order.TheVariants.{Big, Little}, Size.Size, Size.TheVariants.{Eight, Four}, Target.Target}
-pub use Rattle.dw_num.proofs.Lent.{FixedLaws.length-fixed, Shortest.{leb_some, shortest_signed-ten, shortest_sleb-spells, shortest_uleb-most, shortest_uleb-one, shortest_uleb-spells, shortest_uleb-ten}}
+pub use Rattle.dw_num.proofs.Lent.{FixedLaws.length-fixed, Shortest.{leb_some, shortest_sleb-spells, shortest_uleb-most, shortest_uleb-one, shortest_uleb-spells, shortest_uleb-ten, signed_length}}
 pub use Rattle.dw_op.specs.{Expression.Expression, Least.LeastBlock, OpSpells.{AnyTwo, Both, Code}, declared.op.Op.Op}
 unfoldable pub use Rattle.dw_op.specs.Inner.LeastBlock.{least_block}
 pub use Rattle.dw_op.specs.Inner.ByOperation.{Alone, Const1s, Const1u, Const2s, Const2u, Const4s, Const4u, Const8s, Const8u, ConstForm, Consts, Constu, Lit}
