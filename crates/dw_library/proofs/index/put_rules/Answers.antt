@@ -1,8 +1,15 @@
-use Rattle.dw_library.proofs.Overlays.{overlaid_more, overlaid_all}
+use Rattle.dw_library.proofs.{Words.{rules, ◌<◌, ◌∙◌, sym, FitsSigned, to_z-of_z, w64}, Overlays.{overlaid_more, overlaid_all}}
 use Rattle.dw_library.proofs.index.put_rules.Goals as goal
 
-pub loop-number-preserved : goal.loop-number-preserved
-loop-number-preserved c = overlaid_more c.loop-number.invariant c.in-Some.ensures.steps c.rule_of.ensures.told c.rule_of.ensures.fits c.put_rule.ensures.inside c.put_rule.ensures.outside
+pub rules-preserved-in-Some : goal.rules-preserved-in-Some
+rules-preserved-in-Some c =
+    let low : c.in-Some.number < 65536 = search rules in
+    let fits : FitsSigned w64 c.in-Some.offset = search rules in
+    overlaid_more c.rules.invariant c.in-Some.ensures (rw (to_z-of_z w64 c.in-Some.offset fits) at c.told_rule.ensures) low c.put_rule.ensures.inside c.put_rule.ensures.outside
 
-pub returns-clause-rules : goal.returns-clause-rules
-returns-clause-rules c = overlaid_all c.loop-number.invariant c.in-None.ensures.steps.0
+pub rules-preserved : goal.rules-preserved
+rules-preserved c =
+    overlaid_more c.rules.invariant (sym c.in_default.ensures ∙ c.in-Some-next.ensures.steps) c.any_rule.ensures.told c.any_rule.ensures.fits c.put_rule-in-rules.ensures.inside c.put_rule-in-rules.ensures.outside
+
+pub returns-in_default-next-clause-rules : goal.returns-in_default-next-clause-rules
+returns-in_default-next-clause-rules c = overlaid_all c.rules.invariant (sym c.in_default.ensures ∙ c.in_default-next.ensures.steps.0)

@@ -1,5 +1,8 @@
-use Rattle.dw_library.proofs.Overlays.{Overlaid}
+use Rattle.dw_library.proofs.{Words.length, Overlays.Overlaid}
 use Rattle.dw_library.proofs.index.put_rules.Given as goal
 
-abbrev pub invariant-loop-number : goal.invariant-loop-number
-invariant-loop-number l = Overlaid l.row.registers l.number-iterator l.initial.out l.out l.count
+abbrev pub invariant-rules : goal.invariant-rules
+invariant-rules l = Overlaid l.fn.row.registers l.rules l.initial.out l.out l.count
+
+abbrev pub decreases-rules : goal.decreases-rules
+decreases-rules l = length l.rules
