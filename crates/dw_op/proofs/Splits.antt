@@ -1,7 +1,7 @@
 -- A walk over a block, and the parts that it reads.
 use Rattle.dw_op.specs.Inner.Walks.{ended, put, on_read, on_left, walked_by}
-use Rattle.dw_op.proofs.Words.{◌≡◌, ℕ, zero, suc, ◌+◌, ◌-◌, ◌<◌, ◌≤◌, true, List, [], ◌∷◌, ◌++◌, length, Option, Some, None, Ok, Err, refl, sym, ap, subst, ◌∙◌, append_assoc, arith, length-append, nil_from_length, Refusal, Target}
-use Rattle.dw_op.proofs.{Words.{Input, AreBytes, Takes, Read, fixed_at, done, taken_bytes, Profile, Step, joined, step_at, StepSpells, step_allowed, PlacedStep, item_of, Walk, walk}, Lent.ReadingLaws.step_found, ReadingAgain.step_again}
+use Rattle.dw_op.proofs.Words.{◌≡◌, ℕ, zero, suc, ◌+◌, ◌-◌, ◌<◌, ◌≤◌, true, List, [], ◌∷◌, ◌++◌, length, Option, Some, None, Ok, Err, refl, sym, ap, subst, ◌∙◌, append_assoc, arith, length-append, nil_from_length, cond_ok, ◌>>=◌, NotInFrame, Refusal, Target}
+use Rattle.dw_op.proofs.{Words.{Input, AreBytes, Takes, Read, fixed_at, done, taken_bytes, Profile, Frame, Location, Opcode, Step, judged, operands_at, after_code, opcode_of, code_in_frame, joined, step_at, StepSpells, step_allowed, PlacedStep, item_of, Walk, walk}, Lent.ReadingLaws.step_found, ReadingAgain.step_again}
 
 abbrev after_item : ℕ → Step → Walk → Walk
 after_item at step w = put (item_of at step) w
@@ -190,3 +190,39 @@ walk_stuck profile i r some e = let long : length i.bytes ≡ suc (length i.byte
 pub walk_end : (profile : Profile) (i : Input) → length i.bytes ≡ 0 → walk profile i ≡ ended None
 unfolding walk
 walk_end profile i e = ap (λ (l : List ℕ). walk_by profile (length l) (input i.at l i.target)) (nil_from_length i.bytes e) ∙ end_walk_by profile 0 i.at i.target
+
+-- ---- what a profile reads is read as a location description
+
+judged_located : (profile : Profile) (at : ℕ) (o : Option Opcode) (i : Input) (x : Step × Input) → judged profile at o i ≡ done x → judged Location at o i ≡ done x
+judged_located Location at o i x e = e
+judged_located Frame at None i x e = e
+judged_located Frame at (Some opcode) i x e = (cond_ok (code_in_frame opcode) (operands_at opcode i) (record { code = NotInFrame; at = at }) x e).1
+
+step_located : (profile : Profile) (i : Input) (x : Step × Input) → step_at profile i ≡ done x → step_at Location i ≡ done x
+unfolding step_at
+step_located profile i x e = go (fixed_at 1 i) e
+  where
+    go : (r : Read ℕ) → (r >>= after_code profile i.at) ≡ done x → (r >>= after_code Location i.at) ≡ done x
+    go (Ok code) e = judged_located profile i.at (opcode_of code.0) code.1 x e
+    go (Err r) e = e
+
+abbrev read_by : Profile → ℕ → ℕ → List ℕ → Read Step → Walk
+read_by profile n at l r = on_left l (on_read r (λ e. ended (Some e)) (λ x. after_item at x.0 (walk_by profile n x.1)))
+
+located_by : (profile : Profile) (n : ℕ) (i : Input) → (walk_by profile n i).fault ≡ None → walk_by Location n i ≡ walk_by profile n i
+unfolding walked_by
+located_by profile zero i h = refl
+located_by profile (suc n) i h = go i.bytes (step_at profile i) (λ j k. located_by profile n j k) refl h
+  where
+    go : (l : List ℕ) (r : Read Step) → ((j : Input) → (walk_by profile n j).fault ≡ None → walk_by Location n j ≡ walk_by profile n j) → step_at profile i ≡ r → (read_by profile n i.at l r).fault ≡ None
+        → read_by Location n i.at l (step_at Location i) ≡ read_by profile n i.at l r
+    go [] r more is h = refl
+    go (b ∷ l) (Ok x) more is h = rw (step_located profile i x is) (ap (λ (w : Walk). after_item i.at x.0 w) (more x.1 h))
+    go (b ∷ l) (Err r) more is h = absurd cc
+
+pub walk_located : (profile : Profile) (i : Input) → (walk profile i).fault ≡ None → walk Location i ≡ walk profile i
+unfolding walk
+walk_located profile i h = located_by profile (length i.bytes) i h
+
+pub located_none : (profile : Profile) (i : Input) → (walk profile i).fault ≡ None → (walk Location i).fault ≡ None
+located_none profile i h = ap (λ (w : Walk). w.fault) (walk_located profile i h) ∙ h

@@ -87,18 +87,3 @@ index_in profile i place = index_at (walk profile i).items (end_of i) place
 -- the operations of a block, or its first fault
 unfoldable pub decode_at : Profile → Input → Result (List Op) Refusal
 decode_at profile i = unless (walk profile i).fault (resolve (index_in profile i) (walk profile i).items)
-
--- the starts of the operations, and the end
-abbrev pub starts_of : List PlacedStep → ℕ → List ℕ
-starts_of [] end = end ∷ []
-starts_of (item ∷ items) end = item.at ∷ starts_of items end
-
--- which of the places it is
-abbrev pub place_index : List ℕ → ℕ → Option ℕ
-place_index [] place = None
-place_index (p ∷ ps) place = if nat_eq place p then Some 0 else plus 1 (place_index ps place)
-
--- places that rise, from low on
-abbrev pub Rises : ℕ → List ℕ → Type 0
-Rises low [] = Unit {0}
-Rises low (p ∷ ps) = (low ≤ p) × Rises (suc p) ps
