@@ -34,7 +34,6 @@ put_before ops (Err r) = Err r
 
 pub record OpsSo (profile : Profile) (i j : Input) (find : ℕ → Option ℕ) (ops : List Op) : Type 0 where
   pub within : Within i j
-  pub fault : (walk profile j).fault ≡ (walk profile i).fault
   pub found : put_before ops (resolve find (walk profile j).items) ≡ resolve find (walk profile i).items
 
 one_more : (at : ℕ) (ops : List Op) (op : Op) (r : Result (List Op) Refusal) → put_before (ops ++ op ∷ []) r ≡ put_before ops (put_first (Some op) at r)
@@ -48,7 +47,6 @@ ops_more profile i j find ops x op h e is =
     let more = resolve find (walk profile x.1).items in
     record {
       within = within_more profile i j x h.within e;
-      fault = sym (ap (λ (y : Walk). y.fault) w) ∙ h.fault;
       found = one_more j.at ops op more ∙ ap (λ (o : Option Op). put_before ops (put_first o j.at more)) (sym is) ∙ ap (λ (y : Walk). put_before ops (resolve find y.items)) (sym w) ∙ h.found;
     }
 

@@ -165,6 +165,7 @@ pub(crate) fn same_steps(mut a: OpSteps<'_>, mut b: OpSteps<'_>) -> bool
 }
 
 /// Whether two lists have the same operations.
+#[tactic(auto, using(crate::proofs::Lent::Lines::at_same))]
 pub(crate) fn same_ops(a: &[Op<'_>], b: &[Op<'_>]) -> bool
     ensures { IsTrue result ↔ map bare a.now ≡ map bare b.now }
 {

@@ -187,6 +187,7 @@ impl<'a> ExprRef<'a> {
     }
 
     // Appends the block of least spellings, and may leave some of it where memory runs out.
+    #[tactic(auto, using(crate::proofs::LeastSpellings::accepted_appended, crate::proofs::Lent::EncodeLaws::on_ok))]
     fn push_least(&self, out: &mut Vec<u8>) -> Result<(), AllocError>
         ensures ok { OnOk result (IsAppended (LeastBlock self.now.target self.now.ops) out.old.items out.new.items) }
         ensures front { take (length out.old.items) out.new.items ≡ out.old.items }

@@ -41,6 +41,7 @@ fn check_branches(bytes: &[u8], target: Target) -> Result<(), Refusal>
 }
 
 /// Whether bytes are a block of the frame profile, or their first fault.
+#[tactic(auto, using(crate::proofs::Lent::Blocks::decoded_fault))]
 pub(crate) fn judge(bytes: &[u8], target: Target) -> Result<(), Refusal>
     ensures found { IfOk result (λ _. IsAccepted target bytes.now) }
     ensures first { IfErr result (λ r. decode_at Frame (block_input target bytes.now) ≡ Err r) }

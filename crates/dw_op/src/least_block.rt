@@ -126,6 +126,7 @@ fn push_ops(
 }
 
 // Appends the least block, and may leave some of it.
+#[tactic(auto, using(crate::proofs::Lent::EncodeLaws::on_ok, crate::proofs::Lent::LeastBlocks::least_block_is))]
 fn push_list(out: &mut Vec<u8>, list: &OpList<'_>) -> Result<(), EncodeError>
     ensures ok { OnOk result (IsAppended (LeastBlock list.now.target list.now.ops) out.old.items out.new.items) }
     ensures far { IfErr result (IsEncodeError list.now.target list.now.ops) }

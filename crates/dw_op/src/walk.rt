@@ -177,6 +177,7 @@ impl<'a> Walker<'a> {
     }
 
     // What stands before the operation that a branch names that ends here.
+    #[inline(never)]
     fn sought(&mut self, end: u64, number: u16) -> Option<usize>
         requires { SoughtSo end self.old }
         ensures exact { result ≡ find_at (sum_in self.old.measure Location (block_of self.old)) (goes_to end number) }
@@ -198,6 +199,7 @@ impl<'a> Walker<'a> {
 
     /// The next operation, or the refusal of a branch that leads nowhere. A branch has what stands before the
     /// operation that it names.
+    #[inline(always)]
     #[tactic(auto, using(crate::proofs::Walkers::walked_plain, crate::proofs::WalkStarts::never_stuck))]
     pub(crate) fn next_op(&mut self) -> Result<Option<Op<'a>>, Refusal>
         requires { WalkSo self.old }
