@@ -1,8 +1,8 @@
 -- Judging a block, and what an accepted one stands for.
 use Rattle.dw_op.proofs.Words.{◌≡◌, ℕ, ◌<◌, Bool, true, false, false≢true, List, [], ◌∷◌, ◌++◌, length, Option, Some, None, Result, Ok, Err, refl, sym, ap, subst, ◌∙◌, Refusal, Target, Input, AreBytes}
 use Rattle.dw_op.proofs.Words.{done, Op, Profile, Frame, Location, Step, Plain, Measure, Operations, Walker, FrameBlock, Expression, bare, step_at, Walk, walk, end_of, sum_in, index_at, index_in, op_of, put_first, resolve, unless, block_input}
-use Rattle.dw_op.proofs.{Words.{decode_at, block_of, WalkSo, Walked, WalkedBad, Walks, IsDecoded, IsAccepted, ok_ops, ops_of, left_of, StepsSo}, Decoded.{Within, within_more, OpsSo, ops_more, ops_bad, ops_all}}
-use Rattle.dw_op.proofs.{Lent.Blocks.{block_found, block_only, answered, first_of_all, bad_branch, decoded_fault}, Lent.Lines.expression_is, Splits.{walk_step, walk_stuck, walk_end, step_shorter, walk_located, located_none}, Walkers.walked_block}
+use Rattle.dw_op.proofs.{Words.{decode_at, block_of, WalkSo, Walked, WalkedBad, Walks, Within, IsDecoded, IsAccepted, ok_ops, ops_of, left_of, StepsSo}, Decoded.{within_more, OpsSo, ops_more, ops_bad, ops_all}}
+use Rattle.dw_op.proofs.{Lent.Blocks.{block_found, block_only, answered, first_of_all, decoded_fault}, Lent.ReadingLaws.some_is, Lent.Lines.expression_is, Splits.{walk_step, walk_stuck, walk_end, step_shorter, walk_located, located_none}, Walkers.walked_block}
 
 -- a block without fault in its reading is decoded as its branches are resolved
 pub resolved_is : (profile : Profile) (i : Input) (r : Result (List Op) Refusal) → (walk profile i).fault ≡ None → resolve (index_in profile i) (walk profile i).items ≡ r → decode_at profile i ≡ r
@@ -87,7 +87,7 @@ pub check_end : (profile : Profile) (i : Input) (ops : List Op) (w : Walker) →
 check_end profile i ops w read h e = located_is profile i (Ok ops) read (ops_all Location i w.here (index_in Location i) ops h.far (ap length e))
 
 pub check_shorter : (w v : Walker) (op : Op) → WalkSo w → Walked w v op → length v.here.bytes < length w.here.bytes
-check_shorter w v op h s = step_shorter Location w.here s.step v.here h.here.bytes s.read
+check_shorter w v op h s = step_shorter Location w.here s.step v.here h.here.within.bytes s.read
 
 -- ---- what an accepted block stands for
 
@@ -151,18 +151,19 @@ pub left_end : (w : Walker) → w.here.bytes ≡ [] → left_of w ≡ []
 unfolding left_of
 left_end w e = ap (λ (y : Walk). ok_ops (resolve (index_in Location (block_of w)) y.items)) (walk_end Location w.here (ap length e))
 
+-- what is left at a step
+pub left_first : (find : ℕ → Option ℕ) (w : Walker) (step : Step) (behind : Input) (ops : List Op) → WalkSo w → step_at Location w.here ≡ done (step, behind) → resolve find (walk Location w.here).items ≡ answered ops
+    → put_first (op_of find w.here.at step) w.here.at (resolve find (walk Location behind).items) ≡ answered ops
+left_first find w step behind ops so e good = sym (ap (λ (y : Walk). resolve find y.items) (walk_step Location w.here (step, behind) so.here.within.bytes e)) ∙ good
+
 -- what is left behind an operation
 left_says : (w v : Walker) (op : Op) → StepsSo w → Walked w v op → (more : List Op) × (resolve (index_in Location (block_of v)) (walk Location v.here).items ≡ answered more) × (resolve (index_in Location (block_of w)) (walk Location w.here).items ≡ answered (op ∷ more))
 left_says w v op h s =
     let find = index_in Location (block_of w) in
-    let later = resolve find (walk Location v.here).items in
-    let same = walked_block w v op h.so s in
+    let p = first_of_all w.here.at (op_of find w.here.at s.step) (resolve find (walk Location v.here).items) h.ops (left_first find w s.step v.here h.ops h.so s.read h.good) in
     let is_op = numbered w w.here.at s.step (Some op) h.measure s.is in
-    let here : resolve find (walk Location w.here).items ≡ put_first (Some op) w.here.at later =
-    ap (λ (y : Walk). resolve find y.items) (walk_step Location w.here (s.step, v.here) h.so.here.bytes s.read) ∙ ap (λ (o : Option Op). put_first o w.here.at later) is_op in
-    let p = first_of_all w.here.at (Some op) later h.ops (sym here ∙ h.good) in
-    let is : h.ops ≡ op ∷ p.more = cc in
-    (p.more, ap (λ (i : Input). resolve (index_in Location i) (walk Location v.here).items) same ∙ p.rest, h.good ∙ ap answered is)
+    let same : p.op ≡ op = some_is p.op op (sym p.first ∙ is_op) in
+    (p.more, ap (λ (i : Input). resolve (index_in Location i) (walk Location v.here).items) (walked_block w v op h.so s) ∙ p.rest, h.good ∙ ap answered (p.is ∙ ap (λ (o : Op). o ∷ p.more) same))
 
 pub left_more : (w v : Walker) (op : Op) → StepsSo w → Walked w v op → StepsSo v
 left_more w v op h s = let l = left_says w v op h s in record { so = s.so; measure = s.measure ∙ h.measure; ops = l.0; good = l.1 }
@@ -176,10 +177,8 @@ left_is w v op h s =
 pub left_bad : {P : Type 0} (w : Walker) (r : Refusal) → StepsSo w → WalkedBad w r → P
 left_bad w r h s =
     let find = index_in Location (block_of w) in
-    let later = resolve find (walk Location s.behind).items in
-    let here : resolve find (walk Location w.here).items ≡ put_first None w.here.at later =
-    ap (λ (y : Walk). resolve find y.items) (walk_step Location w.here (s.step, s.behind) h.so.here.bytes s.read) ∙ ap (λ (o : Option Op). put_first o w.here.at later) (numbered w w.here.at s.step None h.measure s.bad) in
-    let k : answered h.ops ≡ Err (bad_branch w.here.at) = sym h.good ∙ here in
+    let p = first_of_all w.here.at (op_of find w.here.at s.step) (resolve find (walk Location s.behind).items) h.ops (left_first find w s.step s.behind h.ops h.so s.read h.good) in
+    let k : Some p.op ≡ None = sym p.first ∙ numbered w w.here.at s.step None h.measure s.bad in
     absurd cc
 
 pub steps_after : (w v : Walker) (r : Result (Option Op) Refusal) → StepsSo w → Walks w v r → StepsSo v

@@ -3,7 +3,7 @@ use Rattle.dw_op.proofs.Words.{◌≡◌, ℕ, suc, ◌+◌, ◌<◌, ◌^◌, L
 use Rattle.dw_op.proofs.Words.{branch_target, start, bits_of, blank_parts, BranchFits, EachFits, least_len, least_bytes, least_block, LeastBlock, IsAppended, weight, sum_in, step_length, IsNear, bits_to, index_in, op_of, StepSpells}
 use Rattle.dw_op.proofs.Words.{put_first, resolve, end_of, block_input, block_of, WalkSo, Walked, IsAccepted, ops_of}
 use Rattle.dw_op.proofs.Lent.{Blocks.{answered, same_ops, first_of_all}, EncodeLaws.{IsGoing, going_none, going_more, going_all, front_more}, LeastBlocks.{block_fits, least_block_exists}, LeastOne.{least_block_length, least_len_within}}
-use Rattle.dw_op.proofs.{Lent.ReadingLaws.step_found, Judgement.{accepted_block, accepted_all, same_input}, Splits.{walk_step, walk_end}, Sums.{begins, Alike, alike, same_len, sums_are}, Walkers.walked_block}
+use Rattle.dw_op.proofs.{Lent.ReadingLaws.step_found, Judgement.{accepted_block, accepted_all, same_input, left_first}, Splits.walk_end, Sums.{begins, Alike, alike, same_len, sums_are}, Walkers.walked_block}
 
 -- ---- the operations of an accepted block
 
@@ -85,13 +85,10 @@ module _ (t : Target) (bytes old : List ℕ) (w v : Walker) (other : Op) (out : 
       let parts = blank_parts t (ops_of t bytes) in
       let find = index_in Location i in
       let target : w.here.target ≡ t = ap (λ (j : Input). j.target) h.block in
-      let found = step_found Location w.here v.here s.step h.so.here.bytes s.read in
+      let found = step_found Location w.here v.here s.step h.so.here.within.bytes s.read in
       let advanced : v.count ≡ w.count + step_length t s.step =
       subst (λ (x : Target). v.count ≡ w.count + step_length x s.step) target (subst (λ (m : Measure). v.count ≡ w.count + weight m w.here.target s.step) h.measure s.count) in
-      let later = resolve find (walk Location v.here).items in
-      let here : put_first (op_of find w.here.at s.step) w.here.at later ≡ answered h.rest =
-      sym (ap (λ (y : Walk). resolve find y.items) (walk_step Location w.here (s.step, v.here) h.so.here.bytes s.read)) ∙ h.left in
-      let first = first_of_all w.here.at (op_of find w.here.at s.step) later h.rest here in
+      let first = first_of_all w.here.at (op_of find w.here.at s.step) (resolve find (walk Location v.here).items) h.rest (left_first find w s.step v.here h.rest h.so s.read h.left) in
       let named : op_of (sum_in LeastBytes Location i) w.here.at s.step ≡ Some other =
       subst (λ (j : Input). op_of (sum_in LeastBytes Location j) w.here.at s.step ≡ Some other) h.block (subst (λ (m : Measure). op_of (sum_in m Location (block_of w)) w.here.at s.step ≡ Some other) h.measure s.is) in
       let both : Alike t parts first.op other = alike t parts find (sum_in LeastBytes Location i) w.here.at s.step found.part first.op other (accepted_sums t bytes accepted) (subst (λ (x : Target). StepSpells x s.step found.part) target found.spells) first.first named in

@@ -1,6 +1,6 @@
 -- A walk over a block, and the parts that it reads.
 use Rattle.dw_op.specs.Inner.Walks.{ended, put, on_read, on_left, walked_by}
-use Rattle.dw_op.proofs.Words.{◌≡◌, ℕ, zero, suc, ◌+◌, ◌-◌, ◌<◌, ◌≤◌, true, List, [], ◌∷◌, ◌++◌, length, Option, Some, None, Ok, Err, refl, sym, ap, subst, ◌∙◌, append_assoc, arith, length-append, nil_from_length, cond_ok, ◌>>=◌, NotInFrame, Refusal, Target}
+use Rattle.dw_op.proofs.Words.{◌≡◌, ℕ, zero, suc, ◌+◌, ◌-◌, ◌<◌, ◌≤◌, true, List, [], ◌∷◌, ◌++◌, length, Option, Some, None, Ok, Err, refl, sym, ap, subst, ◌∙◌, append_assoc, arith, length-append, nil_from_length, bind_ok, cond_ok, NotInFrame, Refusal, Target}
 use Rattle.dw_op.proofs.{Words.{Input, AreBytes, Takes, Read, fixed_at, done, taken_bytes, Profile, Frame, Location, Opcode, Step, judged, operands_at, after_code, opcode_of, code_in_frame, joined, step_at, StepSpells, step_allowed, PlacedStep, item_of, Walk, walk}, Lent.ReadingLaws.step_found, ReadingAgain.step_again}
 
 abbrev after_item : ℕ → Step → Walk → Walk
@@ -200,11 +200,7 @@ judged_located Frame at (Some opcode) i x e = (cond_ok (code_in_frame opcode) (o
 
 step_located : (profile : Profile) (i : Input) (x : Step × Input) → step_at profile i ≡ done x → step_at Location i ≡ done x
 unfolding step_at
-step_located profile i x e = go (fixed_at 1 i) e
-  where
-    go : (r : Read ℕ) → (r >>= after_code profile i.at) ≡ done x → (r >>= after_code Location i.at) ≡ done x
-    go (Ok code) e = judged_located profile i.at (opcode_of code.0) code.1 x e
-    go (Err r) e = e
+step_located profile i x e = let p = bind_ok (fixed_at 1 i) (after_code profile i.at) x e in rw p.1 (judged_located profile i.at (opcode_of p.0.0) p.0.1 x p.2)
 
 abbrev read_by : Profile → ℕ → ℕ → List ℕ → Read Step → Walk
 read_by profile n at l r = on_left l (on_read r (λ e. ended (Some e)) (λ x. after_item at x.0 (walk_by profile n x.1)))

@@ -1,8 +1,7 @@
 -- Walks from an operation on, and what they know of the block's starts.
 use Rattle.dw_op.proofs.Words.{cases_lt, inl, inr, ◌≡◌, ℕ, ◌+◌, ◌<◌, ◌≤◌, List, [], ◌∷◌, ◌++◌, length, Option, Some, None, Result, Ok, Err, refl, sym, ap, subst, ◌∙◌, arith, eq-eqb, ne_eqb, length-append, append_assoc, Refusal, Target}
-use Rattle.dw_op.proofs.Words.{Input, AreBytes, done, Location, Plain, Jump, Step, StepSpells, joined, step_at, PlacedStep, Walk, walk, end_of, plus, passed, Measure, Operations, LeastBytes, step_length, weight, sum_in, Shifted}
-use Rattle.dw_op.proofs.{Lent.LeastBlocks.length_of, LeastOf.least, ResolvedSteps.jump_length, Lent.ReadingLaws.step_found, Splits.{EachSpells, items_from, split_of, walk_step, walk_stuck, walk_end, step_shorter}}
-use Rattle.dw_op.proofs.Decoded.{Within, within_more}
+use Rattle.dw_op.proofs.Words.{Input, AreBytes, done, Location, Plain, Jump, Step, StepSpells, joined, step_at, PlacedStep, Walk, walk, end_of, plus, passed, Measure, Operations, LeastBytes, step_length, weight, sum_in, Shifted, Within}
+use Rattle.dw_op.proofs.{Lent.LeastBlocks.length_of, LeastOf.least, ResolvedSteps.jump_length, Lent.ReadingLaws.step_found, Splits.{EachSpells, items_from, split_of, walk_step, walk_stuck, walk_end, step_shorter}, Decoded.{within_all, within_more}}
 
 abbrev starts_at : (Step → ℕ) → ℕ → Input → ℕ → Option ℕ
 starts_at f end j place = passed f (walk Location j).items end place
@@ -77,55 +76,46 @@ weight_within LeastBytes j step new h e =
     let found = step_found Location j new step h e in
     omega (arith, spelling_within j.target step found.part found.spells, ap length found.taken.bytes, length-append found.part new.bytes)
 
-pub shifted_within : (m : Measure) (i : Input) (low count : ℕ) (j : Input) → Shifted m i low count j → Within i j
-shifted_within m i low count j h = record { bytes = h.bytes; end = h.end; target = h.target }
-
 pub shifted_all : (m : Measure) (i : Input) (low : ℕ) → AreBytes i.bytes → (walk Location i).fault ≡ None → Shifted m i low 0 i
-shifted_all m i low h read = record { bytes = h; end = refl; target = refl; read = read; few = omega arith; front = ([], refl); same = λ place le. plus_zero (sum_in m Location i place) }
+shifted_all m i low h read = record { within = within_all i h; read = read; few = omega arith; front = ([], refl); same = λ place le. plus_zero (sum_in m Location i place) }
 
 -- there is room for one operation more
 pub room_for : (m : Measure) (i : Input) (low count : ℕ) (j : Input) (step : Step) (new : Input) (n : ℕ) → Shifted m i low count j → step_at Location j ≡ done (step, new) → n ≡ weight m i.target step → (count + n) + length new.bytes ≤ length i.bytes
 room_for m i low count j step new n h e is =
-    let within : weight m i.target step + length new.bytes ≤ length j.bytes = subst (λ (t : Target). weight m t step + length new.bytes ≤ length j.bytes) h.target (weight_within m j step new h.bytes e) in
+    let within : weight m i.target step + length new.bytes ≤ length j.bytes = subst (λ (t : Target). weight m t step + length new.bytes ≤ length j.bytes) h.within.target (weight_within m j step new h.within.bytes e) in
     omega (arith, h.few)
 
 -- one operation further, where it begins below low
 pub shifted_more : (m : Measure) (i : Input) (low count : ℕ) (j : Input) (step : Step) (new : Input) (n : ℕ) → Shifted m i low count j → step_at Location j ≡ done (step, new) → j.at < low → n ≡ weight m i.target step → Shifted m i low (count + n) new
 shifted_more m i low count j step new n h e lt is =
-    let w = shifted_within m i low count j h in
     let f = weight m i.target in
-    let on = within_more Location i j (step, new) w e in
     record {
-      bytes = on.bytes;
-      end = on.end;
-      target = on.target;
-      read = read_on i j (step, new) w h.read e;
+      within = within_more Location i j (step, new) h.within e;
+      read = read_on i j (step, new) h.within h.read e;
       few = room_for m i low count j step new n h e is;
-      front = let found = step_found Location j new step h.bytes e in front_on i.bytes j.bytes new.bytes h.front (found.part, found.taken.bytes);
+      front = let found = step_found Location j new step h.within.bytes e in front_on i.bytes j.bytes new.bytes h.front (found.part, found.taken.bytes);
       same = λ place le.
           ap (λ (k : ℕ). plus (count + k) (starts_at f (end_of i) new place)) is
-          ∙ plus_plus count (f step) (starts_at f (end_of i) new place) ∙ ap (λ (o : Option ℕ). plus count o) (sym (starts_step f (end_of i) j (step, new) place h.bytes e (omega arith))) ∙ h.same place le;
+          ∙ plus_plus count (f step) (starts_at f (end_of i) new place) ∙ ap (λ (o : Option ℕ). plus count o) (sym (starts_step f (end_of i) j (step, new) place h.within.bytes e (omega arith))) ∙ h.same place le;
     }
 
 pub shifted_later : (m : Measure) (i : Input) (low lower count : ℕ) (j : Input) → lower ≤ low → Shifted m i lower count j → Shifted m i low count j
-shifted_later m i low lower count j le h = record { bytes = h.bytes; end = h.end; target = h.target; read = h.read; few = h.few; front = h.front; same = λ place l. h.same place (omega arith) }
+shifted_later m i low lower count j le h = record { within = h.within; read = h.read; few = h.few; front = h.front; same = λ place l. h.same place (omega arith) }
 
 -- a window in a window
 pub shifted_on : (m : Measure) (i : Input) (low n k : ℕ) (j l : Input) → Shifted m i low n j → Shifted m j low k l → Shifted m i low (n + k) l
 shifted_on m i low n k j l h q =
     let f = weight m i.target in
     let inner : (place : ℕ) → low ≤ place → plus k (starts_at f (end_of j) l place) ≡ starts_at f (end_of j) j place =
-    λ place le. subst (λ (t : Target). plus k (starts_at (weight m t) (end_of j) l place) ≡ starts_at (weight m t) (end_of j) j place) h.target (q.same place le) in
+    λ place le. subst (λ (t : Target). plus k (starts_at (weight m t) (end_of j) l place) ≡ starts_at (weight m t) (end_of j) j place) h.within.target (q.same place le) in
     record {
-      bytes = q.bytes;
-      end = q.end ∙ h.end;
-      target = q.target ∙ h.target;
+      within = record { bytes = q.within.bytes; end = q.within.end ∙ h.within.end; target = q.within.target ∙ h.within.target };
       read = q.read;
       few = omega (arith, h.few, q.few);
       front = front_on i.bytes j.bytes l.bytes h.front q.front;
       same = λ place le.
           plus_plus n k (starts_at f (end_of i) l place)
-          ∙ ap (λ (o : Option ℕ). plus n o) (ap (λ (e : ℕ). plus k (starts_at f e l place)) (sym h.end) ∙ inner place le ∙ ap (λ (e : ℕ). starts_at f e j place) h.end)
+          ∙ ap (λ (o : Option ℕ). plus n o) (ap (λ (e : ℕ). plus k (starts_at f e l place)) (sym h.within.end) ∙ inner place le ∙ ap (λ (e : ℕ). starts_at f e j place) h.within.end)
           ∙ h.same place le;
     }
 
@@ -133,15 +123,15 @@ shifted_on m i low n k j l h q =
 
 module _ (m : Measure) (i : Input) (place count : ℕ) (j : Input) (h : Shifted m i place count j) where
   none_there : ((n : ℕ) → j.at ≤ n → n ≤ end_of j → place ≡ n → ⊥) → None ≡ sum_in m Location i place
-  none_there off = sym (ap (λ (o : Option ℕ). plus count o) (ap (λ (n : ℕ). starts_at (weight m i.target) n j place) (sym h.end) ∙ starts_off (weight m i.target) j place h.bytes off)) ∙ h.same place (omega arith)
+  none_there off = sym (ap (λ (o : Option ℕ). plus count o) (ap (λ (n : ℕ). starts_at (weight m i.target) n j place) (sym h.within.end) ∙ starts_off (weight m i.target) j place h.within.bytes off)) ∙ h.same place (omega arith)
 
   pub count_stuck : (r : Refusal) → step_at Location j ≡ Err r → j.at < place → None ≡ sum_in m Location i place
   count_stuck r e lt = none_there (λ n from to same. omega (arith, never_stuck j r h.read e))
 
   pub count_here : j.at ≡ place → Some count ≡ sum_in m Location i place
   count_here e =
-      let here : starts_at (weight m i.target) (end_of j) j place ≡ Some 0 = ap (λ (n : ℕ). starts_at (weight m i.target) (end_of j) j n) (sym e) ∙ starts_here (weight m i.target) j h.bytes h.read in
-      let moved : starts_at (weight m i.target) (end_of i) j place ≡ Some 0 = ap (λ (n : ℕ). starts_at (weight m i.target) n j place) (sym h.end) ∙ here in
+      let here : starts_at (weight m i.target) (end_of j) j place ≡ Some 0 = ap (λ (n : ℕ). starts_at (weight m i.target) (end_of j) j n) (sym e) ∙ starts_here (weight m i.target) j h.within.bytes h.read in
+      let moved : starts_at (weight m i.target) (end_of i) j place ≡ Some 0 = ap (λ (n : ℕ). starts_at (weight m i.target) n j place) (sym h.within.end) ∙ here in
       let zero_more : count + 0 ≡ count = omega arith in
       ap (λ (n : ℕ). Some n) (sym zero_more) ∙ ap (λ (o : Option ℕ). plus count o) (sym moved) ∙ h.same place (omega arith)
 

@@ -26,4 +26,4 @@ pub use Rattle.dw_op.specs.Inner.{ByOperation.{Const2s, Const2u, Const4s, Const4
 pub use Rattle.dw_op.specs.Inner.{Equality.{op_line, same_expression, sign_of, size_of, target_line}, FrontOp.{after_code, allows, alone, bare_step, code_in_frame, judged, operand_table, or_else, plain_table, signed_of, size_in, width_of}}
 pub use Rattle.dw_op.specs.Inner.{FrontOp.{with_jump, with_op}, LeastBlock.{AreStarts, BranchFits, EachFits, bits_of, blank_parts, least_from, least_len}, LeastOf.{operand_bytes, register_form, register_offset, spelling, spelling_bytes}}
 pub use Rattle.dw_op.specs.Inner.{Steps.{StepSpells, branch_code, step_allowed, step_in_frame}, Sums.{IsNear, bits_to, step_length, sum_in, weight}, Walk.{PlacedStep, Walk, block_input, branch_to, end_of, find_at, goes_to}}
-pub use Rattle.dw_op.specs.Inner.{Walk.{index_at, index_in, item_of, op_of, passed, plus, put_first, resolve, unless}, Windows.{AreMarks, IsMark, Shifted, SoughtSo, WalkSo, Walked, WalkedBad, Walks, block_of}}
+pub use Rattle.dw_op.specs.Inner.{Walk.{index_at, index_in, item_of, op_of, passed, plus, put_first, resolve, unless}, Windows.{AreMarks, IsMark, Shifted, SoughtSo, WalkSo, Walked, WalkedBad, Walks, Within, block_of}}
