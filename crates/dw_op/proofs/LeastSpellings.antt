@@ -1,7 +1,7 @@
 -- Least spellings one after another, with where the branches go, and the least block of an accepted one.
 use Rattle.dw_op.proofs.Words.{◌≡◌, ℕ, suc, ◌+◌, ◌<◌, ◌^◌, List, [], ◌∷◌, ◌++◌, length, take, Option, Some, None, refl, sym, ap, subst, ◌∙◌, arith, take-length, Target, Input, AreBytes, Op, Location, Measure, LeastBytes, Walker, walk, Walk}
 use Rattle.dw_op.proofs.Words.{branch_target, start, bits_of, blank_parts, BranchFits, EachFits, least_len, least_bytes, least_block, LeastBlock, IsAppended, weight, sum_in, step_length, IsNear, bits_to, index_in, op_of, StepSpells}
-use Rattle.dw_op.proofs.Words.{put_first, resolve, end_of, block_input, block_of, WalkSo, Walked, IsAccepted, ops_of}
+use Rattle.dw_op.proofs.Words.{resolve, end_of, block_input, block_of, WalkSo, Walked, IsAccepted, ops_of}
 use Rattle.dw_op.proofs.Lent.{Blocks.{answered, same_ops, first_of_all}, EncodeLaws.{IsGoing, going_none, going_more, going_all, front_more}, LeastBlocks.{block_fits, least_block_exists}, LeastOne.{least_block_length, least_len_within}}
 use Rattle.dw_op.proofs.{Lent.ReadingLaws.step_found, Judgement.{accepted_block, accepted_all, same_input, left_first}, Splits.walk_end, Sums.{begins, Alike, alike, same_len, sums_are}, Walkers.walked_block}
 

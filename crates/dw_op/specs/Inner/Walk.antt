@@ -1,5 +1,5 @@
 -- The operations of a block one after another, and what its branches name, as the code finds them. Block.antt and Faults.antt say the same without it.
-use Rattle.std.specs.Prelude.{ℕ, suc, ◌+◌, ◌-◌, ◌≤◌, List, [], ◌∷◌, length, Option, Some, None, Result, Ok, Err, nat_eq, nat_lt, if◌then◌else◌}
+use Rattle.std.specs.Prelude.{ℕ, ◌+◌, ◌-◌, List, [], ◌∷◌, length, Option, Some, None, Result, Ok, Err, nat_eq, nat_lt, if◌then◌else◌}
 use Rattle.dw_num.specs.{Input.Input, declared.refusal.Code.TheVariants.BadBranch, declared.refusal.Refusal.Refusal, declared.target.Target.Target}
 use Rattle.dw_op.specs.{Walks.Walked, declared.op.Op.Op}
 use Rattle.dw_op.specs.declared.operation.{Branch.Branch, Branch.TheVariants.{Bra, Skip}, Step.Step, Step.TheVariants.{Plain, Jump}}
