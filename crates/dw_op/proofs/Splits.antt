@@ -28,14 +28,11 @@ EachSpells profile t [] (part ∷ parts) = ⊥
 EachSpells profile t (step ∷ steps) [] = ⊥
 EachSpells profile t (step ∷ steps) (part ∷ parts) = Spelled profile t step part × EachSpells profile t steps parts
 
-abbrev pub item : ℕ → Step → PlacedStep
-item at step = record { at = at; step = step }
-
 -- the items of steps that these parts spell, from a place on
 abbrev pub items_from : ℕ → List Step → List (List ℕ) → List PlacedStep
 items_from at [] parts = []
 items_from at (step ∷ steps) [] = []
-items_from at (step ∷ steps) (part ∷ parts) = item at step ∷ items_from (at + length part) steps parts
+items_from at (step ∷ steps) (part ∷ parts) = item_of at step ∷ items_from (at + length part) steps parts
 
 abbrev pub input : ℕ → List ℕ → Target → Input
 input at bytes t = record { at = at; bytes = bytes; target = t }
@@ -69,7 +66,7 @@ more_split profile i step part bytes w h e s = record {
   parts = part ∷ s.parts;
   rest = s.rest;
   each = (h, s.each);
-  items = ap (λ (l : List PlacedStep). item i.at step ∷ l) s.items;
+  items = ap (λ (l : List PlacedStep). item_of i.at step ∷ l) s.items;
   whole = e ∙ ap (λ (l : List ℕ). part ++ l) s.whole ∙ sym (append_assoc part (joined s.parts) s.rest);
   ends = subst (λ (n : ℕ). Ends profile (input n s.rest i.target) w.fault) (omega (arith, length-append part (joined s.parts))) s.ends;
 }
