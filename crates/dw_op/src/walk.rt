@@ -2,7 +2,7 @@
 
 ghost use Rattle.std.specs.Prelude.{◌≡◌, ◌≤◌, ◌<◌, ◌-◌, ◌^◌, None, Some, IfSome, length};
 ghost use Rattle.dw_num.specs.Input.{AreBytes};
-ghost use Rattle.dw_op.specs.{Expression.bare, declared.profile.Profile.TheVariants.Location, Inner.FrontOp.bare_step, Inner.Sums.{step_length, weight, sum_in}};
+ghost use Rattle.dw_op.specs.{Expression.bare, declared.profile.Profile.TheVariants.Location, Inner.FrontOp.bare_step, Inner.Sums.{weight, sum_in}};
 ghost use Rattle.dw_op.specs.Inner.{Walk.{walk, end_of, goes_to, find_at, branch_to, block_input}, Windows.{Shifted, block_of, WalkSo, SoughtSo, Walks}};
 
 use crate::least::op_least_len;
@@ -39,24 +39,17 @@ pub(crate) enum Measure {
     LeastBytes,
 }
 
-// How many bytes the least spelling has: that of a branch, wherever it goes, a code and two bytes.
-fn step_len(step: Step<'_>, target: Target) -> usize
-    ensures { result ≡ step_length target (bare_step step.entry) }
-{
-    match step {
-        Step::Plain(op) => op_least_len(&op, target),
-        Step::Jump(_, _) => 3,
-    }
-}
-
-// What an operation adds.
+// What an operation adds. The least spelling of a branch, wherever it goes, is a code and two bytes.
 #[inline(always)]
 fn added(measure: Measure, step: Step<'_>, target: Target) -> usize
     ensures { result ≡ weight measure target (bare_step step.entry) }
 {
     match measure {
         Measure::Operations => 1,
-        Measure::LeastBytes => step_len(step, target),
+        Measure::LeastBytes => match step {
+            Step::Plain(op) => op_least_len(&op, target),
+            Step::Jump(_, _) => 3,
+        },
     }
 }
 
