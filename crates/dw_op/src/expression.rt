@@ -76,11 +76,7 @@ impl<'a> OpSteps<'a> {
     pub(crate) fn step(&mut self) -> Option<Op<'a>>
         ensures { MatchOption result ((self.old ≡ []) × (self.new ≡ [])) (λ op. self.old ≡ bare op ∷ self.new) }
     {
-        match self.walker.next_op() {
-            Ok(Some(op)) => Some(op),
-            Ok(None) => None,
-            Err(_) => None,
-        }
+        self.walker.next_op().unwrap_or(None)
     }
 }
 
