@@ -1,6 +1,6 @@
 -- Parts at which an operation stands are those that lead to a start or to the end, where they are branches.
 use Rattle.dw_op.specs.declared.operation.Branch.TheVariants as branches
-use Rattle.dw_op.proofs.Words.{◌≡◌, ℕ, suc, ◌+◌, List, Option, Some, None, refl, sym, subst, ◌∙◌, arith, inl, inr, slice_get, Target, Op, Bra, Skip, Profile, Location, Branch, Plain, Jump, OpSpells}
+use Rattle.dw_op.proofs.Words.{◌≡◌, ℕ, suc, ◌+◌, List, Option, Some, None, refl, sym, subst, ◌∙◌, arith, inl, inr, slice_get, Target, Op, Bra, Skip, Profile, Location, Plain, Jump, OpSpells}
 use Rattle.dw_op.proofs.{Words.{branch_target, Displaced, Stands, IsPart, IsBranch, Leads}, Lent.ReadingLaws.some_is, Lent.Spellings.{by_table, in_table}, ResolvedSteps.{one_step, any_code}, Splits.spelled}
 
 -- some operation stands at part k

@@ -1,7 +1,7 @@
 -- An operation comes back from its line, so that equal lines are of equal operations.
 use Rattle.dw_op.proofs.Words.{◌≡◌, ℕ, Bool, true, false, List, [], ◌∷◌, map, Option, Some, None, refl, sym, ap, ◌∙◌, ℤ, pos, negsuc, nat_eq, if◌then◌else◌, IsTrue, ◌↔◌, Target, Size, Four, Eight, Order, Little, Big, Op, Addr, Const, Pick}
 use Rattle.dw_op.proofs.Words.{PlusUconst, Bra, Skip, Reg, Breg, Fbreg, Piece, DerefSize, Nop, BitPiece, Implicit, look_up, plain_table, Expression, bare, FrameBlock, in_frame, InFrame, sign_of, size_of, line, op_line, target_line}
-use Rattle.dw_op.proofs.Words.{expression_lines, same_expression, zero, suc, ◌<◌, length, get_or, arith, Decides}
+use Rattle.dw_op.proofs.Words.{expression_lines, same_expression, suc, ◌<◌, length, get_or, arith, Decides}
 use Rattle.std.specs.Bool.{one_answer}
 use Rattle.std.proofs.Math.ListN.{get_or-map}
 use Rattle.dw_op.specs.Inner.EqualityLaws.{lines_decide}
