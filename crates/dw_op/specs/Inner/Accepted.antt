@@ -1,7 +1,7 @@
 -- Blocks of the frame profile that are kept as bytes.
 use Rattle.std.specs.Prelude.{◌≡◌, ℕ, List, [], Result, Ok, Err}
 use Rattle.dw_num.specs.declared.{refusal.Refusal.Refusal, target.Target.Target}
-use Rattle.dw_op.specs.declared.{op.Op.Op, profile.Profile.Profile, profile.Profile.TheVariants.{Frame, Location}, walk.Measure.TheVariants.Operations, walk.Walker.Walker}
+use Rattle.dw_op.specs.declared.{op.Op.Op, profile.Profile.{Profile, TheVariants.{Frame, Location}}, walk.{Measure.TheVariants.Operations, Walker.Walker}}
 use Rattle.dw_op.specs.Inner.{Walk.{walk, index_in, resolve, block_input, decode_at}, Windows.{block_of, WalkSo}}
 
 -- the bytes are a block
