@@ -1,11 +1,9 @@
 -- Judging a block, and what an accepted one stands for.
 use Rattle.std.specs.{Prelude.MatchOption, Result.result_unwrap_or}
-use Rattle.dw_op.proofs.Words.{◌≡◌, ℕ, ◌<◌, Bool, true, false, false≢true, List, [], ◌∷◌, ◌++◌, length, Option, Some, None, Result, Ok, Err, refl, sym, ap, subst, ◌∙◌, Refusal, Target, Input, AreBytes}
+use Rattle.dw_op.proofs.Words.{◌≡◌, ℕ, ◌<◌, Bool, true, false, false≢true, List, [], ◌∷◌, ◌++◌, length, Option, Some, None, Result, Ok, Err, refl, sym, ap, subst, ◌∙◌, Refusal, Target, Input, AreBytes, block_input}
 use Rattle.dw_op.proofs.Words.{done, Op, Profile, Frame, Location, Step, Plain, Measure, Operations, Walker, FrameBlock, Expression, bare, step_at, Walk, walk, end_of, sum_in, index_at, index_in, op_of, put_first, resolve, unless}
-use Rattle.dw_op.proofs.Words.{block_input}
-use Rattle.dw_op.proofs.{Words.{decode_at, block_of, WalkSo, Walked, WalkedBad, Walks, Within, IsDecoded, IsAccepted, ok_ops, ops_of, left_of, StepsSo}, Decoded.{within_more, OpsSo, ops_more, ops_bad, ops_all}}
+use Rattle.dw_op.proofs.{Walkers.walked_block, Words.{decode_at, block_of, WalkSo, Walked, WalkedBad, Walks, Within, IsDecoded, IsAccepted, ok_ops, ops_of, left_of, StepsSo}, Decoded.{within_more, OpsSo, ops_more, ops_bad, ops_all}}
 use Rattle.dw_op.proofs.{Lent.Blocks.{block_found, block_only, answered, first_of_all, decoded_fault}, Lent.ReadingLaws.some_is, Lent.Lines.expression_is, Splits.{walk_step, walk_stuck, walk_end, step_shorter, walk_located, located_none}}
-use Rattle.dw_op.proofs.{Walkers.walked_block}
 
 -- a block without fault in its reading is decoded as its branches are resolved
 pub resolved_is : (profile : Profile) (i : Input) (r : Result (List Op) Refusal) → (walk profile i).fault ≡ None → resolve (index_in profile i) (walk profile i).items ≡ r → decode_at profile i ≡ r

@@ -1,9 +1,8 @@
 -- A walk over a block, and the parts that it reads.
 use Rattle.dw_op.specs.Inner.Walks.{ended, put, on_read, on_left, walked_by}
 use Rattle.dw_op.proofs.Words.{◌≡◌, ℕ, zero, suc, ◌+◌, ◌-◌, ◌<◌, ◌≤◌, true, List, [], ◌∷◌, ◌++◌, length, Option, Some, None, Ok, Err, refl, sym, ap, subst, ◌∙◌, append_assoc, arith, length-append, nil_from_length, bind_ok, cond_ok}
-use Rattle.dw_op.proofs.Words.{NotInFrame, Refusal, Target}
-use Rattle.dw_op.proofs.{Words.{Input, AreBytes, Takes, Read, fixed_at, done, taken_bytes, Profile, Frame, Location, Opcode, Step, judged, operands_at, after_code, opcode_of, code_in_frame, joined, step_at, StepSpells, step_allowed}}
-use Rattle.dw_op.proofs.{Words.{PlacedStep, item_of, Walk, walk}, Lent.ReadingLaws.step_found, ReadingAgain.step_again}
+use Rattle.dw_op.proofs.Words.{Input, AreBytes, Takes, Read, fixed_at, done, taken_bytes, Profile, Frame, Location, Opcode, Step, judged, operands_at, after_code, opcode_of, code_in_frame, joined, step_at, StepSpells, step_allowed}
+use Rattle.dw_op.proofs.{Words.{NotInFrame, Refusal, Target, PlacedStep, item_of, Walk, walk}, Lent.ReadingLaws.step_found, ReadingAgain.step_again}
 
 abbrev after_item : ℕ → Step → Walk → Walk
 after_item at step w = put (item_of at step) w

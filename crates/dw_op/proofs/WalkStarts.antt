@@ -2,7 +2,7 @@
 use Rattle.dw_op.proofs.Words.{cases_lt, inl, inr, ◌≡◌, ℕ, ◌+◌, ◌<◌, ◌≤◌, List, [], ◌∷◌, ◌++◌, length, Option, Some, None, Result, Ok, Err, refl, sym, ap, subst, ◌∙◌, arith, eq-eqb, ne_eqb, length-append, append_assoc, Refusal, Target}
 use Rattle.dw_op.proofs.Words.{Input, AreBytes, done, Location, Plain, Jump, Step, StepSpells, joined, step_at, PlacedStep, Walk, walk, end_of, plus, passed, Measure, Operations, LeastBytes, step_length, weight, sum_in, Shifted, Within}
 use Rattle.dw_op.proofs.{Lent.LeastBlocks.length_of, LeastOf.least, ResolvedSteps.jump_length, Lent.ReadingLaws.step_found, Splits.{EachSpells, items_from, split_of, walk_step, walk_stuck, walk_end, step_shorter}}
-use Rattle.dw_op.proofs.{Decoded.{within_all, within_more}}
+use Rattle.dw_op.proofs.Decoded.{within_all, within_more}
 
 abbrev starts_at : (Step → ℕ) → ℕ → Input → ℕ → Option ℕ
 starts_at f end j place = passed f (walk Location j).items end place
