@@ -1,18 +1,15 @@
 -- Parts at which an operation stands are those that lead to a start or to the end, where they are branches.
 use Rattle.dw_op.specs.declared.operation.Branch.TheVariants as branches
-use Rattle.dw_op.proofs.Words.{◌≡◌, ℕ, suc, ◌+◌, List, Option, Some, None, refl, sym, subst, ◌∙◌, arith, inl, inr, slice_get, Target, Op, Bra, Skip, Profile, Location, Branch, Plain, Jump, OpSpells}
+use Rattle.dw_op.proofs.Words.{◌≡◌, ℕ, suc, ◌+◌, List, Option, Some, None, refl, sym, subst, ◌∙◌, arith, inl, inr, slice_get, Target, Op, Bra, Skip, Profile, Location, Plain, Jump, OpSpells}
 use Rattle.dw_op.proofs.{Words.{branch_target, Displaced, Stands, IsPart, IsBranch, Leads}, Lent.ReadingLaws.some_is, Lent.Spellings.{by_table, in_table}, ResolvedSteps.{one_step, any_code}, Splits.spelled}
 
 -- some operation stands at part k
 abbrev pub Stood : Target → List (List ℕ) → ℕ → List ℕ → Type 0
 Stood t parts k part = (op : Op) × Stands t parts k op part
 
-plain_is : (op : Op) (branch : Branch) (n : ℕ) → Plain op ≡ Jump branch n → ⊥
-plain_is op branch n e = cc
-
 not_branch : (t : Target) (op : Op) (part : List ℕ) → branch_target op ≡ None → OpSpells t op part → IsBranch part → ⊥
-not_branch t op part none h (inl b) = plain_is op branches.Bra _ (one_step Location t (Plain op) _ part (spelled Location t (Plain op) part (h, none) refl) (any_code t branches.Bra part b))
-not_branch t op part none h (inr b) = plain_is op branches.Skip _ (one_step Location t (Plain op) _ part (spelled Location t (Plain op) part (h, none) refl) (any_code t branches.Skip part b))
+not_branch t op part none h (inl b) = let e = one_step Location t (Plain op) (Jump branches.Bra _) part (spelled Location t (Plain op) part (h, none) refl) (any_code t branches.Bra part b) in cc
+not_branch t op part none h (inr b) = let e = one_step Location t (Plain op) (Jump branches.Skip _) part (spelled Location t (Plain op) part (h, none) refl) (any_code t branches.Skip part b) in cc
 
 pub stood_leads : (t : Target) (parts : List (List ℕ)) (k : ℕ) (part : List ℕ) → slice_get parts k ≡ Some part → Stood t parts k part → Leads t parts k
 stood_leads t parts k part here stood other there branch = of (branch_target stood.0) refl stood.1.displaced
@@ -33,9 +30,6 @@ leads_stood profile t parts k part here h leads = of h.0 h.1
     of op s = (op, record { spells = s; displaced = tt })
 
 -- ---- parts by their numbers
-
-pub plus_none : (k : ℕ) → k + 0 ≡ k
-plus_none k = omega arith
 
 pub moved : (k j : ℕ) → k + suc j ≡ suc k + j
 moved k j = omega arith

@@ -11,12 +11,9 @@ goes_displaced end number place small e = (grind (arith, nat_tests, ints), grind
 pub displaced_goes : (end number place : ℕ) → FitsSigned w16 (pos place -ℤ pos end) → cast_unsigned w16 (pos place -ℤ pos end) ≡ number → goes_to end number ≡ Some place
 displaced_goes end number place fits is = grind (arith, nat_tests, ints)
 
-cast_small : (z : ℤ) → FitsSigned w16 z → cast_unsigned w16 z < 65536
-cast_small z h = omega (arith, ints)
-
 -- the two bytes of a displacement are those of its number
 pub displaced_fixed : (order : Order) (z : ℤ) (b : List ℕ) → FixedSigned order w16 z b → Fixed order 2 (cast_unsigned w16 z) b
-displaced_fixed order z b f = record { bytes = f.bytes; fits = omega (arith, cast_small z f.fits) }
+displaced_fixed order z b f = record { bytes = f.bytes; fits = omega (arith, ints, f.fits) }
 
 pub fixed_displaced : (order : Order) (number : ℕ) (z : ℤ) (b : List ℕ) → Fixed order 2 number b → FitsSigned w16 z → cast_unsigned w16 z ≡ number → FixedSigned order w16 z b
 fixed_displaced order number z b f fits is = record { bytes = f.bytes ∙ ap (λ (n : ℕ). fixed_bytes order 2 n) (sym is); fits = fits }

@@ -1,18 +1,11 @@
 -- Reading a block to its end, and once more for its branches.
-use Rattle.dw_op.proofs.Words.{◌≡◌, ℕ, ◌+◌, ◌<◌, List, [], ◌∷◌, ◌++◌, length, Option, Some, None, Result, Ok, Err, refl, sym, ap, ◌∙◌, append_assoc, inl, inr, arith, ◌⊎◌, length-append, append-nil, Refusal, Target, Input, AreBytes, done}
-use Rattle.dw_op.proofs.Words.{taken_bytes, Op, Profile, Step, step_at, AllInRange, Walk, walk, end_of, index_at, starts_of, place_index, op_of, put_first, resolve, unless, block_input, decode_at, IsBlock, BlockFault}
-use mathlib.Core.Path.{fun_ext}
+use Rattle.dw_op.proofs.Words.{◌≡◌, ℕ, ◌+◌, List, [], ◌∷◌, ◌++◌, length, Option, Some, None, Result, Ok, Err, refl, sym, ap, ◌∙◌, append_assoc, inl, inr, arith, ◌⊎◌, length-append, append-nil, Refusal, Target, Input, AreBytes, done}
+use Rattle.dw_op.proofs.Words.{taken_bytes, Op, Profile, Step, step_at, AllInRange, Walk, walk, op_of, put_first, resolve, block_input, decode_at, Within, IsBlock, BlockFault}
 use Rattle.dw_num.specs.{declared.error.ReadError.ReadError, declared.error.ReadError.TheVariants.{Refused, OutOfMemory}, Refusals.Refuses}
-use Rattle.dw_op.proofs.{Lent.ReadingLaws.step_found, Splits.{walk_step, walk_stuck, walk_end}, Lent.Blocks.{block_found, block_only, fault_found, fault_only, block_so, answered, refused, same_ops, same_refusal, bad_branch, decoded_fault}}
-use Rattle.dw_op.proofs.{Lent.LeastBlocks.in_range_of_block, Search.place_index_is}
+use Rattle.dw_op.proofs.{Lent.ReadingLaws.step_found, Splits.{walk_step, walk_end}, Lent.Blocks.{block_found, block_only, fault_found, fault_only, block_so, answered, refused, same_ops, same_refusal, bad_branch}}
+use Rattle.dw_op.proofs.Lent.LeastBlocks.{in_range_of_block}
 
 -- ---- one operation further
-
--- a place in the input i
-pub record Within (i j : Input) : Type 0 where
-  pub bytes : AreBytes j.bytes
-  pub end : end_of j ≡ end_of i
-  pub target : j.target ≡ i.target
 
 pub within_all : (i : Input) → AreBytes i.bytes → Within i i
 within_all i h = record { bytes = h; end = refl; target = refl }
@@ -27,35 +20,6 @@ within_more profile i j x h e =
       target = found.taken.target ∙ h.target;
     }
 
--- ---- the starts so far
-
-pub record StartsSo (profile : Profile) (i j : Input) (end : ℕ) (starts : List ℕ) : Type 0 where
-  pub within : Within i j
-  pub fault : (walk profile j).fault ≡ (walk profile i).fault
-  pub found : starts ++ starts_of (walk profile j).items end ≡ starts_of (walk profile i).items end
-
-pub starts_none : (profile : Profile) (i : Input) (end : ℕ) → AreBytes i.bytes → StartsSo profile i i end []
-starts_none profile i end h = record { within = within_all i h; fault = refl; found = refl }
-
-pub starts_more : (profile : Profile) (i j : Input) (end : ℕ) (starts : List ℕ) (x : Step × Input) → StartsSo profile i j end starts → step_at profile j ≡ done x → StartsSo profile i x.1 end (starts ++ j.at ∷ [])
-starts_more profile i j end starts x h e =
-    let w = walk_step profile j x h.within.bytes e in
-    record {
-      within = within_more profile i j x h.within e;
-      fault = sym (ap (λ (y : Walk). y.fault) w) ∙ h.fault;
-      found = append_assoc {A = ℕ} starts (j.at ∷ []) (starts_of (walk profile x.1).items end) ∙ ap (λ (y : Walk). starts ++ starts_of y.items end) (sym w) ∙ h.found;
-    }
-
-pub starts_end : (profile : Profile) (i j : Input) (end : ℕ) (starts : List ℕ) → StartsSo profile i j end starts → end_of i ≡ end → length j.bytes ≡ 0
-    → ((walk profile i).fault ≡ None) × (starts ++ j.at ∷ [] ≡ starts_of (walk profile i).items end)
-starts_end profile i j end starts h at_end e =
-    let w = walk_end profile j e in
-    let at : j.at ≡ end = omega (arith, h.within.end) in
-    (sym h.fault ∙ ap (λ (y : Walk). y.fault) w, ap (λ (n : ℕ). starts ++ n ∷ []) at ∙ ap (λ (y : Walk). starts ++ starts_of y.items end) (sym w) ∙ h.found)
-
-pub starts_stuck : (profile : Profile) (i j : Input) (end : ℕ) (starts : List ℕ) (r : Refusal) → StartsSo profile i j end starts → 0 < length j.bytes → step_at profile j ≡ Err r → (walk profile i).fault ≡ Some r
-starts_stuck profile i j end starts r h some e = sym h.fault ∙ ap (λ (y : Walk). y.fault) (walk_stuck profile j r some e)
-
 -- ---- the operations so far
 
 abbrev pub put_before : List Op → Result (List Op) Refusal → Result (List Op) Refusal
@@ -64,7 +28,6 @@ put_before ops (Err r) = Err r
 
 pub record OpsSo (profile : Profile) (i j : Input) (find : ℕ → Option ℕ) (ops : List Op) : Type 0 where
   pub within : Within i j
-  pub fault : (walk profile j).fault ≡ (walk profile i).fault
   pub found : put_before ops (resolve find (walk profile j).items) ≡ resolve find (walk profile i).items
 
 one_more : (at : ℕ) (ops : List Op) (op : Op) (r : Result (List Op) Refusal) → put_before (ops ++ op ∷ []) r ≡ put_before ops (put_first (Some op) at r)
@@ -78,7 +41,6 @@ ops_more profile i j find ops x op h e is =
     let more = resolve find (walk profile x.1).items in
     record {
       within = within_more profile i j x h.within e;
-      fault = sym (ap (λ (y : Walk). y.fault) w) ∙ h.fault;
       found = one_more j.at ops op more ∙ ap (λ (o : Option Op). put_before ops (put_first o j.at more)) (sym is) ∙ ap (λ (y : Walk). put_before ops (resolve find y.items)) (sym w) ∙ h.found;
     }
 
@@ -92,23 +54,6 @@ ops_bad profile i j find ops x h e is =
 pub ops_all : (profile : Profile) (i j : Input) (find : ℕ → Option ℕ) (ops : List Op) → OpsSo profile i j find ops → length j.bytes ≡ 0 → resolve find (walk profile i).items ≡ Ok ops
 ops_all profile i j find ops h e =
     sym h.found ∙ ap (λ (y : Walk). put_before ops (resolve find y.items)) (walk_end profile j e) ∙ ap (λ (l : List Op). Ok l) (append-nil ops)
-
--- ---- what is decoded
-
-abbrev listed : Walk → (ℕ → Option ℕ) → Result (List Op) Refusal
-listed w find = unless w.fault (resolve find w.items)
-
-pub decoded_is : (profile : Profile) (i : Input) (end : ℕ) (places : List ℕ) (r : Result (List Op) Refusal) → end_of i ≡ end → (walk profile i).fault ≡ None → places ≡ starts_of (walk profile i).items end
-    → resolve (place_index places) (walk profile i).items ≡ r → decode_at profile i ≡ r
-unfolding decode_at
-decoded_is profile i end places r at_end none are e =
-    let w = walk profile i in
-    let here : (place : ℕ) → index_at w.items (end_of i) place ≡ place_index places place =
-    λ place. ap (λ (n : ℕ). index_at w.items n place) at_end ∙ sym (place_index_is w.items end place) ∙ ap (λ (l : List ℕ). place_index l place) (sym are) in
-    let finds : ℕ → Option ℕ = λ place. index_at w.items (end_of i) place in
-    let same : finds ≡ (λ place. place_index places place) = fun_ext here in
-    let a : listed w finds ≡ listed w (λ place. place_index places place) = ap (λ (find : ℕ → Option ℕ). listed w find) same in
-    a ∙ ap (λ (o : Option Refusal). unless o (resolve (λ place. place_index places place) w.items)) none ∙ e
 
 -- ---- the operations of a block are in range
 
@@ -140,6 +85,3 @@ some_answer profile t bytes h = go (decode_at profile (block_input t bytes)) ref
 pub only_memory : (profile : Profile) (t : Target) (bytes : List ℕ) (ops : List Op) (e : ReadError) → IsBlock profile t ops bytes → Refuses (λ r. decode_at profile (block_input t bytes) ≡ Err r) e → e ≡ OutOfMemory
 only_memory profile t bytes ops (Refused r) h k = let e : answered ops ≡ refused r = sym (block_only profile t bytes ops h) ∙ k in absurd cc
 only_memory profile t bytes ops OutOfMemory h k = refl
-
-pub ops_stuck : (profile : Profile) (i j : Input) (find : ℕ → Option ℕ) (ops : List Op) (r : Refusal) → OpsSo profile i j find ops → 0 < length j.bytes → step_at profile j ≡ Err r → decode_at profile i ≡ Err r
-ops_stuck profile i j find ops r h some e = decoded_fault profile i r (sym h.fault ∙ ap (λ (y : Walk). y.fault) (walk_stuck profile j r some e))

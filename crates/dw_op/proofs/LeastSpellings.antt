@@ -1,9 +1,9 @@
 -- Least spellings one after another, with where the branches go, and the least block of an accepted one.
-use Rattle.dw_op.proofs.Words.{◌≡◌, ℕ, suc, ◌+◌, ◌<◌, ◌^◌, List, [], ◌∷◌, ◌++◌, length, take, Option, Some, None, refl, sym, ap, subst, ◌∙◌, arith, take-length, Target, Input, AreBytes, Op, Frame, Measure, LeastBytes, Walker, walk, Walk}
+use Rattle.dw_op.proofs.Words.{◌≡◌, ℕ, suc, ◌+◌, ◌<◌, ◌^◌, List, [], ◌∷◌, ◌++◌, length, take, Option, Some, None, refl, sym, ap, subst, ◌∙◌, arith, take-length, Target, Input, AreBytes, Op, Location, Measure, LeastBytes, Walker, walk, Walk}
 use Rattle.dw_op.proofs.Words.{branch_target, start, bits_of, blank_parts, BranchFits, EachFits, least_len, least_bytes, least_block, LeastBlock, IsAppended, weight, sum_in, step_length, IsNear, bits_to, index_in, op_of, StepSpells}
-use Rattle.dw_op.proofs.Words.{put_first, resolve, end_of, block_input, block_of, WalkSo, Walked, IsAccepted, ops_of}
+use Rattle.dw_op.proofs.Words.{resolve, end_of, block_input, block_of, WalkSo, Walked, IsAccepted, ops_of}
 use Rattle.dw_op.proofs.Lent.{Blocks.{answered, same_ops, first_of_all}, EncodeLaws.{IsGoing, going_none, going_more, going_all, front_more}, LeastBlocks.{block_fits, least_block_exists}, LeastOne.{least_block_length, least_len_within}}
-use Rattle.dw_op.proofs.{Lent.ReadingLaws.step_found, Judgement.{accepted_block, accepted_ops, accepted_read, resolved_is}, Splits.{walk_step, walk_end}, Sums.{begins, Alike, alike, same_len, sums_are}, Walkers.walked_block}
+use Rattle.dw_op.proofs.{Lent.ReadingLaws.step_found, Judgement.{accepted_block, accepted_all, same_input, left_first}, Splits.walk_end, Sums.{begins, Alike, alike, same_len, sums_are}, Walkers.walked_block}
 
 -- ---- the operations of an accepted block
 
@@ -21,17 +21,11 @@ accepted_small t bytes are h small = omega (arith, least_len_within t (ops_of t 
 pub accepted_appended : (t : Target) (bytes old new : List ℕ) → AreBytes bytes → IsAccepted t bytes → new ≡ old ++ least_block t (ops_of t bytes) → IsAppended (LeastBlock t (ops_of t bytes)) old new
 accepted_appended t bytes old new are h e = record { appended = least_block t (ops_of t bytes); is = least_block_exists t (ops_of t bytes) bytes (accepted_block t bytes are h).0; whole = e }
 
--- all of them, by their numbers
-accepted_all : (t : Target) (bytes : List ℕ) → IsAccepted t bytes → let i = block_input t bytes in resolve (index_in Frame i) (walk Frame i).items ≡ answered (ops_of t bytes)
-accepted_all t bytes h =
-    let i = block_input t bytes in
-    sym (resolved_is i (resolve (index_in Frame i) (walk Frame i).items) (accepted_read t bytes h) refl) ∙ accepted_ops t bytes h
-
 -- where they begin
-accepted_sums : (t : Target) (bytes : List ℕ) → IsAccepted t bytes → (place : ℕ) → sum_in LeastBytes Frame (block_input t bytes) place ≡ begins (blank_parts t (ops_of t bytes)) (index_in Frame (block_input t bytes) place)
+accepted_sums : (t : Target) (bytes : List ℕ) → IsAccepted t bytes → (place : ℕ) → sum_in LeastBytes Location (block_input t bytes) place ≡ begins (blank_parts t (ops_of t bytes)) (index_in Location (block_input t bytes) place)
 accepted_sums t bytes h place =
     let i = block_input t bytes in
-    sums_are t (index_in Frame i) (walk Frame i).items (ops_of t bytes) (end_of i) place (accepted_all t bytes h)
+    sums_are t (index_in Location i) (walk Location i).items (ops_of t bytes) (end_of i) place (accepted_all t bytes h)
 
 -- ---- a walk that writes
 
@@ -42,7 +36,7 @@ pub record Putting (t : Target) (bytes old : List ℕ) (w : Walker) (out : List 
   pub measure : w.measure ≡ LeastBytes
   pub number : ℕ
   pub rest : List Op
-  pub left : resolve (index_in Frame (block_input t bytes)) (walk Frame w.here).items ≡ answered rest
+  pub left : resolve (index_in Location (block_input t bytes)) (walk Location w.here).items ≡ answered rest
   pub starts : (j : ℕ) → start (blank_parts t (ops_of t bytes)) (number + j) ≡ w.count + start (blank_parts t rest) j
   pub going : IsGoing t (ops_of t bytes) old number rest out
   pub fits : EachFits (blank_parts t (ops_of t bytes)) number rest
@@ -54,11 +48,11 @@ put_start t bytes old w are h so here count same measure =
     let ops = ops_of t bytes in
     record {
       so = so;
-      block = ap (λ (j : Input). block_input j.target w.bytes.now) here ∙ ap (λ (l : List ℕ). block_input t l) same;
+      block = same_input t bytes w here same;
       measure = measure;
       number = 0;
       rest = ops;
-      left = ap (λ (j : Input). resolve (index_in Frame i) (walk Frame j).items) here ∙ accepted_all t bytes h;
+      left = ap (λ (j : Input). resolve (index_in Location i) (walk Location j).items) here ∙ accepted_all t bytes h;
       starts = λ j. rw count (let z : 0 + j ≡ j = omega arith in let y : 0 + start (blank_parts t ops) j ≡ start (blank_parts t ops) j = omega arith in rw (z, y) refl);
       going = going_none t ops old;
       fits = block_fits t ops bytes (accepted_block t bytes are h).0;
@@ -78,7 +72,7 @@ pub record Passed (t : Target) (bytes old : List ℕ) (w v : Walker) (other : Op
   pub op : Op
   pub more : List Op
   pub is : h.rest ≡ op ∷ more
-  pub later : resolve (index_in Frame (block_input t bytes)) (walk Frame v.here).items ≡ answered more
+  pub later : resolve (index_in Location (block_input t bytes)) (walk Location v.here).items ≡ answered more
   pub target : branch_target other ≡ begins (blank_parts t (ops_of t bytes)) (branch_target op)
   pub same : (bits : ℕ) → least_bytes t bits other ≡ least_bytes t bits op
   pub block : block_of v ≡ block_input t bytes
@@ -89,18 +83,15 @@ module _ (t : Target) (bytes old : List ℕ) (w v : Walker) (other : Op) (out : 
   passed_on =
       let i = block_input t bytes in
       let parts = blank_parts t (ops_of t bytes) in
-      let find = index_in Frame i in
+      let find = index_in Location i in
       let target : w.here.target ≡ t = ap (λ (j : Input). j.target) h.block in
-      let found = step_found Frame w.here v.here s.step h.so.here.bytes s.read in
+      let found = step_found Location w.here v.here s.step h.so.here.within.bytes s.read in
       let advanced : v.count ≡ w.count + step_length t s.step =
       subst (λ (x : Target). v.count ≡ w.count + step_length x s.step) target (subst (λ (m : Measure). v.count ≡ w.count + weight m w.here.target s.step) h.measure s.count) in
-      let later = resolve find (walk Frame v.here).items in
-      let here : put_first (op_of find w.here.at s.step) w.here.at later ≡ answered h.rest =
-      sym (ap (λ (y : Walk). resolve find y.items) (walk_step Frame w.here (s.step, v.here) h.so.here.bytes s.read)) ∙ h.left in
-      let first = first_of_all w.here.at (op_of find w.here.at s.step) later h.rest here in
-      let named : op_of (sum_in LeastBytes Frame i) w.here.at s.step ≡ Some other =
-      subst (λ (j : Input). op_of (sum_in LeastBytes Frame j) w.here.at s.step ≡ Some other) h.block (subst (λ (m : Measure). op_of (sum_in m Frame (block_of w)) w.here.at s.step ≡ Some other) h.measure s.is) in
-      let both : Alike t parts first.op other = alike t parts find (sum_in LeastBytes Frame i) w.here.at s.step found.part first.op other (accepted_sums t bytes accepted) (subst (λ (x : Target). StepSpells x s.step found.part) target found.spells) first.first named in
+      let first = first_of_all w.here.at (op_of find w.here.at s.step) (resolve find (walk Location v.here).items) h.rest (left_first find w s.step v.here h.rest h.so s.read h.left) in
+      let named : op_of (sum_in LeastBytes Location i) w.here.at s.step ≡ Some other =
+      subst (λ (j : Input). op_of (sum_in LeastBytes Location j) w.here.at s.step ≡ Some other) h.block (subst (λ (m : Measure). op_of (sum_in m Location (block_of w)) w.here.at s.step ≡ Some other) h.measure s.is) in
+      let both : Alike t parts first.op other = alike t parts find (sum_in LeastBytes Location i) w.here.at s.step found.part first.op other (accepted_sums t bytes accepted) (subst (λ (x : Target). StepSpells x s.step found.part) target found.spells) first.first named in
       record {
         op = first.op;
         more = first.more;
@@ -152,6 +143,6 @@ module _ (t : Target) (bytes old : List ℕ) (w v : Walker) (other : Op) (out : 
 
 pub put_end : (t : Target) (bytes old : List ℕ) (w : Walker) (out : List ℕ) → Putting t bytes old w out → w.here.bytes ≡ [] → out ≡ old ++ least_block t (ops_of t bytes)
 put_end t bytes old w out h e =
-    let find = index_in Frame (block_input t bytes) in
-    let none : answered [] ≡ answered h.rest = sym (ap (λ (y : Walk). resolve find y.items) (walk_end Frame w.here (ap length e))) ∙ h.left in
+    let find = index_in Location (block_input t bytes) in
+    let none : answered [] ≡ answered h.rest = sym (ap (λ (y : Walk). resolve find y.items) (walk_end Location w.here (ap length e))) ∙ h.left in
     going_all t (ops_of t bytes) old h.number out (subst (λ (l : List Op). IsGoing t (ops_of t bytes) old h.number l out) (sym (same_ops [] h.rest none)) h.going)

@@ -10,7 +10,6 @@ pub mod Branches
 pub mod ResolvedSteps
 pub mod OperandLaws
 pub mod BranchParts
-pub mod Search
 pub mod Decoded
 pub mod WalkStarts
 pub mod Marked

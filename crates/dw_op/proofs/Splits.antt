@@ -1,7 +1,8 @@
 -- A walk over a block, and the parts that it reads.
 use Rattle.dw_op.specs.Inner.Walks.{ended, put, on_read, on_left, walked_by}
-use Rattle.dw_op.proofs.Words.{◌≡◌, ℕ, zero, suc, ◌+◌, ◌-◌, ◌<◌, ◌≤◌, true, List, [], ◌∷◌, ◌++◌, length, Option, Some, None, Ok, Err, refl, sym, ap, subst, ◌∙◌, append_assoc, arith, length-append, nil_from_length, Refusal, Target}
-use Rattle.dw_op.proofs.{Words.{Input, AreBytes, Takes, Read, fixed_at, done, taken_bytes, Profile, Step, joined, step_at, StepSpells, step_allowed, PlacedStep, item_of, Walk, walk}, Lent.ReadingLaws.step_found, ReadingAgain.step_again}
+use Rattle.dw_op.proofs.Words.{◌≡◌, ℕ, zero, suc, ◌+◌, ◌-◌, ◌<◌, ◌≤◌, true, List, [], ◌∷◌, ◌++◌, length, Option, Some, None, Ok, Err, refl, sym, ap, subst, ◌∙◌, append_assoc, arith, length-append, nil_from_length, bind_ok, cond_ok}
+use Rattle.dw_op.proofs.Words.{Input, AreBytes, Takes, Read, fixed_at, done, taken_bytes, Profile, Frame, Location, Opcode, Step, judged, operands_at, after_code, opcode_of, code_in_frame, joined, step_at, StepSpells, step_allowed}
+use Rattle.dw_op.proofs.{Words.{NotInFrame, Refusal, Target, PlacedStep, item_of, Walk, walk}, Lent.ReadingLaws.step_found, ReadingAgain.step_again}
 
 abbrev after_item : ℕ → Step → Walk → Walk
 after_item at step w = put (item_of at step) w
@@ -28,14 +29,11 @@ EachSpells profile t [] (part ∷ parts) = ⊥
 EachSpells profile t (step ∷ steps) [] = ⊥
 EachSpells profile t (step ∷ steps) (part ∷ parts) = Spelled profile t step part × EachSpells profile t steps parts
 
-abbrev pub item : ℕ → Step → PlacedStep
-item at step = record { at = at; step = step }
-
 -- the items of steps that these parts spell, from a place on
 abbrev pub items_from : ℕ → List Step → List (List ℕ) → List PlacedStep
 items_from at [] parts = []
 items_from at (step ∷ steps) [] = []
-items_from at (step ∷ steps) (part ∷ parts) = item at step ∷ items_from (at + length part) steps parts
+items_from at (step ∷ steps) (part ∷ parts) = item_of at step ∷ items_from (at + length part) steps parts
 
 abbrev pub input : ℕ → List ℕ → Target → Input
 input at bytes t = record { at = at; bytes = bytes; target = t }
@@ -69,7 +67,7 @@ more_split profile i step part bytes w h e s = record {
   parts = part ∷ s.parts;
   rest = s.rest;
   each = (h, s.each);
-  items = ap (λ (l : List PlacedStep). item i.at step ∷ l) s.items;
+  items = ap (λ (l : List PlacedStep). item_of i.at step ∷ l) s.items;
   whole = e ∙ ap (λ (l : List ℕ). part ++ l) s.whole ∙ sym (append_assoc part (joined s.parts) s.rest);
   ends = subst (λ (n : ℕ). Ends profile (input n s.rest i.target) w.fault) (omega (arith, length-append part (joined s.parts))) s.ends;
 }
@@ -190,3 +188,35 @@ walk_stuck profile i r some e = let long : length i.bytes ≡ suc (length i.byte
 pub walk_end : (profile : Profile) (i : Input) → length i.bytes ≡ 0 → walk profile i ≡ ended None
 unfolding walk
 walk_end profile i e = ap (λ (l : List ℕ). walk_by profile (length l) (input i.at l i.target)) (nil_from_length i.bytes e) ∙ end_walk_by profile 0 i.at i.target
+
+-- ---- what a profile reads is read as a location description
+
+judged_located : (profile : Profile) (at : ℕ) (o : Option Opcode) (i : Input) (x : Step × Input) → judged profile at o i ≡ done x → judged Location at o i ≡ done x
+judged_located Location at o i x e = e
+judged_located Frame at None i x e = e
+judged_located Frame at (Some opcode) i x e = (cond_ok (code_in_frame opcode) (operands_at opcode i) (record { code = NotInFrame; at = at }) x e).1
+
+step_located : (profile : Profile) (i : Input) (x : Step × Input) → step_at profile i ≡ done x → step_at Location i ≡ done x
+unfolding step_at
+step_located profile i x e = let p = bind_ok (fixed_at 1 i) (after_code profile i.at) x e in rw p.1 (judged_located profile i.at (opcode_of p.0.0) p.0.1 x p.2)
+
+abbrev read_by : Profile → ℕ → ℕ → List ℕ → Read Step → Walk
+read_by profile n at l r = on_left l (on_read r (λ e. ended (Some e)) (λ x. after_item at x.0 (walk_by profile n x.1)))
+
+located_by : (profile : Profile) (n : ℕ) (i : Input) → (walk_by profile n i).fault ≡ None → walk_by Location n i ≡ walk_by profile n i
+unfolding walked_by
+located_by profile zero i h = refl
+located_by profile (suc n) i h = go i.bytes (step_at profile i) (λ j k. located_by profile n j k) refl h
+  where
+    go : (l : List ℕ) (r : Read Step) → ((j : Input) → (walk_by profile n j).fault ≡ None → walk_by Location n j ≡ walk_by profile n j) → step_at profile i ≡ r → (read_by profile n i.at l r).fault ≡ None
+        → read_by Location n i.at l (step_at Location i) ≡ read_by profile n i.at l r
+    go [] r more is h = refl
+    go (b ∷ l) (Ok x) more is h = rw (step_located profile i x is) (ap (λ (w : Walk). after_item i.at x.0 w) (more x.1 h))
+    go (b ∷ l) (Err r) more is h = absurd cc
+
+pub walk_located : (profile : Profile) (i : Input) → (walk profile i).fault ≡ None → walk Location i ≡ walk profile i
+unfolding walk
+walk_located profile i h = located_by profile (length i.bytes) i h
+
+pub located_none : (profile : Profile) (i : Input) → (walk profile i).fault ≡ None → (walk Location i).fault ≡ None
+located_none profile i h = ap (λ (w : Walk). w.fault) (walk_located profile i h) ∙ h

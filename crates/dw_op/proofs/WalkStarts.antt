@@ -1,37 +1,37 @@
 -- Walks from an operation on, and what they know of the block's starts.
 use Rattle.dw_op.proofs.Words.{cases_lt, inl, inr, ◌≡◌, ℕ, ◌+◌, ◌<◌, ◌≤◌, List, [], ◌∷◌, ◌++◌, length, Option, Some, None, Result, Ok, Err, refl, sym, ap, subst, ◌∙◌, arith, eq-eqb, ne_eqb, length-append, append_assoc, Refusal, Target}
-use Rattle.dw_op.proofs.Words.{Input, AreBytes, done, Frame, Plain, Jump, Step, StepSpells, joined, step_at, PlacedStep, Walk, walk, end_of, plus, passed, Measure, Operations, LeastBytes, step_length, weight, sum_in, Shifted}
+use Rattle.dw_op.proofs.Words.{Input, AreBytes, done, Location, Plain, Jump, Step, StepSpells, joined, step_at, PlacedStep, Walk, walk, end_of, plus, passed, Measure, Operations, LeastBytes, step_length, weight, sum_in, Shifted, Within}
 use Rattle.dw_op.proofs.{Lent.LeastBlocks.length_of, LeastOf.least, ResolvedSteps.jump_length, Lent.ReadingLaws.step_found, Splits.{EachSpells, items_from, split_of, walk_step, walk_stuck, walk_end, step_shorter}}
-use Rattle.dw_op.proofs.Decoded.{Within, within_more}
+use Rattle.dw_op.proofs.Decoded.{within_all, within_more}
 
 abbrev starts_at : (Step → ℕ) → ℕ → Input → ℕ → Option ℕ
-starts_at f end j place = passed f (walk Frame j).items end place
+starts_at f end j place = passed f (walk Location j).items end place
 
 -- one operation further, for a place behind its start
-starts_step : (f : Step → ℕ) (end : ℕ) (j : Input) (x : Step × Input) (place : ℕ) → AreBytes j.bytes → step_at Frame j ≡ done x → j.at < place → starts_at f end j place ≡ plus (f x.0) (starts_at f end x.1 place)
+starts_step : (f : Step → ℕ) (end : ℕ) (j : Input) (x : Step × Input) (place : ℕ) → AreBytes j.bytes → step_at Location j ≡ done x → j.at < place → starts_at f end j place ≡ plus (f x.0) (starts_at f end x.1 place)
 starts_step f end j x place h e lt =
     let ne : place ≡ j.at → ⊥ = λ same. omega arith in
-    ap (λ (w : Walk). passed f w.items end place) (walk_step Frame j x h e) ∙ rw (ne_eqb place j.at ne) refl
+    ap (λ (w : Walk). passed f w.items end place) (walk_step Location j x h e) ∙ rw (ne_eqb place j.at ne) refl
 
 -- a walk without fault does not stop before the end
-pub never_stuck : (j : Input) (r : Refusal) → (walk Frame j).fault ≡ None → step_at Frame j ≡ Err r → length j.bytes ≡ 0
+pub never_stuck : (j : Input) (r : Refusal) → (walk Location j).fault ≡ None → step_at Location j ≡ Err r → length j.bytes ≡ 0
 never_stuck j r read e = elim (cases_lt 0 (length j.bytes)) [
-  | inl some ↦ let k : Some r ≡ None = sym (ap (λ (w : Walk). w.fault) (walk_stuck Frame j r some e)) ∙ read in absurd cc
+  | inl some ↦ let k : Some r ≡ None = sym (ap (λ (w : Walk). w.fault) (walk_stuck Location j r some e)) ∙ read in absurd cc
   | inr none ↦ omega arith
 ]
 
 -- where the input begins
-starts_here : (f : Step → ℕ) (j : Input) → AreBytes j.bytes → (walk Frame j).fault ≡ None → starts_at f (end_of j) j j.at ≡ Some 0
-starts_here f j h read = go j.bytes refl (step_at Frame j) refl
+starts_here : (f : Step → ℕ) (j : Input) → AreBytes j.bytes → (walk Location j).fault ≡ None → starts_at f (end_of j) j j.at ≡ Some 0
+starts_here f j h read = go j.bytes refl (step_at Location j) refl
   where
-    go : (l : List ℕ) → j.bytes ≡ l → (r : Result (Step × Input) Refusal) → step_at Frame j ≡ r → starts_at f (end_of j) j j.at ≡ Some 0
+    go : (l : List ℕ) → j.bytes ≡ l → (r : Result (Step × Input) Refusal) → step_at Location j ≡ r → starts_at f (end_of j) j j.at ≡ Some 0
     go [] empty r e =
-        ap (λ (w : Walk). passed f w.items (end_of j) j.at) (walk_end Frame j (ap length empty)) ∙ rw (eq-eqb j.at (end_of j) (omega (arith, ap length empty))) refl
-    go (b ∷ l) full (Ok x) e = ap (λ (w : Walk). passed f w.items (end_of j) j.at) (walk_step Frame j x h e) ∙ rw (eq-eqb j.at j.at refl) refl
+        ap (λ (w : Walk). passed f w.items (end_of j) j.at) (walk_end Location j (ap length empty)) ∙ rw (eq-eqb j.at (end_of j) (omega (arith, ap length empty))) refl
+    go (b ∷ l) full (Ok x) e = ap (λ (w : Walk). passed f w.items (end_of j) j.at) (walk_step Location j x h e) ∙ rw (eq-eqb j.at j.at refl) refl
     go (b ∷ l) full (Err r) e = absurd (omega (arith, ap length full, never_stuck j r read e))
 
 -- where nothing lies there is no start
-parts_off : (f : Step → ℕ) (t : Target) (steps : List Step) (parts : List (List ℕ)) (at end place : ℕ) → EachSpells Frame t steps parts → at + length (joined parts) ≤ end → ((n : ℕ) → at ≤ n → n ≤ end → place ≡ n → ⊥) → passed f (items_from at steps parts) end place ≡ None
+parts_off : (f : Step → ℕ) (t : Target) (steps : List Step) (parts : List (List ℕ)) (at end place : ℕ) → EachSpells Location t steps parts → at + length (joined parts) ≤ end → ((n : ℕ) → at ≤ n → n ≤ end → place ≡ n → ⊥) → passed f (items_from at steps parts) end place ≡ None
 parts_off f t [] [] at end place h le off = rw (ne_eqb place end (off end (omega arith) (omega arith))) refl
 parts_off f t (step ∷ steps) (part ∷ parts) at end place h le off =
     let len = length-append part (joined parts) in
@@ -40,7 +40,7 @@ parts_off f t steps parts at end place h le off = absurd h
 
 starts_off : (f : Step → ℕ) (j : Input) (place : ℕ) → AreBytes j.bytes → ((n : ℕ) → j.at ≤ n → n ≤ end_of j → place ≡ n → ⊥) → starts_at f (end_of j) j place ≡ None
 starts_off f j place h off =
-    let s = split_of Frame j h in
+    let s = split_of Location j h in
     let le : j.at + length (joined s.parts) ≤ end_of j = omega (arith, ap length s.whole, length-append (joined s.parts) s.rest) in
     ap (λ (l : List PlacedStep). passed f l (end_of j) place) s.items ∙ parts_off f j.target s.steps s.parts j.at (end_of j) place s.each le off
 
@@ -53,8 +53,8 @@ plus_zero None = refl
 plus_zero (Some k) = ap (λ (j : ℕ). Some j) (omega arith)
 
 -- the walk over what is left is without fault
-pub read_on : (i j : Input) (x : Step × Input) → Within i j → (walk Frame j).fault ≡ None → step_at Frame j ≡ done x → (walk Frame x.1).fault ≡ None
-read_on i j x h read e = sym (ap (λ (w : Walk). w.fault) (walk_step Frame j x h.bytes e)) ∙ read
+pub read_on : (i j : Input) (x : Step × Input) → Within i j → (walk Location j).fault ≡ None → step_at Location j ≡ done x → (walk Location x.1).fault ≡ None
+read_on i j x h read e = sym (ap (λ (w : Walk). w.fault) (walk_step Location j x h.bytes e)) ∙ read
 
 -- ---- windows
 
@@ -71,79 +71,70 @@ spelling_within t (Plain op) part h =
     length_of _ part (best.least part h.0)
 spelling_within t (Jump branch number) part h = omega (arith, jump_length t branch number part h)
 
-weight_within : (m : Measure) (j : Input) (step : Step) (new : Input) → AreBytes j.bytes → step_at Frame j ≡ done (step, new) → weight m j.target step + length new.bytes ≤ length j.bytes
-weight_within Operations j step new h e = omega (arith, step_shorter Frame j step new h e)
+weight_within : (m : Measure) (j : Input) (step : Step) (new : Input) → AreBytes j.bytes → step_at Location j ≡ done (step, new) → weight m j.target step + length new.bytes ≤ length j.bytes
+weight_within Operations j step new h e = omega (arith, step_shorter Location j step new h e)
 weight_within LeastBytes j step new h e =
-    let found = step_found Frame j new step h e in
+    let found = step_found Location j new step h e in
     omega (arith, spelling_within j.target step found.part found.spells, ap length found.taken.bytes, length-append found.part new.bytes)
 
-pub shifted_within : (m : Measure) (i : Input) (low count : ℕ) (j : Input) → Shifted m i low count j → Within i j
-shifted_within m i low count j h = record { bytes = h.bytes; end = h.end; target = h.target }
-
-pub shifted_all : (m : Measure) (i : Input) (low : ℕ) → AreBytes i.bytes → (walk Frame i).fault ≡ None → Shifted m i low 0 i
-shifted_all m i low h read = record { bytes = h; end = refl; target = refl; read = read; few = omega arith; front = ([], refl); same = λ place le. plus_zero (sum_in m Frame i place) }
+pub shifted_all : (m : Measure) (i : Input) (low : ℕ) → AreBytes i.bytes → (walk Location i).fault ≡ None → Shifted m i low 0 i
+shifted_all m i low h read = record { within = within_all i h; read = read; few = omega arith; front = ([], refl); same = λ place le. plus_zero (sum_in m Location i place) }
 
 -- there is room for one operation more
-pub room_for : (m : Measure) (i : Input) (low count : ℕ) (j : Input) (step : Step) (new : Input) (n : ℕ) → Shifted m i low count j → step_at Frame j ≡ done (step, new) → n ≡ weight m i.target step → (count + n) + length new.bytes ≤ length i.bytes
+pub room_for : (m : Measure) (i : Input) (low count : ℕ) (j : Input) (step : Step) (new : Input) (n : ℕ) → Shifted m i low count j → step_at Location j ≡ done (step, new) → n ≡ weight m i.target step → (count + n) + length new.bytes ≤ length i.bytes
 room_for m i low count j step new n h e is =
-    let within : weight m i.target step + length new.bytes ≤ length j.bytes = subst (λ (t : Target). weight m t step + length new.bytes ≤ length j.bytes) h.target (weight_within m j step new h.bytes e) in
+    let within : weight m i.target step + length new.bytes ≤ length j.bytes = subst (λ (t : Target). weight m t step + length new.bytes ≤ length j.bytes) h.within.target (weight_within m j step new h.within.bytes e) in
     omega (arith, h.few)
 
 -- one operation further, where it begins below low
-pub shifted_more : (m : Measure) (i : Input) (low count : ℕ) (j : Input) (step : Step) (new : Input) (n : ℕ) → Shifted m i low count j → step_at Frame j ≡ done (step, new) → j.at < low → n ≡ weight m i.target step → Shifted m i low (count + n) new
+pub shifted_more : (m : Measure) (i : Input) (low count : ℕ) (j : Input) (step : Step) (new : Input) (n : ℕ) → Shifted m i low count j → step_at Location j ≡ done (step, new) → j.at < low → n ≡ weight m i.target step → Shifted m i low (count + n) new
 shifted_more m i low count j step new n h e lt is =
-    let w = shifted_within m i low count j h in
     let f = weight m i.target in
-    let on = within_more Frame i j (step, new) w e in
     record {
-      bytes = on.bytes;
-      end = on.end;
-      target = on.target;
-      read = read_on i j (step, new) w h.read e;
+      within = within_more Location i j (step, new) h.within e;
+      read = read_on i j (step, new) h.within h.read e;
       few = room_for m i low count j step new n h e is;
-      front = let found = step_found Frame j new step h.bytes e in front_on i.bytes j.bytes new.bytes h.front (found.part, found.taken.bytes);
+      front = let found = step_found Location j new step h.within.bytes e in front_on i.bytes j.bytes new.bytes h.front (found.part, found.taken.bytes);
       same = λ place le.
           ap (λ (k : ℕ). plus (count + k) (starts_at f (end_of i) new place)) is
-          ∙ plus_plus count (f step) (starts_at f (end_of i) new place) ∙ ap (λ (o : Option ℕ). plus count o) (sym (starts_step f (end_of i) j (step, new) place h.bytes e (omega arith))) ∙ h.same place le;
+          ∙ plus_plus count (f step) (starts_at f (end_of i) new place) ∙ ap (λ (o : Option ℕ). plus count o) (sym (starts_step f (end_of i) j (step, new) place h.within.bytes e (omega arith))) ∙ h.same place le;
     }
 
 pub shifted_later : (m : Measure) (i : Input) (low lower count : ℕ) (j : Input) → lower ≤ low → Shifted m i lower count j → Shifted m i low count j
-shifted_later m i low lower count j le h = record { bytes = h.bytes; end = h.end; target = h.target; read = h.read; few = h.few; front = h.front; same = λ place l. h.same place (omega arith) }
+shifted_later m i low lower count j le h = record { within = h.within; read = h.read; few = h.few; front = h.front; same = λ place l. h.same place (omega arith) }
 
 -- a window in a window
 pub shifted_on : (m : Measure) (i : Input) (low n k : ℕ) (j l : Input) → Shifted m i low n j → Shifted m j low k l → Shifted m i low (n + k) l
 shifted_on m i low n k j l h q =
     let f = weight m i.target in
     let inner : (place : ℕ) → low ≤ place → plus k (starts_at f (end_of j) l place) ≡ starts_at f (end_of j) j place =
-    λ place le. subst (λ (t : Target). plus k (starts_at (weight m t) (end_of j) l place) ≡ starts_at (weight m t) (end_of j) j place) h.target (q.same place le) in
+    λ place le. subst (λ (t : Target). plus k (starts_at (weight m t) (end_of j) l place) ≡ starts_at (weight m t) (end_of j) j place) h.within.target (q.same place le) in
     record {
-      bytes = q.bytes;
-      end = q.end ∙ h.end;
-      target = q.target ∙ h.target;
+      within = record { bytes = q.within.bytes; end = q.within.end ∙ h.within.end; target = q.within.target ∙ h.within.target };
       read = q.read;
       few = omega (arith, h.few, q.few);
       front = front_on i.bytes j.bytes l.bytes h.front q.front;
       same = λ place le.
           plus_plus n k (starts_at f (end_of i) l place)
-          ∙ ap (λ (o : Option ℕ). plus n o) (ap (λ (e : ℕ). plus k (starts_at f e l place)) (sym h.end) ∙ inner place le ∙ ap (λ (e : ℕ). starts_at f e j place) h.end)
+          ∙ ap (λ (o : Option ℕ). plus n o) (ap (λ (e : ℕ). plus k (starts_at f e l place)) (sym h.within.end) ∙ inner place le ∙ ap (λ (e : ℕ). starts_at f e j place) h.within.end)
           ∙ h.same place le;
     }
 
 -- ---- the sum before a place
 
 module _ (m : Measure) (i : Input) (place count : ℕ) (j : Input) (h : Shifted m i place count j) where
-  none_there : ((n : ℕ) → j.at ≤ n → n ≤ end_of j → place ≡ n → ⊥) → None ≡ sum_in m Frame i place
-  none_there off = sym (ap (λ (o : Option ℕ). plus count o) (ap (λ (n : ℕ). starts_at (weight m i.target) n j place) (sym h.end) ∙ starts_off (weight m i.target) j place h.bytes off)) ∙ h.same place (omega arith)
+  none_there : ((n : ℕ) → j.at ≤ n → n ≤ end_of j → place ≡ n → ⊥) → None ≡ sum_in m Location i place
+  none_there off = sym (ap (λ (o : Option ℕ). plus count o) (ap (λ (n : ℕ). starts_at (weight m i.target) n j place) (sym h.within.end) ∙ starts_off (weight m i.target) j place h.within.bytes off)) ∙ h.same place (omega arith)
 
-  pub count_stuck : (r : Refusal) → step_at Frame j ≡ Err r → j.at < place → None ≡ sum_in m Frame i place
+  pub count_stuck : (r : Refusal) → step_at Location j ≡ Err r → j.at < place → None ≡ sum_in m Location i place
   count_stuck r e lt = none_there (λ n from to same. omega (arith, never_stuck j r h.read e))
 
-  pub count_here : j.at ≡ place → Some count ≡ sum_in m Frame i place
+  pub count_here : j.at ≡ place → Some count ≡ sum_in m Location i place
   count_here e =
-      let here : starts_at (weight m i.target) (end_of j) j place ≡ Some 0 = ap (λ (n : ℕ). starts_at (weight m i.target) (end_of j) j n) (sym e) ∙ starts_here (weight m i.target) j h.bytes h.read in
-      let moved : starts_at (weight m i.target) (end_of i) j place ≡ Some 0 = ap (λ (n : ℕ). starts_at (weight m i.target) n j place) (sym h.end) ∙ here in
+      let here : starts_at (weight m i.target) (end_of j) j place ≡ Some 0 = ap (λ (n : ℕ). starts_at (weight m i.target) (end_of j) j n) (sym e) ∙ starts_here (weight m i.target) j h.within.bytes h.read in
+      let moved : starts_at (weight m i.target) (end_of i) j place ≡ Some 0 = ap (λ (n : ℕ). starts_at (weight m i.target) n j place) (sym h.within.end) ∙ here in
       let zero_more : count + 0 ≡ count = omega arith in
       ap (λ (n : ℕ). Some n) (sym zero_more) ∙ ap (λ (o : Option ℕ). plus count o) (sym moved) ∙ h.same place (omega arith)
 
-  pub count_past : place < j.at → None ≡ sum_in m Frame i place
+  pub count_past : place < j.at → None ≡ sum_in m Location i place
   count_past lt = none_there (λ n from to same. omega arith)

@@ -21,9 +21,9 @@ pub use Rattle.dw_op.specs.Operands.{Field, FieldValue, OpForm, block, branch, c
 pub use Rattle.dw_op.specs.{Operands.{size, sized, two, twos, unsigned}, Profile.{InFrame, in_frame}, Ranges.{AllInRange, FirstBadOperand, InRange, TargetWithin}, declared.least.Spelling.Spelling, declared.op.Op.Op}
 pub use Rattle.dw_op.specs.declared.{op.Op.TheVariants.{Addr, BitPiece, Bra, Breg, Const, DerefSize, Dup, Fbreg, Implicit, Nop, Pick, Piece, PlusUconst, Reg, Skip, StackValue}, operation.Branch.Branch, operation.ByteCount.ByteCount}
 pub use Rattle.dw_op.specs.declared.{operation.ByteCount.TheVariants.{One, Two}, operation.Opcode.Opcode, operation.Step.Step, operation.Step.TheVariants.{Jump, Plain}, profile.Profile.Profile, profile.Profile.TheVariants.{Frame, Location}}
-pub use Rattle.dw_op.specs.{declared.walk.Measure.Measure, declared.walk.Measure.TheVariants.{LeastBytes, Operations}, declared.walk.Walker.Walker, Inner.Accepted.{IsAccepted, StepsSo, ok_ops}, Inner.ByOperation.{Alone, Const1s, Const1u}}
+pub use Rattle.dw_op.specs.{declared.walk.Measure.Measure, declared.walk.Measure.TheVariants.{LeastBytes, Operations}, declared.walk.Walker.Walker, Inner.Accepted.{IsAccepted, IsDecoded, StepsSo, ok_ops}, Inner.ByOperation.{Alone, Const1s, Const1u}}
 pub use Rattle.dw_op.specs.Inner.{ByOperation.{Const2s, Const2u, Const4s, Const4u, Const8s, Const8u, ConstForm, Consts, Constu, Counted, IsSpelled, Lit, Unsigned, Written}, Codes.alone_code, Equality.{expression_lines, line, lines_fed}}
 pub use Rattle.dw_op.specs.Inner.{Equality.{op_line, same_expression, sign_of, size_of, target_line}, FrontOp.{after_code, allows, alone, bare_step, code_in_frame, judged, operand_table, or_else, plain_table, signed_of, size_in, width_of}}
 pub use Rattle.dw_op.specs.Inner.{FrontOp.{with_jump, with_op}, LeastBlock.{AreStarts, BranchFits, EachFits, bits_of, blank_parts, least_from, least_len}, LeastOf.{operand_bytes, register_form, register_offset, spelling, spelling_bytes}}
-pub use Rattle.dw_op.specs.Inner.{Steps.{StepSpells, branch_code, step_allowed, step_in_frame}, Sums.{IsNear, bits_to, step_length, sum_in, weight}, Walk.{PlacedStep, Rises, Walk, block_input, branch_to, end_of, find_at, goes_to}}
-pub use Rattle.dw_op.specs.Inner.{Walk.{index_at, index_in, item_of, op_of, passed, place_index, plus, put_first, resolve, starts_of, unless}, Windows.{AreMarks, IsMark, Shifted, SoughtSo, WalkSo, Walked, WalkedBad, Walks, block_of}}
+pub use Rattle.dw_op.specs.Inner.{Steps.{StepSpells, branch_code, step_allowed, step_in_frame}, Sums.{IsNear, bits_to, step_length, sum_in, weight}, Walk.{PlacedStep, Walk, block_input, branch_to, end_of, find_at, goes_to}}
+pub use Rattle.dw_op.specs.Inner.{Walk.{index_at, index_in, item_of, op_of, passed, plus, put_first, resolve, unless}, Windows.{AreMarks, IsMark, Shifted, SoughtSo, WalkSo, Walked, WalkedBad, Walks, Within, block_of}}

@@ -20,24 +20,6 @@ pub(crate) struct Line<'a> {
     pub(crate) bytes: &'a [u8],
 }
 
-fn with_number<'a>(kind: u8, first: u64) -> Line<'a>
-    ensures { line_of result ≡ line kind first 0 (pos 0) [] }
-{
-    Line {
-        kind,
-        first,
-        second: 0,
-        signed: 0,
-        bytes: &[],
-    }
-}
-
-fn alone<'a>(kind: u8) -> Line<'a>
-    ensures { line_of result ≡ alone kind }
-{
-    with_number(kind, 0)
-}
-
 fn with_offset<'a>(kind: u8, first: u64, signed: i64) -> Line<'a>
     ensures { line_of result ≡ line kind first 0 signed [] }
 {
@@ -48,6 +30,18 @@ fn with_offset<'a>(kind: u8, first: u64, signed: i64) -> Line<'a>
         signed,
         bytes: &[],
     }
+}
+
+fn with_number<'a>(kind: u8, first: u64) -> Line<'a>
+    ensures { line_of result ≡ line kind first 0 (pos 0) [] }
+{
+    with_offset(kind, first, 0)
+}
+
+fn alone<'a>(kind: u8) -> Line<'a>
+    ensures { line_of result ≡ alone kind }
+{
+    with_number(kind, 0)
 }
 
 fn in_line<'a>(op: Op<'a>) -> Line<'a>
@@ -95,45 +89,25 @@ fn in_line<'a>(op: Op<'a>) -> Line<'a>
         Op::PushObjectAddress => alone(0x97),
         Op::CallFrameCfa => alone(0x9c),
         Op::BitPiece(size, offset) => Line {
-            kind: 0x9d,
-            first: size,
             second: offset,
-            signed: 0,
-            bytes: &[],
+            ..with_number(0x9d, size)
         },
         Op::Implicit(bytes) => Line {
-            kind: 0x9e,
-            first: 0,
-            second: 0,
-            signed: 0,
             bytes,
+            ..alone(0x9e)
         },
         Op::StackValue => alone(0x9f),
     }
 }
 
-fn same_bytes(a: &[u8], b: &[u8]) -> bool
-    ensures { IsTrue result ↔ a.now ≡ b.now }
-{
-    a == b
-}
-
 fn same_line(a: Line<'_>, b: Line<'_>) -> bool
     ensures { IsTrue result ↔ (a.entry.kind ≡ b.entry.kind) × (a.entry.first ≡ b.entry.first) × (a.entry.second ≡ b.entry.second) × (a.entry.signed ≡ b.entry.signed) × (a.entry.bytes.now ≡ b.entry.bytes.now) }
 {
-    if a.kind != b.kind {
-        return false;
-    }
-    if a.first != b.first {
-        return false;
-    }
-    if a.second != b.second {
-        return false;
-    }
-    if a.signed != b.signed {
-        return false;
-    }
-    same_bytes(a.bytes, b.bytes)
+    a.kind == b.kind
+        && a.first == b.first
+        && a.second == b.second
+        && a.signed == b.signed
+        && a.bytes == b.bytes
 }
 
 fn same_op(a: Op<'_>, b: Op<'_>) -> bool
@@ -147,24 +121,20 @@ pub(crate) fn same_steps(mut a: OpSteps<'_>, mut b: OpSteps<'_>) -> bool
     ensures { IsTrue result ↔ a.entry ≡ b.entry }
 {
     'ops: loop {
-        match a.step() {
-            None => match b.step() {
-                None => return true,
-                Some(_) => return false,
-            },
-            Some(x) => match b.step() {
-                None => return false,
-                Some(y) => {
-                    if !same_op(x, y) {
-                        return false;
-                    }
+        match (a.step(), b.step()) {
+            (None, None) => return true,
+            (Some(x), Some(y)) => {
+                if !same_op(x, y) {
+                    return false;
                 }
-            },
+            }
+            _ => return false,
         }
     }
 }
 
 /// Whether two lists have the same operations.
+#[tactic(auto, using(crate::proofs::Lent::Lines::at_same))]
 pub(crate) fn same_ops(a: &[Op<'_>], b: &[Op<'_>]) -> bool
     ensures { IsTrue result ↔ map bare a.now ≡ map bare b.now }
 {

@@ -76,11 +76,7 @@ impl<'a> OpSteps<'a> {
     pub(crate) fn step(&mut self) -> Option<Op<'a>>
         ensures { MatchOption result ((self.old ≡ []) × (self.new ≡ [])) (λ op. self.old ≡ bare op ∷ self.new) }
     {
-        match self.walker.next_op() {
-            Ok(Some(op)) => Some(op),
-            Ok(None) => None,
-            Err(_) => None,
-        }
+        self.walker.next_op().unwrap_or(None)
     }
 }
 
@@ -159,25 +155,16 @@ impl<'a> ExprRef<'a> {
             Err(_) => Err(AllocError),
         }
     }
-}
 
-impl<'a> ExprRef<'a> {
     /// Whether two expressions (2.5) have equal targets and equal lists of operations, which blocks of
     /// different bytes may have. Blocks of equal bytes are told without a walk. Takes no memory.
     pub fn is_same(&self, other: &ExprRef<'_>) -> bool
         ensures { IsTrue result ↔ self.now ≡ other.now }
     {
-        if self.target != other.target {
-            return false;
-        }
-        if self.bytes == other.bytes {
-            return true;
-        }
-        same_steps(self.steps(), other.steps())
+        self.target == other.target
+            && (self.bytes == other.bytes || same_steps(self.steps(), other.steps()))
     }
-}
 
-impl<'a> ExprRef<'a> {
     /// The length of the block of the operations' least spellings (7.7.1). Takes no memory.
     #[tactic(auto, using(crate::proofs::LeastSpellings::accepted_small))]
     pub fn least_len(&self) -> usize
@@ -186,22 +173,15 @@ impl<'a> ExprRef<'a> {
         steps_len(self.steps(), self.target)
     }
 
-    // Appends the block of least spellings, and may leave some of it where memory runs out.
-    fn push_least(&self, out: &mut Vec<u8>) -> Result<(), AllocError>
-        ensures ok { OnOk result (IsAppended (LeastBlock self.now.target self.now.ops) out.old.items out.new.items) }
-        ensures front { take (length out.old.items) out.new.items ≡ out.old.items }
-    {
-        put_block(self.bytes, self.target, out)
-    }
-
     /// Appends the block of the operations' least spellings (7.7.1), or appends nothing where memory runs out. No
     /// other memory is taken.
+    #[tactic(auto, using(crate::proofs::LeastSpellings::accepted_appended, crate::proofs::Lent::EncodeLaws::on_ok))]
     pub fn put_least(&self, out: &mut Vec<u8>) -> Result<(), AllocError>
         ensures ok { OnOk result (IsAppended (LeastBlock self.now.target self.now.ops) out.old.items out.new.items) }
         ensures err { OnErr result (out.new.items ≡ out.old.items) }
     {
         let start = out.len();
-        let result = self.push_least(out);
+        let result = put_block(self.bytes, self.target, out);
         if result.is_err() {
             out.truncate(start);
         }

@@ -1,25 +1,25 @@
-//! Judging a block of the frame profile without memory.
+//! Judging a block without memory.
 
 ghost use Rattle.std.specs.Prelude.{◌≡◌, None, Some, Err, IfOk, IfErr, false};
-ghost use Rattle.dw_op.specs.{declared.profile.Profile.TheVariants.Frame, Inner.Accepted.IsAccepted, Inner.Walk.{walk, block_input, decode_at}};
+ghost use Rattle.dw_op.specs.{declared.profile.Profile.TheVariants.Frame, Inner.Accepted.{IsAccepted, IsDecoded}, Inner.Walk.{walk, block_input, decode_at}};
 
 use crate::operation::{Step, next_step};
 use crate::profile::Profile;
 use crate::walk::{Measure, Walker};
 use dw_num::{Cursor, Refusal, Target, are_bytes};
 
-// Reads a block to its end, and says whether it has a branch.
+/// Reads a block to its end, and says whether it has a branch.
 #[tactic(auto, using(crate::proofs::Splits::step_shorter))]
-fn has_branch(bytes: &[u8], target: Target) -> Result<bool, Refusal>
-    ensures read { IfOk result (λ b. (walk Frame (block_input target bytes.now)).fault ≡ None) }
-    ensures plain { IfOk result (λ b. b ≡ false → IsAccepted target bytes.now) }
-    ensures first { IfErr result (λ r. (walk Frame (block_input target bytes.now)).fault ≡ Some r) }
+pub(crate) fn has_branch(bytes: &[u8], target: Target, profile: Profile) -> Result<bool, Refusal>
+    ensures read { IfOk result (λ b. (walk profile (block_input target bytes.now)).fault ≡ None) }
+    ensures plain { IfOk result (λ b. b ≡ false → IsDecoded profile target bytes.now) }
+    ensures first { IfErr result (λ r. (walk profile (block_input target bytes.now)).fault ≡ Some r) }
 {
     are_bytes(bytes);
     let mut cursor = Cursor::new(bytes, 0, target);
     let mut found = false;
     'ops: while cursor.left() > 0 {
-        match next_step(&mut cursor, Profile::Frame)? {
+        match next_step(&mut cursor, profile)? {
             Step::Plain(_) => {}
             Step::Jump(_, _) => found = true,
         }
@@ -28,7 +28,7 @@ fn has_branch(bytes: &[u8], target: Target) -> Result<bool, Refusal>
 }
 
 // Whether each branch of a block leads to an operation's start or to the end.
-#[tactic(auto, using(crate::proofs::Judgement::check_shorter, crate::proofs::Judgement::check_more))]
+#[tactic(auto, using(crate::proofs::Judgement::check_shorter))]
 fn check_branches(bytes: &[u8], target: Target) -> Result<(), Refusal>
     requires { (walk Frame (block_input target bytes.now)).fault ≡ None }
     ensures found { IfOk result (λ _. IsAccepted target bytes.now) }
@@ -41,11 +41,12 @@ fn check_branches(bytes: &[u8], target: Target) -> Result<(), Refusal>
 }
 
 /// Whether bytes are a block of the frame profile, or their first fault.
+#[tactic(auto, using(crate::proofs::Lent::Blocks::decoded_fault))]
 pub(crate) fn judge(bytes: &[u8], target: Target) -> Result<(), Refusal>
     ensures found { IfOk result (λ _. IsAccepted target bytes.now) }
     ensures first { IfErr result (λ r. decode_at Frame (block_input target bytes.now) ≡ Err r) }
 {
-    if has_branch(bytes, target)? {
+    if has_branch(bytes, target, Profile::Frame)? {
         check_branches(bytes, target)?;
     }
     Ok(())

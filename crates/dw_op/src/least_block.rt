@@ -58,18 +58,12 @@ pub(crate) fn branch_target(op: &Op<'_>) -> Option<usize>
 pub(crate) fn displacement_bits(from: usize, to: usize) -> Option<u16>
     ensures { MatchOption result (FitsSigned w16 (pos to -ℤ pos from) → ⊥) (λ bits. FitsSigned w16 (pos to -ℤ pos from) × (bits ≡ cast_unsigned w16 (pos to -ℤ pos from))) }
 {
-    if from <= to {
-        let forward = to - from;
-        if forward > 0x7fff {
-            return None;
-        }
-        Some(forward as u16)
+    if from <= to && to - from <= 0x7fff {
+        Some((to - from) as u16)
+    } else if to < from && from - to <= 0x8000 {
+        Some((0x1_0000 - (from - to)) as u16)
     } else {
-        let back = from - to;
-        if back > 0x8000 {
-            return None;
-        }
-        Some((0x1_0000 - back) as u16)
+        None
     }
 }
 
@@ -126,6 +120,7 @@ fn push_ops(
 }
 
 // Appends the least block, and may leave some of it.
+#[tactic(auto, using(crate::proofs::Lent::EncodeLaws::on_ok, crate::proofs::Lent::LeastBlocks::least_block_is))]
 fn push_list(out: &mut Vec<u8>, list: &OpList<'_>) -> Result<(), EncodeError>
     ensures ok { OnOk result (IsAppended (LeastBlock list.now.target list.now.ops) out.old.items out.new.items) }
     ensures far { IfErr result (IsEncodeError list.now.target list.now.ops) }

@@ -68,6 +68,7 @@ fn fits(op: &Op<'_>, target: Target, len: usize) -> bool
 }
 
 // Whether an operation of a list of this length is in range.
+#[tactic(auto, using(crate::proofs::Lent::Ranges::in_range, crate::proofs::Lent::Ranges::fits))]
 fn is_in_range(op: &Op<'_>, target: Target, len: usize) -> bool
     ensures { IsTrue result ↔ InRange target len (bare op.now) }
 {
@@ -76,6 +77,7 @@ fn is_in_range(op: &Op<'_>, target: Target, len: usize) -> bool
 }
 
 // The first operation that is out of range.
+#[tactic(auto, using(crate::proofs::Lent::Ranges::first_bad))]
 fn first_bad(ops: &[Op<'_>], target: Target) -> Option<usize>
     ensures { MatchOption result (AllInRange target (map bare ops.now)) (FirstBadOperand target (map bare ops.now)) }
 {

@@ -2,7 +2,7 @@
 
 ghost use Rattle.std.specs.Prelude.{◌≡◌, ◌<◌, ◌≤◌, ◌++◌, ◌∷◌, [], Some, None, IfSome, length, slice_get};
 ghost use Rattle.dw_num.specs.Input.{AreBytes, behind};
-ghost use Rattle.dw_op.specs.{declared.profile.Profile.TheVariants.Frame, Inner.Sums.sum_in, Inner.Walk.walk, Inner.Windows.AreMarks};
+ghost use Rattle.dw_op.specs.{declared.profile.Profile.TheVariants.Location, Inner.Sums.sum_in, Inner.Walk.walk, Inner.Windows.AreMarks};
 
 use crate::walk::{Measure, advance, copied, sum_from};
 use dw_num::Cursor;
@@ -92,7 +92,7 @@ fn mark_at(bytes: usize, count: usize) -> Option<Mark>
 #[tactic(auto, using(crate::proofs::Marked::fill_none))]
 pub(crate) fn fill(window: &Cursor<'_>, measure: Measure, marks: &mut Marks)
     requires bytes { AreBytes window.now.bytes }
-    requires read { (walk Frame window.now).fault ≡ None }
+    requires read { (walk Location window.now).fault ≡ None }
     ensures { AreMarks measure window.now marks.new }
 {
     marks.clear();
@@ -131,9 +131,9 @@ pub(crate) fn sum_by(
     place: u64,
 ) -> Option<usize>
     requires bytes { AreBytes window.now.bytes }
-    requires read { (walk Frame window.now).fault ≡ None }
+    requires read { (walk Location window.now).fault ≡ None }
     requires marks { AreMarks measure window.now marks.now }
-    ensures exact { result ≡ sum_in measure Frame window.now place }
+    ensures exact { result ≡ sum_in measure Location window.now place }
     ensures few { IfSome result (λ i. i ≤ length window.now.bytes) }
 {
     let far = place.saturating_sub(window.at()) / APART;

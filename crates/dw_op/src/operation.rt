@@ -127,10 +127,7 @@ fn known_opcode<'a>(code: u8) -> Option<Opcode<'a>>
         0x30..=0x4f => Some(Opcode::Alone(Op::Const(u64::from(code - 0x30)))),
         0x50..=0x6f => Some(Opcode::Alone(Op::Reg(u16::from(code - 0x50)))),
         0x70..=0x8f => Some(Opcode::Breg(u16::from(code - 0x70))),
-        _ => match plain(code) {
-            Some(op) => Some(Opcode::Alone(op)),
-            None => None,
-        },
+        _ => Some(Opcode::Alone(plain(code)?)),
     }
 }
 

@@ -1,17 +1,31 @@
 //! The operations of a block one after another, without memory.
 
-ghost use Rattle.std.specs.Prelude.{◌≡◌, ◌≤◌, None, IfSome, length};
+ghost use Rattle.std.specs.Prelude.{◌≡◌, ◌≤◌, ◌<◌, ◌-◌, ◌^◌, None, Some, IfSome, length};
 ghost use Rattle.dw_num.specs.Input.{AreBytes};
-ghost use Rattle.dw_op.specs.{declared.profile.Profile.TheVariants.Frame, Inner.FrontOp.bare_step, Inner.Sums.{step_length, weight, sum_in}};
-ghost use Rattle.dw_op.specs.Inner.{Walk.{walk, end_of, goes_to, find_at, block_input}, Windows.{Shifted, block_of, WalkSo, SoughtSo, Walks}};
+ghost use Rattle.dw_op.specs.{Expression.bare, declared.profile.Profile.TheVariants.Location, Inner.FrontOp.bare_step, Inner.Sums.{weight, sum_in}};
+ghost use Rattle.dw_op.specs.Inner.{Walk.{walk, end_of, goes_to, find_at, branch_to, block_input}, Windows.{Shifted, block_of, WalkSo, SoughtSo, Walks}};
 
-use crate::block::{goal, named};
 use crate::least::op_least_len;
 use crate::marks::{APART, Marks, ROOM, fill, sum_by};
 use crate::op::Op;
-use crate::operation::{Step, next_step};
+use crate::operation::{Branch, Step, next_step};
 use crate::profile::Profile;
 use dw_num::{Code, Cursor, Refusal, Target, are_bytes};
+
+// Where a branch that ends here goes to: DWARF 5, 2.5.1.5.
+fn goal(end: u64, number: u16) -> Option<u64>
+    requires { end < 2 ^ 64 - 65536 }
+    ensures { result ≡ goes_to end number }
+{
+    let number = u64::from(number);
+    if number < 32768 {
+        Some(end + number)
+    } else if end + number < 65536 {
+        None
+    } else {
+        Some(end + number - 65536)
+    }
+}
 
 // How far back a branch leads.
 const REACH: u64 = 32768;
@@ -25,28 +39,31 @@ pub(crate) enum Measure {
     LeastBytes,
 }
 
-// How many bytes the least spelling has: that of a branch, wherever it goes, a code and two bytes.
-fn step_len(step: Step<'_>, target: Target) -> usize
-    ensures { result ≡ step_length target (bare_step step.entry) }
-{
-    match step {
-        Step::Plain(op) => op_least_len(&op, target),
-        Step::Jump(_, _) => 3,
-    }
-}
-
-// What an operation adds.
+// What an operation adds. The least spelling of a branch, wherever it goes, is a code and two bytes.
 #[inline(always)]
 fn added(measure: Measure, step: Step<'_>, target: Target) -> usize
     ensures { result ≡ weight measure target (bare_step step.entry) }
 {
     match measure {
         Measure::Operations => 1,
-        Measure::LeastBytes => step_len(step, target),
+        Measure::LeastBytes => match step {
+            Step::Plain(op) => op_least_len(&op, target),
+            Step::Jump(_, _) => 3,
+        },
     }
 }
 
-/// A walk over a block of the frame profile: what is left, the sum of the operations that were passed, and a
+// A branch to this operation.
+fn named<'a>(branch: Branch, index: usize) -> Op<'a>
+    ensures { branch_to branch (Some index) ≡ Some (bare result) }
+{
+    match branch {
+        Branch::Bra => Op::Bra(index),
+        Branch::Skip => Op::Skip(index),
+    }
+}
+
+/// A walk over a block that can be read, of either profile: what is left, the sum of the operations that were passed, and a
 /// window that begins at an operation not behind the first that a branch can still go back to, with marks for
 /// the goals below a limit.
 #[derive(Drop)]
@@ -72,15 +89,15 @@ pub(crate) fn copied<'a>(cursor: &Cursor<'a>) -> Cursor<'a>
 #[tactic(auto, using(crate::proofs::Splits::step_shorter))]
 pub(crate) fn sum_from(cursor: &Cursor<'_>, measure: Measure, place: u64) -> Option<usize>
     requires bytes { AreBytes cursor.now.bytes }
-    requires read { (walk Frame cursor.now).fault ≡ None }
-    ensures exact { result ≡ sum_in measure Frame cursor.now place }
+    requires read { (walk Location cursor.now).fault ≡ None }
+    ensures exact { result ≡ sum_in measure Location cursor.now place }
     ensures few { IfSome result (λ i. i ≤ length cursor.now.bytes) }
 {
     let target = cursor.target();
     let mut cursor = copied(cursor);
     let mut count = 0;
     'ops: while cursor.at() < place {
-        match next_step(&mut cursor, Profile::Frame) {
+        match next_step(&mut cursor, Profile::Location) {
             Ok(step) => count += added(measure, step, target),
             Err(_) => return None,
         }
@@ -96,14 +113,14 @@ pub(crate) fn sum_from(cursor: &Cursor<'_>, measure: Measure, place: u64) -> Opt
 #[tactic(auto, using(crate::proofs::WalkStarts::never_stuck, crate::proofs::Splits::step_shorter))]
 pub(crate) fn advance(window: &mut Cursor<'_>, measure: Measure, low: u64) -> usize
     requires bytes { AreBytes window.old.bytes }
-    requires read { (walk Frame window.old).fault ≡ None }
+    requires read { (walk Location window.old).fault ≡ None }
     requires low { low ≤ end_of window.old }
     ensures { Shifted measure window.old low result window.new }
 {
     let target = window.target();
     let mut count = 0;
     'ops: while window.at() < low {
-        match next_step(window, Profile::Frame) {
+        match next_step(window, Profile::Location) {
             Ok(step) => count += added(measure, step, target),
             Err(_) => return count,
         }
@@ -114,7 +131,7 @@ pub(crate) fn advance(window: &mut Cursor<'_>, measure: Measure, low: u64) -> us
 impl<'a> Walker<'a> {
     /// At the front of a block that can be read.
     pub(crate) fn new(bytes: &'a [u8], target: Target, measure: Measure) -> Walker<'a>
-        requires { (walk Frame (block_input target bytes.now)).fault ≡ None }
+        requires { (walk Location (block_input target bytes.now)).fault ≡ None }
         ensures so { WalkSo result }
         ensures here { result.here ≡ block_input target bytes.entry.now }
         ensures count { result.count ≡ 0 }
@@ -153,9 +170,10 @@ impl<'a> Walker<'a> {
     }
 
     // What stands before the operation that a branch names that ends here.
+    #[inline(never)]
     fn sought(&mut self, end: u64, number: u16) -> Option<usize>
         requires { SoughtSo end self.old }
-        ensures exact { result ≡ find_at (sum_in self.old.measure Frame (block_of self.old)) (goes_to end number) }
+        ensures exact { result ≡ find_at (sum_in self.old.measure Location (block_of self.old)) (goes_to end number) }
         ensures so { SoughtSo end self.new }
         ensures here { self.new.here ≡ self.old.here }
         ensures count { self.new.count ≡ self.old.count }
@@ -174,6 +192,7 @@ impl<'a> Walker<'a> {
 
     /// The next operation, or the refusal of a branch that leads nowhere. A branch has what stands before the
     /// operation that it names.
+    #[inline(always)]
     #[tactic(auto, using(crate::proofs::Walkers::walked_plain, crate::proofs::WalkStarts::never_stuck))]
     pub(crate) fn next_op(&mut self) -> Result<Option<Op<'a>>, Refusal>
         requires { WalkSo self.old }
@@ -184,7 +203,7 @@ impl<'a> Walker<'a> {
         }
         let at = self.here.at();
         let target = self.here.target();
-        let step = next_step(&mut self.here, Profile::Frame)?;
+        let step = next_step(&mut self.here, Profile::Location)?;
         self.count += added(self.measure, step, target);
         match step {
             Step::Plain(op) => Ok(Some(op)),

@@ -1,19 +1,14 @@
 -- What is decoded is the block's operations, or its first fault.
+use Rattle.std.proofs.Math.{Nat.{add-zero, zero-add}, Numerals.add-one}
 use Rattle.dw_op.specs.declared.operation.Branch.TheVariants.{Bra, Skip}
 use Rattle.dw_op.specs.declared.op.Op.TheVariants as ops
 use Rattle.dw_op.proofs.Words.{◌≡◌, ℕ, zero, suc, ◌+◌, ◌<◌, List, [], ◌∷◌, ◌++◌, length, Option, Some, None, Result, Ok, Err, refl, sym, ap, subst, ◌∙◌, arith, inl, inr, ◌⊎◌, IsTrue, slice_get, cases_lt, AllByRecursion}
 use Rattle.dw_op.proofs.Words.{append-nil, BadBranch, Refusal, Target, Input, AreBytes, Op, Profile, Frame, Location, Step, Plain, Jump, start, Stands, EachPart, joined, Block, step_at, PlacedStep, Walk, walk, index_at}
-use Rattle.dw_op.proofs.{Words.{op_of, put_first, resolve, unless, block_input, decode_at, IsBlock, op_allowed, IsPart, Leads, ReadingFault, BlockFault}, BranchParts.{Stood, stood_leads, leads_stood, plus_none, moved}}
+use Rattle.dw_op.proofs.{Words.{op_of, put_first, resolve, unless, block_input, decode_at, IsBlock, op_allowed, IsPart, Leads, ReadingFault, BlockFault}, BranchParts.{Stood, stood_leads, leads_stood, moved}}
 use Rattle.dw_op.proofs.{Branches.fixed_any, Lent.Ranges.listed_at, Lent.ReadingLaws.some_is, Lent.Spellings.in_table, OperandLaws.{stuck_fault, fault_stuck}, Places.{index_start, index_begins}}
 use Rattle.dw_op.proofs.{ResolvedSteps.{Finds, Placed, one_step, as_location, part_step, plain_allows, framed, step_stands, stands_step}, Splits.{Spelled, EachSpells, items_from, input, Ends, Split, split_of, joined_walk}}
 
 -- ---- where parts stand
-
-zero_plus : (n : ℕ) → 0 + n ≡ n
-zero_plus n = omega arith
-
-one_more : (k : ℕ) → k + 1 ≡ suc k
-one_more k = omega arith
 
 -- the starts of the parts from part k on
 abbrev Follow : List (List ℕ) → ℕ → List (List ℕ) → Type 0
@@ -24,20 +19,20 @@ start_zero [] = refl
 start_zero (part ∷ all) = refl
 
 follow_all : (all : List (List ℕ)) → Follow all 0 all
-follow_all all j = ap (λ (m : ℕ). start all m) (zero_plus j) ∙ omega (arith, start_zero all)
+follow_all all j = ap (λ (m : ℕ). start all m) (zero-add j) ∙ omega (arith, start_zero all)
 
 follow_placed : (all : List (List ℕ)) (k : ℕ) (part : List ℕ) (parts : List (List ℕ)) → Follow all k (part ∷ parts) → Placed all k part
 follow_placed all k part parts h = omega (arith, h 1, start_zero parts)
 
 follow_next : (all : List (List ℕ)) (k : ℕ) (part : List ℕ) (parts : List (List ℕ)) → Follow all k (part ∷ parts) → Follow all (suc k) parts
 follow_next all k part parts h j =
-    let here : start all (suc k) ≡ start all k + length part = ap (λ (m : ℕ). start all m) (sym (one_more k)) ∙ follow_placed all k part parts h in
+    let here : start all (suc k) ≡ start all k + length part = ap (λ (m : ℕ). start all m) (sym (add-one k)) ∙ follow_placed all k part parts h in
     let there : start all (suc k + j) ≡ start all (k + suc j) = ap (λ (m : ℕ). start all m) (sym (moved k j)) in
     omega (arith, h (suc j))
 
 -- the place of part k + 1 by the one of part k
 next_place : (all : List (List ℕ)) (k : ℕ) (part : List ℕ) → Placed all k part → start all k + length part ≡ start all (suc k)
-next_place all k part h = sym h ∙ ap (λ (m : ℕ). start all m) (one_more k)
+next_place all k part h = sym h ∙ ap (λ (m : ℕ). start all m) (add-one k)
 
 -- ---- what resolving says
 
@@ -138,7 +133,7 @@ module _ (profile : Profile) (t : Target) (all : List (List ℕ)) (find : ℕ �
 
   good_more : (k : ℕ) (part : List ℕ) (parts : List (List ℕ)) (n : ℕ) → Stood t all k part → ((j : ℕ) (x : List ℕ) → j < n → slice_get parts j ≡ Some x → Stood t all (suc k + j) x)
       → (j : ℕ) (x : List ℕ) → j < suc n → slice_get (part ∷ parts) j ≡ Some x → Stood t all (k + j) x
-  good_more k part parts n s more zero x lt e = rw (plus_none k) (subst (Stood t all k) (some_is part x e) s)
+  good_more k part parts n s more zero x lt e = rw (add-zero k) (subst (Stood t all k) (some_is part x e) s)
   good_more k part parts n s more (suc j) x lt e = subst (λ (m : ℕ). Stood t all m x) (sym (moved k j)) (more j x (omega arith) e)
 
   nothing_stands : (k : ℕ) (step : Step) (part : List ℕ) → Spelled profile t step part → Placed all k part → op_of find (start all k) step ≡ None → Stood t all k part → ⊥
@@ -159,7 +154,7 @@ module _ (profile : Profile) (t : Target) (all : List (List ℕ)) (find : ℕ �
           part = part;
           there = refl;
           good = λ j x lt here. absurd (omega arith);
-          bad = subst (λ (n : ℕ). Stood t all n part → ⊥) (sym (plus_none k)) (nothing_stands k step part h.0 placed u.0);
+          bad = subst (λ (n : ℕ). Stood t all n part → ⊥) (sym (add-zero k)) (nothing_stands k step part h.0 placed u.0);
           is = u.1 ∙ ap bad_branch (omega (arith, start_zero (part ∷ parts)));
         }
         | inr u ↦
@@ -181,10 +176,10 @@ module _ (profile : Profile) (t : Target) (all : List (List ℕ)) (find : ℕ �
   bad_at each r u = ((nowhere, first), u.is ∙ ap bad_branch (omega (arith, start_zero all)))
     where
       nowhere : Leads t all u.index → ⊥
-      nowhere leads = u.bad (rw (zero_plus u.index) (leads_stood profile t all u.index u.part u.there (listed_at (IsPart profile t) all u.index u.part each u.there) leads))
+      nowhere leads = u.bad (rw (zero-add u.index) (leads_stood profile t all u.index u.part u.there (listed_at (IsPart profile t) all u.index u.part each u.there) leads))
 
       first : (k : ℕ) → k < u.index → Leads t all k
-      first k lt part there = stood_leads t all k part there (subst (λ (n : ℕ). Stood t all n part) (zero_plus k) (u.good k part lt there)) part there
+      first k lt part there = stood_leads t all k part there (subst (λ (n : ℕ). Stood t all n part) (zero-add k) (u.good k part lt there)) part there
 
   stood_at : (k : ℕ) (ops : List Op) (parts : List (List ℕ)) → EachPart (Stands t all) k ops parts → (j : ℕ) (x : List ℕ) → slice_get parts j ≡ Some x → Stood t all (k + j) x
   stood_at k [] [] h j x e = absurd cc
@@ -206,7 +201,7 @@ module _ (profile : Profile) (t : Target) (all : List (List ℕ)) (find : ℕ �
       of : (q : Result (List Op) Refusal) → resolve find (items_from (start all 0) steps all) ≡ q → q ≡ refused (bad_branch (start all bad))
       of (Ok ops) e =
           let stood = stood_at 0 ops all (resolved_stand 0 steps all ops h (follow_all all) e).0 bad in
-          absurd (first.0 (λ part there. stood_leads t all bad part there (subst (λ (n : ℕ). Stood t all n part) (zero_plus bad) (stood part there)) part there))
+          absurd (first.0 (λ part there. stood_leads t all bad part there (subst (λ (n : ℕ). Stood t all n part) (zero-add bad) (stood part there)) part there))
       of (Err r) e =
           let u = unresolved_bad 0 steps all r h (follow_all all) e in
           let s = bad_at each r u in
@@ -274,7 +269,7 @@ read_or_stuck profile t bytes w None s none is =
     inl (record { steps = s.steps; parts = s.parts; each = s.each; whole = whole; decoded = decoded_parts profile t bytes s.steps s.parts s.each whole })
 read_or_stuck profile t bytes w (Some r) s some is =
     let ends : (0 < length s.rest) × (step_at profile (input (0 + length (joined s.parts)) s.rest t) ≡ Err r) = subst (λ (o : Option Refusal). Ends profile (input (0 + length (joined s.parts)) s.rest t) o) some s.ends in
-    let stuck = subst (λ (n : ℕ). step_at profile (input n s.rest t) ≡ Err r) (zero_plus (length (joined s.parts))) ends.1 in
+    let stuck = subst (λ (n : ℕ). step_at profile (input n s.rest t) ≡ Err r) (zero-add (length (joined s.parts))) ends.1 in
     inr (r, stuck_reading profile t bytes r s.parts s.rest s.whole (step_parts profile t s.steps s.parts s.each) ends.0 stuck, decoded_fault profile (block_input t bytes) r (ap (λ (x : Walk). x.fault) is ∙ some))
 
 reads : (profile : Profile) (t : Target) (bytes : List ℕ) → AreBytes bytes → Read profile t bytes ⊎ Stuck profile t bytes
@@ -354,7 +349,7 @@ fault_only profile t bytes r (inl h) =
     let steps = part_steps profile t h.parts h.each in
     let rest = h.code ∷ h.operands in
     let stuck = fault_stuck profile t (length (joined h.parts)) h.code h.operands r h.fault in
-    let ends : Ends profile (input (0 + length (joined h.parts)) rest t) (Some r) = subst (λ (n : ℕ). (0 < length rest) × (step_at profile (input n rest t) ≡ Err r)) (sym (zero_plus (length (joined h.parts)))) (omega arith, stuck) in
+    let ends : Ends profile (input (0 + length (joined h.parts)) rest t) (Some r) = subst (λ (n : ℕ). (0 < length rest) × (step_at profile (input n rest t) ≡ Err r)) (sym (zero-add (length (joined h.parts)))) (omega arith, stuck) in
     let w = joined_walk profile t steps.0 h.parts 0 rest (Some r) steps.1 ends in
     decoded_fault profile (block_input t bytes) r (ap (λ (l : List ℕ). (walk profile (input 0 l t)).fault) h.whole ∙ ap (λ (x : Walk). x.fault) w)
 fault_only profile t bytes r (inr h) =

@@ -1,8 +1,9 @@
 -- An operation comes back from its line, so that equal lines are of equal operations.
 use Rattle.dw_op.proofs.Words.{◌≡◌, ℕ, Bool, true, false, List, [], ◌∷◌, map, Option, Some, None, refl, sym, ap, ◌∙◌, ℤ, pos, negsuc, nat_eq, if◌then◌else◌, IsTrue, ◌↔◌, Target, Size, Four, Eight, Order, Little, Big, Op, Addr, Const, Pick}
 use Rattle.dw_op.proofs.Words.{PlusUconst, Bra, Skip, Reg, Breg, Fbreg, Piece, DerefSize, Nop, BitPiece, Implicit, look_up, plain_table, Expression, bare, FrameBlock, in_frame, InFrame, sign_of, size_of, line, op_line, target_line}
-use Rattle.dw_op.proofs.Words.{expression_lines, same_expression, zero, suc, ◌<◌, length, get_or, arith, Decides}
+use Rattle.dw_op.proofs.Words.{expression_lines, same_expression, suc, ◌<◌, length, get_or, arith, Decides}
 use Rattle.std.specs.Bool.{one_answer}
+use Rattle.std.proofs.Math.ListN.{get_or-map}
 use Rattle.dw_op.specs.Inner.EqualityLaws.{lines_decide}
 
 -- a signed number from its sign and number
@@ -68,14 +69,9 @@ bare_frame : (op : Op) → in_frame op ≡ true → bare op ≡ op
 bare_frame (Implicit block) h = let k : false ≡ true = h in absurd cc
 bare_frame op h = refl
 
-same_list : (a b : List Op) → InFrame a → InFrame b → map op_line a ≡ map op_line b → a ≡ b
-same_list [] [] h k e = refl
-same_list (x ∷ a) (y ∷ b) h k e =
-    let line : op_line x ≡ op_line y = cc in
-    let first : x ≡ y = sym (bare_frame x h.0) ∙ same_op x y line ∙ bare_frame y k.0 in
-    let more = same_list a b h.1 k.1 cc in
-    cc
-same_list a b h k e = absurd cc
+bare_all : (ops : List Op) → InFrame ops → map bare ops ≡ ops
+bare_all [] h = refl
+bare_all (op ∷ ops) h = rw (bare_frame op h.0, bare_all ops h.1) refl
 
 target_with : List ℕ → Target
 target_with (size ∷ order ∷ more) = record { size = if nat_eq size 4 then Four else Eight; order = if nat_eq order 0 then Little else Big }
@@ -99,16 +95,6 @@ pub expression_is : (a b : Expression) → a.target ≡ b.target → a.ops ≡ b
 expression_is a b target ops =
     ap (λ (t : Target). expression t a.ops) target ∙ ap (λ (l : List Op). expression b.target l) ops
 
--- the test tells equal expressions
-pub tells : (a b : Expression) → InFrame a.ops → InFrame b.ops → Decides (same_expression a b) (a ≡ b)
-tells a b h k =
-    let d = lines_decide (expression_lines a) (expression_lines b) in
-    (λ e. let lines = d.0 e in expression_is a b (same_target a.target b.target cc) (same_list a.ops b.ops h k cc), λ e. d.1 (ap expression_lines e))
-
--- what tells equal expressions that have blocks is the test
-pub is_test_of : (a b : Expression) (r : Bool) → ((bytes : List ℕ) × FrameBlock a.target a.ops bytes) → ((bytes : List ℕ) × FrameBlock b.target b.ops bytes) → (IsTrue r ↔ a ≡ b) → r ≡ same_expression a b
-is_test_of a b r h k e = one_answer r (same_expression a b) e (tells a b h.1.1 k.1.1)
-
 -- ---- lists that are bare
 
 bare_list : (a b : List Op) → map op_line (map bare a) ≡ map op_line (map bare b) → map bare a ≡ map bare b
@@ -128,6 +114,14 @@ list_tells t u a b =
     let d = lines_decide (expression_lines left) (expression_lines right) in
     (λ e. let lines = d.0 e in expression_is left right (same_target t u cc) (bare_list a b cc), λ e. d.1 (ap expression_lines e))
 
+-- the test tells equal expressions
+pub tells : (a b : Expression) → InFrame a.ops → InFrame b.ops → Decides (same_expression a b) (a ≡ b)
+tells a b h k = rw (bare_all a.ops h, bare_all b.ops k) at (list_tells a.target b.target a.ops b.ops)
+
+-- what tells equal expressions that have blocks is the test
+pub is_test_of : (a b : Expression) (r : Bool) → ((bytes : List ℕ) × FrameBlock a.target a.ops bytes) → ((bytes : List ℕ) × FrameBlock b.target b.ops bytes) → (IsTrue r ↔ a ≡ b) → r ≡ same_expression a b
+is_test_of a b r h k e = one_answer r (same_expression a b) e (tells a b h.1.1 k.1.1)
+
 -- what tells the same operations for one target is the test
 pub is_list_test : (t u : Target) (a b : List Op) (r : Bool) → t ≡ u → (IsTrue r ↔ map bare a ≡ map bare b) → r ≡ same_expression (expression t (map bare a)) (expression u (map bare b))
 is_list_test t u a b r target e =
@@ -145,7 +139,4 @@ same_at (x ∷ a) (y ∷ b) d n h =
 same_at a b d n h = absurd cc
 
 pub at_same : (a b : List Op) (d : Op) (j : ℕ) → map bare a ≡ map bare b → bare (get_or a j d) ≡ bare (get_or b j d)
-at_same [] [] d j e = refl
-at_same (x ∷ a) (y ∷ b) d zero e = cc
-at_same (x ∷ a) (y ∷ b) d (suc j) e = at_same a b d j cc
-at_same a b d j e = absurd cc
+at_same a b d j e = rw (← get_or-map bare a j d, ← get_or-map bare b j d) (ap (λ (l : List Op). get_or l j (bare d)) e)

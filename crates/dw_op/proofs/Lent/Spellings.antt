@@ -24,9 +24,6 @@ module _ (t : Target) where
   form_so (two o p make) code op b h s = made_so (make s.0 s.1) op (code ∷ b) s.2 (h s.0 s.1 b s.3)
   form_so (branch to) code op b h s = made_so (to s.0) op (code ∷ b) s.1 (h s.0 b s.2)
 
-  natural_so : (form : ConstForm) (x : ℕ) (b : List ℕ) → Written t.order form (pos x) b → IsSpelled t (natural t x) b
-  natural_so form x b h = record { form = form; number = pos x; written = h; value = refl }
-
   constant_so : (form : ConstForm) (x : ℤ) (b : List ℕ) → Written t.order form x b → IsSpelled t (constant t x) b
   constant_so form x b h = record { form = form; number = x; written = h; value = refl }
 
@@ -39,15 +36,15 @@ module _ (t : Target) where
   table_so : EachEntry FormSo (op_form_table t)
   table_so =
       (λ x. behind 0x03) & refl
-      & (λ x b s. natural_so Const1u x (0x08 ∷ b) (behind 0x08 b (number (Fixed t.order 1) x b s)))
+      & (λ x b s. constant_so Const1u (pos x) (0x08 ∷ b) (behind 0x08 b (number (Fixed t.order 1) x b s)))
       & (λ x b s. constant_so Const1s x (0x09 ∷ b) (behind 0x09 b s))
-      & (λ x b s. natural_so Const2u x (0x0a ∷ b) (behind 0x0a b (number (Fixed t.order 2) x b s)))
+      & (λ x b s. constant_so Const2u (pos x) (0x0a ∷ b) (behind 0x0a b (number (Fixed t.order 2) x b s)))
       & (λ x b s. constant_so Const2s x (0x0b ∷ b) (behind 0x0b b s))
-      & (λ x b s. natural_so Const4u x (0x0c ∷ b) (behind 0x0c b (number (Fixed t.order 4) x b s)))
+      & (λ x b s. constant_so Const4u (pos x) (0x0c ∷ b) (behind 0x0c b (number (Fixed t.order 4) x b s)))
       & (λ x b s. constant_so Const4s x (0x0d ∷ b) (behind 0x0d b s))
-      & (λ x b s. natural_so Const8u x (0x0e ∷ b) (behind 0x0e b (number (Fixed t.order 8) x b s)))
+      & (λ x b s. constant_so Const8u (pos x) (0x0e ∷ b) (behind 0x0e b (number (Fixed t.order 8) x b s)))
       & (λ x b s. constant_so Const8s x (0x0f ∷ b) (behind 0x0f b s))
-      & (λ x b s. natural_so Constu x (0x10 ∷ b) (behind 0x10 b (number Uleb x b s)))
+      & (λ x b s. constant_so Constu (pos x) (0x10 ∷ b) (behind 0x10 b (number Uleb x b s)))
       & (λ x b s. constant_so Consts x (0x11 ∷ b) (behind 0x11 b s))
       & refl & refl & refl & (λ x. behind 0x15)
       & refl & refl & refl & refl & refl & refl & refl & refl & refl & refl & refl & refl & (λ x. behind 0x23)

@@ -1,5 +1,5 @@
 -- The operations of a block one after another, and what its branches name, as the code finds them. Block.antt and Faults.antt say the same without it.
-use Rattle.std.specs.Prelude.{ℕ, suc, ◌+◌, ◌-◌, ◌≤◌, List, [], ◌∷◌, length, Option, Some, None, Result, Ok, Err, nat_eq, nat_lt, if◌then◌else◌}
+use Rattle.std.specs.Prelude.{ℕ, ◌+◌, ◌-◌, List, [], ◌∷◌, length, Option, Some, None, Result, Ok, Err, nat_eq, nat_lt, if◌then◌else◌}
 use Rattle.dw_num.specs.{Input.Input, declared.refusal.Code.TheVariants.BadBranch, declared.refusal.Refusal.Refusal, declared.target.Target.Target}
 use Rattle.dw_op.specs.{Walks.Walked, declared.op.Op.Op}
 use Rattle.dw_op.specs.declared.operation.{Branch.Branch, Branch.TheVariants.{Bra, Skip}, Step.Step, Step.TheVariants.{Plain, Jump}}
@@ -87,18 +87,3 @@ index_in profile i place = index_at (walk profile i).items (end_of i) place
 -- the operations of a block, or its first fault
 unfoldable pub decode_at : Profile → Input → Result (List Op) Refusal
 decode_at profile i = unless (walk profile i).fault (resolve (index_in profile i) (walk profile i).items)
-
--- the starts of the operations, and the end
-abbrev pub starts_of : List PlacedStep → ℕ → List ℕ
-starts_of [] end = end ∷ []
-starts_of (item ∷ items) end = item.at ∷ starts_of items end
-
--- which of the places it is
-abbrev pub place_index : List ℕ → ℕ → Option ℕ
-place_index [] place = None
-place_index (p ∷ ps) place = if nat_eq place p then Some 0 else plus 1 (place_index ps place)
-
--- places that rise, from low on
-abbrev pub Rises : ℕ → List ℕ → Type 0
-Rises low [] = Unit {0}
-Rises low (p ∷ ps) = (low ≤ p) × Rises (suc p) ps

@@ -6,13 +6,6 @@ returns-in_err-ops-clause-only c =
     let p = err_from_is_err_and c.from_residual.result c.from_residual.ensures.1 in
     rw (p.1, p.2) (λ ops block. only_memory c.args.profile c.args.target c.args.bytes.now ops c.in_err-ops.field-0.0 block c.in_err-ops.ensures.first)
 
-pub returns-in_err-ops-clause-first : goal.returns-in_err-ops-clause-first
-returns-in_err-ops-clause-first c =
-    let p = err_from_is_err_and c.from_residual.result c.from_residual.ensures.1 in
-    rw (p.1, p.2)
-    (refuses_by c.in_err-ops.field-0.0 _ _
-    (λ r e. fault_found c.args.profile c.args.target c.args.bytes.now r c.are_bytes.ensures e) c.in_err-ops.ensures.first)
-
 pub returns-in_err-ops-clause-within : goal.returns-in_err-ops-clause-within
 returns-in_err-ops-clause-within c =
     let p = err_from_is_err_and c.from_residual.result c.from_residual.ensures.1 in

@@ -1,45 +1,26 @@
-use Rattle.dw_op.proofs.Words.{arith, length, ℕ, map, subst, Err, Ok, Some, None, ◌≡◌, err_from_is_err_and, map-append, refuses_by, bare, bare_step, block_input, place_index, walk, end_of, starts_of, op_of, Rises}
-use Rattle.dw_op.proofs.{Search.starts_rise, Decoded.{ops_more, ops_bad, ops_all, ops_stuck, decoded_is}, Lent.Blocks.{bad_branch, decoded_fault}}
+use Rattle.dw_op.proofs.Words.{Ok, None, map, map-append, err_from_is_err_and, bare, block_input, Walked, Walks}
+use Rattle.dw_op.proofs.{Splits.located_none, Judgement.{check_more, check_bad, check_end}, Lent.Blocks.decoded_fault}
 use Rattle.dw_op.proofs.block.decode_ops.Goals as goal
 
-pub returns-in_err-places-clause-first : goal.returns-in_err-places-clause-first
-returns-in_err-places-clause-first c =
+pub returns-in_err-has_branch-clause-first : goal.returns-in_err-has_branch-clause-first
+returns-in_err-has_branch-clause-first c =
     let p = err_from_is_err_and c.from_residual.result c.from_residual.ensures.1 in
-    let i = block_input c.args.target c.args.bytes.now in
-    rw (p.1, p.2) (refuses_by c.in_err-places.field-0.0 _ _ (λ r e. decoded_fault c.args.profile i r e) c.in_err-places.ensures.first)
+    rw (p.1, p.2) (decoded_fault c.args.profile (block_input c.args.target c.args.bytes.now) c.in_err-has_branch.field-0.0 c.in_err-has_branch.ensures.first)
 
-pub returns-in_err-step-clause-first : goal.returns-in_err-step-clause-first
-returns-in_err-step-clause-first c =
-    let p = err_from_is_err_and c.from_residual-in_err-step.result c.from_residual-in_err-step.ensures.1 in
-    let i = block_input c.args.target c.args.bytes.now in
-    rw (p.1, p.2) (ops_stuck c.args.profile i c.ops.cursor (place_index c.in_ok-places.places.items) (map bare c.ops.ops.items) c.in_err-step.field-0.0 c.ops.invariant (omega arith) c.in_err-step.ensures)
+pub new-walker-requires : goal.new-walker-requires
+new-walker-requires c = located_none c.args.profile (block_input c.args.target c.args.bytes.now) c.in_ok-has_branch.ensures.read
 
-pub resolved-requires-clause-rises : goal.resolved-requires-clause-rises
-resolved-requires-clause-rises c =
-    let i = block_input c.args.target c.args.bytes.now in
-    let same : end_of i ≡ length c.args.bytes.now = omega arith in
-    rw (c.deref.ensures.value, c.in_ok-places.ensures.found) (subst (λ (n : ℕ). Rises 0 (starts_of (walk c.args.profile i).items n)) same (starts_rise c.args.profile i c.are_bytes.ensures))
+pub returns-in_err-op-clause-first : goal.returns-in_err-op-clause-first
+returns-in_err-op-clause-first c =
+    let p = err_from_is_err_and c.from_residual-in_err-op.result c.from_residual-in_err-op.ensures.1 in
+    rw (p.1, p.2) (check_bad c.args.profile (block_input c.args.target c.args.bytes.now) (map bare c.ops.ops.items) c.ops.walker c.in_err-op.field-0.0 c.in_ok-has_branch.ensures.read c.ops.invariant c.in_err-op.ensures)
 
 pub ops-preserved : goal.ops-preserved
 ops-preserved c =
-    let i = block_input c.args.target c.args.bytes.now in
-    let find = place_index c.in_ok-places.places.items in
-    let is : op_of find c.ops.cursor.at (bare_step c.in_ok-step.step) ≡ Some (bare c.in-Some.op) = rw (c.deref.ensures.value, c.at-at.ensures.place) at c.in-Some.ensures in
-    rw (c.in_ok-push-in-Some.ensures.items, map-append)
-    (ops_more c.args.profile i c.ops.cursor find (map bare c.ops.ops.items) (bare_step c.in_ok-step.step, c.next_step.new.cursor) (bare c.in-Some.op) c.ops.invariant c.in_ok-step.ensures is)
-
-pub returns-in-None-clause-first : goal.returns-in-None-clause-first
-returns-in-None-clause-first c =
-    let i = block_input c.args.target c.args.bytes.now in
-    let places = c.in_ok-places.places.items in
-    let is : op_of (place_index places) c.ops.cursor.at (bare_step c.in_ok-step.step) ≡ None = rw (c.deref.ensures.value, c.at-at.ensures.place) at c.in-None.ensures in
-    rw c.at-at.ensures.place
-    (decoded_is c.args.profile i (length c.args.bytes.now) places (Err (bad_branch c.ops.cursor.at)) (omega arith) c.in_ok-places.ensures.read c.in_ok-places.ensures.found
-    (ops_bad c.args.profile i c.ops.cursor (place_index places) (map bare c.ops.ops.items) (bare_step c.in_ok-step.step, c.next_step.new.cursor) c.ops.invariant c.in_ok-step.ensures is))
+    let on : Walked c.ops.walker c.next_op.new.self (bare c.in-Some.op) = rw c.in-Some.is at c.in_ok-op.ensures in
+    rw (c.in_ok-push.ensures.items, map-append) (check_more (block_input c.args.target c.args.bytes.now) (map bare c.ops.ops.items) c.ops.walker c.next_op.new.self (bare c.in-Some.op) c.ops.invariant on)
 
 pub returns-clause-found : goal.returns-clause-found
 returns-clause-found c =
-    let i = block_input c.args.target c.args.bytes.now in
-    let places = c.in_ok-places.places.items in
-    decoded_is c.args.profile i (length c.args.bytes.now) places (Ok (map bare c.ops.ops.items)) (omega arith) c.in_ok-places.ensures.read c.in_ok-places.ensures.found
-    (ops_all c.args.profile i c.ops.cursor (place_index places) (map bare c.ops.ops.items) c.ops.invariant (omega arith))
+    let ended : Walks c.ops.walker c.next_op.new.self (Ok None) = rw c.in_default.is at c.in_ok-op.ensures in
+    check_end c.args.profile (block_input c.args.target c.args.bytes.now) (map bare c.ops.ops.items) c.ops.walker c.in_ok-has_branch.ensures.read c.ops.invariant ended.0

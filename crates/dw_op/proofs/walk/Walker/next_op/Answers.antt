@@ -1,4 +1,4 @@
-use Rattle.dw_op.proofs.{Words.{ℕ, ◌+◌, refl, ◌≡◌, arith, Option, Some, None, ap, Frame, bare, bare_step, weight, sum_in, find_at, goes_to, block_of, SoughtSo}, Walkers.{gone_on, room_on, to_seek, walked_branch, walked_nowhere}}
+use Rattle.dw_op.proofs.{Words.{ℕ, ◌+◌, refl, ◌≡◌, arith, Option, Some, None, ap, Location, bare, bare_step, weight, sum_in, find_at, goes_to, block_of, SoughtSo}, Walkers.{gone_on, room_on, to_seek, walked_branch, walked_nowhere}}
 use Rattle.dw_op.proofs.walk.Walker.next_op.Goals as goal
 
 pub returns-in-Some : goal.returns-in-Some
@@ -7,7 +7,7 @@ returns-in-Some c =
     let n = c.added.result in
     let is_n : n ≡ weight w.measure w.here.target (bare_step c.in_ok-step.step) = rw c.target-target.ensures at c.added.ensures in
     let so : SoughtSo (w.here.at + 3) c.sought.new.self = rw c.at-at.ensures.place at c.in-Some.ensures.so in
-    let found : Some c.in-Some.before ≡ find_at (sum_in w.measure Frame (block_of (gone_on w c.next_step.new.cursor n))) (goes_to (w.here.at + 3) c.in-Jump.number) = rw c.at-at.ensures.place at c.in-Some.ensures.exact in
+    let found : Some c.in-Some.before ≡ find_at (sum_in w.measure Location (block_of (gone_on w c.next_step.new.cursor n))) (goes_to (w.here.at + 3) c.in-Jump.number) = rw c.at-at.ensures.place at c.in-Some.ensures.exact in
     walked_branch w (bare_step c.in_ok-step.step) c.next_step.new.cursor n c.requires c.in_ok-step.ensures is_n c.in-Jump.branch c.in-Jump.number (ap bare_step c.in-Jump.is) c.sought.new.self (Some c.in-Some.before) found
     (bare c.named.result) c.named.ensures so c.in-Some.ensures.here c.in-Some.ensures.bytes c.in-Some.ensures.measure c.in-Some.ensures.count
 
@@ -17,7 +17,7 @@ returns-in-None c =
     let n = c.added.result in
     let is_n : n ≡ weight w.measure w.here.target (bare_step c.in_ok-step.step) = rw c.target-target.ensures at c.added.ensures in
     let none : Option ℕ = None in
-    let found : none ≡ find_at (sum_in w.measure Frame (block_of (gone_on w c.next_step.new.cursor n))) (goes_to (w.here.at + 3) c.in-Jump.number) = rw c.at-at.ensures.place at c.in-None.ensures.exact in
+    let found : none ≡ find_at (sum_in w.measure Location (block_of (gone_on w c.next_step.new.cursor n))) (goes_to (w.here.at + 3) c.in-Jump.number) = rw c.at-at.ensures.place at c.in-None.ensures.exact in
     rw c.at-at.ensures.place
     (walked_nowhere w (bare_step c.in_ok-step.step) c.next_step.new.cursor n c.requires c.in_ok-step.ensures is_n c.in-Jump.branch c.in-Jump.number (ap bare_step c.in-Jump.is) c.sought.new.self none found refl)
 
