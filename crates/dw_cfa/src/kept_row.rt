@@ -230,6 +230,7 @@ impl<'a> KeptRow<'a> {
     }
 
     /// Whether a row is the kept one.
+    #[tactic(auto, using(crate::proofs::Marked::kept_exactly))]
     #[inline(always)]
     pub(crate) fn is_same(&self, row: &Row<'_>) -> bool
         requires { KeptSo self.now.marks self.now.row.registers row.now.registers }

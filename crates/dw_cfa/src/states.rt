@@ -158,6 +158,7 @@ fn saves(tracked: bool, depth: usize, row: &Row<'_>) -> bool
 
 impl<'a> States<'a> {
     /// The row alone. Where changes are tracked, `rewind` brings it back in as many steps as it was changed.
+    #[tactic(auto, using(crate::proofs::StatesLaws::begun_held))]
     pub(crate) fn new(alloc: Global, row: Row<'a>, tracked: bool) -> States<'a>
         ensures { result ≡ record { row = row.entry; stack = []; first = first_if tracked row.entry.registers; kept = blank } }
     {
@@ -237,6 +238,7 @@ impl<'a> States<'a> {
     }
 
     /// Remembers no row, and says whether changes are tracked from the current one on.
+    #[tactic(auto, using(crate::proofs::StatesLaws::begun_held))]
     pub(crate) fn track(&mut self, tracked: bool)
         ensures { self.new ≡ record { row = self.old.row; stack = []; first = first_if tracked self.old.row.registers; kept = self.old.kept } }
     {
@@ -261,6 +263,7 @@ impl<'a> States<'a> {
     }
 
     // Lists the rule that a register has, and gives it another one.
+    #[tactic(auto, using(crate::proofs::StatesLaws::listed_behind, crate::proofs::StatesLaws::ruled, crate::proofs::StatesLaws::same_held, crate::proofs::StatesLaws::same_so))]
     #[inline(never)]
     fn change(&mut self, register: u16, rule: RegRule<'a>) -> Result<(), AllocError>
         ensures kept { self.new.kept ≡ self.old.kept }
@@ -275,6 +278,7 @@ impl<'a> States<'a> {
     }
 
     /// Gives a register a rule, or answers want of memory.
+    #[tactic(auto, using(crate::proofs::StatesLaws::ruled, crate::proofs::StatesLaws::set_held))]
     #[inline(always)]
     pub(crate) fn set(&mut self, register: u16, rule: RegRule<'a>) -> Result<(), AllocError>
         ensures kept { self.new.kept ≡ self.old.kept }
@@ -298,6 +302,7 @@ impl<'a> States<'a> {
     }
 
     /// Gives a register the rule that a row gives it, or answers want of memory.
+    #[tactic(auto, using(crate::proofs::StatesLaws::ruled, crate::proofs::StatesLaws::set_held))]
     #[inline(always)]
     pub(crate) fn set_as(&mut self, row: &Row<'a>, register: u16) -> Result<(), AllocError>
         ensures kept { self.new.kept ≡ self.old.kept }
@@ -315,6 +320,7 @@ impl<'a> States<'a> {
     }
 
     // Lists the current row as one that is remembered.
+    #[tactic(auto, using(crate::proofs::StatesLaws::listed_held, crate::proofs::StatesLaws::listed_so, crate::proofs::StatesLaws::mark_behind))]
     #[inline(never)]
     fn list_row(&mut self) -> Result<(), AllocError>
         requires { length self.old.stack < 64 }
@@ -379,6 +385,7 @@ impl<'a> States<'a> {
     }
 
     /// Goes back to the initial row, which was the first, and remembers none.
+    #[tactic(auto, using(crate::proofs::Words::on_ok_weaker, crate::proofs::StatesLaws::rewound))]
     #[inline(always)]
     pub(crate) fn rewind(&mut self, initial: &Row<'a>) -> Result<(), AllocError>
         requires { BeganWith initial.now self.old.first }

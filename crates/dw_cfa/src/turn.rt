@@ -100,6 +100,7 @@ pub(crate) fn execute<'a, K: Keep<'a>>(
 
 /// The same of an FDE's program, in the rows still to come. Where it is known that these have no fault, no expression is judged
 /// again.
+#[tactic(auto, using(crate::proofs::RunSteps::rows_read, crate::proofs::Turns::stays, crate::proofs::Turns::turned))]
 #[inline(always)]
 pub(crate) fn turn<'a, K: Keep<'a>>(
     cursor: &mut Cursor<'a>,

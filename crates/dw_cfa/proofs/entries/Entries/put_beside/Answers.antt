@@ -1,12 +1,6 @@
 use Rattle.dw_cfa.specs.declared.slot.Slot.TheVariants.{Beside}
-use Rattle.dw_cfa.proofs.{Words.{ℕ, ap, arith, length-set, refl, set, ◌∙◌}, Slots.{expression_holds, expression_put, put_so}}
+use Rattle.dw_cfa.proofs.{Words.{ℕ, ap, arith, length-set, refl, set, ◌∙◌}, Slots.{expression_holds, put_so}}
 use Rattle.dw_cfa.proofs.entries.Entries.put_beside.Goals as goal
-
-pub returns-clause-ok : goal.returns-clause-ok
-returns-clause-ok c =
-    let e = c.args.self.now in
-    expression_put e c.requires.so c.args.register Beside _ c.requires.near c.bit_of.result c.bit_of.ensures (ap (λ (n : ℕ). set e.slots n Beside) c.from.ensures) c.args.rule c.set_in_tree.new.entries.entries refl
-    c.in_ok-set_in_tree.ensures.ok
 
 pub returns-clause-so : goal.returns-clause-so
 returns-clause-so c =

@@ -1,10 +1,5 @@
-use Rattle.dw_cfa.proofs.{Words.{ℕ, ap, length-set, set, ◌∙◌}, Slots.{plain_holds, plain_put}}
+use Rattle.dw_cfa.proofs.{Words.{ℕ, ap, length-set, set, ◌∙◌}, Slots.plain_holds}
 use Rattle.dw_cfa.proofs.entries.Entries.put_plain.Goals as goal
-
-pub returns-clause-entries : goal.returns-clause-entries
-returns-clause-entries c =
-    let e = c.args.self.now in
-    plain_put e c.requires.so c.args.register c.args.slot _ c.requires.near c.bit_of.result c.bit_of.ensures (ap (λ (n : ℕ). set e.slots n c.args.slot) c.from.ensures) c.requires.kind
 
 pub returns-clause-so : goal.returns-clause-so
 returns-clause-so c =
