@@ -1,8 +1,8 @@
 //! Instructions that say how a register of the caller is found (6.4.2.3).
 
-ghost use Rattle.std.specs.Prelude.{IsOk, IsTrue};
-ghost use Rattle.dw_cfa.specs.Inner.ByOpcode.{undefined_at, same_value_at, offset_at, offset_extended_at, offset_extended_sf_at, val_offset_at};
-ghost use Rattle.dw_cfa.specs.Inner.{ByOpcode.{val_offset_sf_at, register_rule_at, expression_at, val_expression_at, restore_at}, Turns.{IsWithinLimit, Taken}};
+ghost use Rattle.std.specs.Prelude.{◌≡◌, IsOk, IsTrue};
+ghost use Rattle.dw_cfa.specs.Inner.ByOpcode.{rule_at, offset_at, offset_rule, offset_extended_at, offset_extended_sf_at, register_rule_at, expression_at};
+ghost use Rattle.dw_cfa.specs.Inner.{ByOpcode.restore_at, Turns.{IsWithinLimit, Taken}};
 
 use crate::instr::Factors;
 use crate::keep::Keep;
@@ -30,42 +30,24 @@ pub(crate) fn run_restore_extended<'a, K: Keep<'a>>(
     keep.restore(register, at, fault)
 }
 
-/// A register has no value in the caller.
-#[tactic(auto, unfolding(crate::specs::Inner::ByOpcode::undefined_at))]
+/// A register has a rule without operands.
+#[tactic(auto, unfolding(crate::specs::Inner::ByOpcode::rule_at))]
 #[inline(never)]
-pub(crate) fn run_undefined<'a, K: Keep<'a>>(
+pub(crate) fn run_rule<'a, K: Keep<'a>>(
     cursor: &mut Cursor<'a>,
+    rule: RegRule<'a>,
     keep: &mut K,
     at: u64,
     fault: &mut Refusal,
 ) -> End
     requires { IsWithinLimit (K.machine keep.old) }
-    ensures { Taken K.takes (undefined_at cursor.old) at keep.old result fault.new cursor.new keep.new }
+    ensures { Taken K.takes (rule_at rule.entry cursor.old) at keep.old result fault.new cursor.new keep.new }
 {
     let register = match cursor.register() {
         Ok(register) => register,
         Err(refusal) => return refused(refusal, fault),
     };
-    keep.set(register, RegRule::Undefined, at, fault)
-}
-
-/// A register has the value that it has here.
-#[tactic(auto, unfolding(crate::specs::Inner::ByOpcode::same_value_at))]
-#[inline(never)]
-pub(crate) fn run_same_value<'a, K: Keep<'a>>(
-    cursor: &mut Cursor<'a>,
-    keep: &mut K,
-    at: u64,
-    fault: &mut Refusal,
-) -> End
-    requires { IsWithinLimit (K.machine keep.old) }
-    ensures { Taken K.takes (same_value_at cursor.old) at keep.old result fault.new cursor.new keep.new }
-{
-    let register = match cursor.register() {
-        Ok(register) => register,
-        Err(refusal) => return refused(refusal, fault),
-    };
-    keep.set(register, RegRule::SameValue, at, fault)
+    keep.set(register, rule, at, fault)
 }
 
 /// A register is saved at the CFA plus an offset, which is factored.
@@ -89,62 +71,30 @@ pub(crate) fn run_offset<'a, K: Keep<'a>>(
     keep.set(register, RegRule::Offset(offset), at, fault)
 }
 
-/// The same for any register.
+// What is at the CFA plus an offset is a register's saved value, or the address is the value.
+fn offset_rule<'a>(is_value: bool, offset: i64) -> RegRule<'a>
+    ensures { result ≡ offset_rule is_value offset }
+{
+    if is_value {
+        RegRule::ValOffset(offset)
+    } else {
+        RegRule::Offset(offset)
+    }
+}
+
+/// Any register is saved at the CFA plus an offset, which is factored, or is that address.
 #[tactic(auto, unfolding(crate::specs::Inner::ByOpcode::offset_extended_at))]
 #[inline(never)]
 pub(crate) fn run_offset_extended<'a, K: Keep<'a>>(
     cursor: &mut Cursor<'a>,
     factors: Factors,
+    is_value: bool,
     keep: &mut K,
     at: u64,
     fault: &mut Refusal,
 ) -> End
     requires { IsWithinLimit (K.machine keep.old) }
-    ensures { Taken K.takes (offset_extended_at factors at cursor.old) at keep.old result fault.new cursor.new keep.new }
-{
-    let register = match cursor.register() {
-        Ok(register) => register,
-        Err(refusal) => return refused(refusal, fault),
-    };
-    run_offset(cursor, factors, keep, at, register, fault)
-}
-
-/// The same with an offset that is signed.
-#[tactic(auto, unfolding(crate::specs::Inner::ByOpcode::offset_extended_sf_at))]
-#[inline(never)]
-pub(crate) fn run_offset_extended_sf<'a, K: Keep<'a>>(
-    cursor: &mut Cursor<'a>,
-    factors: Factors,
-    keep: &mut K,
-    at: u64,
-    fault: &mut Refusal,
-) -> End
-    requires { IsWithinLimit (K.machine keep.old) }
-    ensures { Taken K.takes (offset_extended_sf_at factors at cursor.old) at keep.old result fault.new cursor.new keep.new }
-{
-    let register = match cursor.register() {
-        Ok(register) => register,
-        Err(refusal) => return refused(refusal, fault),
-    };
-    let offset = match signed(cursor, factors, at) {
-        Ok(offset) => offset,
-        Err(refusal) => return refused(refusal, fault),
-    };
-    keep.set(register, RegRule::Offset(offset), at, fault)
-}
-
-/// A register is the CFA plus an offset, which is factored.
-#[tactic(auto, unfolding(crate::specs::Inner::ByOpcode::val_offset_at))]
-#[inline(never)]
-pub(crate) fn run_val_offset<'a, K: Keep<'a>>(
-    cursor: &mut Cursor<'a>,
-    factors: Factors,
-    keep: &mut K,
-    at: u64,
-    fault: &mut Refusal,
-) -> End
-    requires { IsWithinLimit (K.machine keep.old) }
-    ensures { Taken K.takes (val_offset_at factors at cursor.old) at keep.old result fault.new cursor.new keep.new }
+    ensures { Taken K.takes (offset_extended_at is_value factors at cursor.old) at keep.old result fault.new cursor.new keep.new }
 {
     let register = match cursor.register() {
         Ok(register) => register,
@@ -154,21 +104,22 @@ pub(crate) fn run_val_offset<'a, K: Keep<'a>>(
         Ok(offset) => offset,
         Err(refusal) => return refused(refusal, fault),
     };
-    keep.set(register, RegRule::ValOffset(offset), at, fault)
+    keep.set(register, offset_rule(is_value, offset), at, fault)
 }
 
 /// The same with an offset that is signed.
-#[tactic(auto, unfolding(crate::specs::Inner::ByOpcode::val_offset_sf_at))]
+#[tactic(auto, unfolding(crate::specs::Inner::ByOpcode::offset_extended_sf_at))]
 #[inline(never)]
-pub(crate) fn run_val_offset_sf<'a, K: Keep<'a>>(
+pub(crate) fn run_offset_extended_sf<'a, K: Keep<'a>>(
     cursor: &mut Cursor<'a>,
     factors: Factors,
+    is_value: bool,
     keep: &mut K,
     at: u64,
     fault: &mut Refusal,
 ) -> End
     requires { IsWithinLimit (K.machine keep.old) }
-    ensures { Taken K.takes (val_offset_sf_at factors at cursor.old) at keep.old result fault.new cursor.new keep.new }
+    ensures { Taken K.takes (offset_extended_sf_at is_value factors at cursor.old) at keep.old result fault.new cursor.new keep.new }
 {
     let register = match cursor.register() {
         Ok(register) => register,
@@ -178,7 +129,7 @@ pub(crate) fn run_val_offset_sf<'a, K: Keep<'a>>(
         Ok(offset) => offset,
         Err(refusal) => return refused(refusal, fault),
     };
-    keep.set(register, RegRule::ValOffset(offset), at, fault)
+    keep.set(register, offset_rule(is_value, offset), at, fault)
 }
 
 /// A register is in another one.
@@ -204,19 +155,20 @@ pub(crate) fn run_register<'a, K: Keep<'a>>(
     keep.set(register, RegRule::Register(other), at, fault)
 }
 
-/// A register is saved where an expression says. One that is known to be accepted is not judged again.
+/// A register is saved where an expression says, or is what that gives. One that is known to be accepted is not judged again.
 #[tactic(auto, unfolding(crate::specs::Inner::ByOpcode::expression_at))]
 #[inline(never)]
 pub(crate) fn run_expression<'a, K: Keep<'a>>(
     cursor: &mut Cursor<'a>,
+    is_value: bool,
     keep: &mut K,
     at: u64,
     known: bool,
     fault: &mut Refusal,
 ) -> End
     requires location { IsWithinLimit (K.machine keep.old) }
-    requires known { IsTrue known → IsOk (expression_at cursor.old) }
-    ensures { Taken K.takes (expression_at cursor.old) at keep.old result fault.new cursor.new keep.new }
+    requires known { IsTrue known → IsOk (expression_at is_value cursor.old) }
+    ensures { Taken K.takes (expression_at is_value cursor.old) at keep.old result fault.new cursor.new keep.new }
 {
     let register = match cursor.register() {
         Ok(register) => register,
@@ -226,30 +178,10 @@ pub(crate) fn run_expression<'a, K: Keep<'a>>(
         Ok(expression) => expression,
         Err(refusal) => return refused(refusal, fault),
     };
-    keep.set(register, RegRule::Expression(expression), at, fault)
-}
-
-/// A register is what an expression gives. One that is known to be accepted is not judged again.
-#[tactic(auto, unfolding(crate::specs::Inner::ByOpcode::val_expression_at))]
-#[inline(never)]
-pub(crate) fn run_val_expression<'a, K: Keep<'a>>(
-    cursor: &mut Cursor<'a>,
-    keep: &mut K,
-    at: u64,
-    known: bool,
-    fault: &mut Refusal,
-) -> End
-    requires location { IsWithinLimit (K.machine keep.old) }
-    requires known { IsTrue known → IsOk (val_expression_at cursor.old) }
-    ensures { Taken K.takes (val_expression_at cursor.old) at keep.old result fault.new cursor.new keep.new }
-{
-    let register = match cursor.register() {
-        Ok(register) => register,
-        Err(refusal) => return refused(refusal, fault),
+    let rule = if is_value {
+        RegRule::ValExpression(expression)
+    } else {
+        RegRule::Expression(expression)
     };
-    let expression = match block(cursor, known) {
-        Ok(expression) => expression,
-        Err(refusal) => return refused(refusal, fault),
-    };
-    keep.set(register, RegRule::ValExpression(expression), at, fault)
+    keep.set(register, rule, at, fault)
 }

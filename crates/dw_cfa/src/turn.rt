@@ -12,13 +12,13 @@ use crate::cfa::{
 };
 use crate::instr::Factors;
 use crate::keep::Keep;
-use crate::machine::{End, refused};
+use crate::machine::{End, refuse, refused};
 use crate::opcode::{Opcode, known_opcode};
 use crate::registers::{
     run_expression, run_offset, run_offset_extended, run_offset_extended_sf, run_register,
-    run_restore_extended, run_same_value, run_undefined, run_val_expression, run_val_offset,
-    run_val_offset_sf,
+    run_restore_extended, run_rule,
 };
+use crate::rule::RegRule;
 use dw_num::{Code, Cursor, Refusal, are_bytes};
 
 // Reads the operands behind an opcode, and applies the instruction to the machine.
@@ -51,16 +51,16 @@ fn apply<'a, K: Keep<'a>>(
         Opcode::DefCfaOffset => run_def_cfa_offset(cursor, keep, at, fault),
         Opcode::DefCfaOffsetSf => run_def_cfa_offset_sf(cursor, factors, keep, at, fault),
         Opcode::DefCfaExpression => run_def_cfa_expression(cursor, keep, at, known, fault),
-        Opcode::Undefined => run_undefined(cursor, keep, at, fault),
-        Opcode::SameValue => run_same_value(cursor, keep, at, fault),
+        Opcode::Undefined => run_rule(cursor, RegRule::Undefined, keep, at, fault),
+        Opcode::SameValue => run_rule(cursor, RegRule::SameValue, keep, at, fault),
         Opcode::Offset(register) => run_offset(cursor, factors, keep, at, register, fault),
-        Opcode::OffsetExtended => run_offset_extended(cursor, factors, keep, at, fault),
-        Opcode::OffsetExtendedSf => run_offset_extended_sf(cursor, factors, keep, at, fault),
-        Opcode::ValOffset => run_val_offset(cursor, factors, keep, at, fault),
-        Opcode::ValOffsetSf => run_val_offset_sf(cursor, factors, keep, at, fault),
+        Opcode::OffsetExtended => run_offset_extended(cursor, factors, false, keep, at, fault),
+        Opcode::OffsetExtendedSf => run_offset_extended_sf(cursor, factors, false, keep, at, fault),
+        Opcode::ValOffset => run_offset_extended(cursor, factors, true, keep, at, fault),
+        Opcode::ValOffsetSf => run_offset_extended_sf(cursor, factors, true, keep, at, fault),
         Opcode::Register => run_register(cursor, keep, at, fault),
-        Opcode::Expression => run_expression(cursor, keep, at, known, fault),
-        Opcode::ValExpression => run_val_expression(cursor, keep, at, known, fault),
+        Opcode::Expression => run_expression(cursor, false, keep, at, known, fault),
+        Opcode::ValExpression => run_expression(cursor, true, keep, at, known, fault),
         Opcode::Restore(register) => keep.restore(register, at, fault),
         Opcode::RestoreExtended => run_restore_extended(cursor, keep, at, fault),
         Opcode::RememberState => keep.remember(at, fault),
@@ -91,10 +91,7 @@ pub(crate) fn execute<'a, K: Keep<'a>>(
     };
     match known_opcode(code) {
         Some(opcode) => apply(opcode, cursor, factors, keep, at, known, fault),
-        None => {
-            let code = Code::UnknownInstruction;
-            refused(Refusal { code, at }, fault)
-        }
+        None => refuse(Code::UnknownInstruction, at, fault),
     }
 }
 
