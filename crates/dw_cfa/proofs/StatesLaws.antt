@@ -64,7 +64,7 @@ rows_set result rows row kept = on_ok_weaker result (λ same. ap (λ (w : Watchi
 pub rows_same : {X E : Type 0} (result : Result X E) (rows old : Watching) → OnErr result (rows ≡ old) → OnErr result (rows.row ≡ old.row)
 rows_same result rows old = on_err_weaker result (λ same. ap (λ (w : Watching). w.row) same)
 
-module _ (tracked is_listed : Bool) (saved : KeptRow) (row kept : Rules) (items : List Undo) (now : Held) (is : held tracked saved row kept items ≡ now) (depth : ℕ)
+module _ {tracked is_listed : Bool} {saved : KeptRow} {row kept : Rules} {items : List Undo} {now : Held} {depth : ℕ} (is : held tracked saved row kept items ≡ now)
     (so : StatesSo tracked is_listed saved depth (rows_before row.registers (reverse items)) items) where
   abbrev before : Before
   before = rows_before row.registers (reverse items)
