@@ -163,7 +163,7 @@ module _ {tracked is_listed : Bool} {saved : KeptRow} {row kept : Rules} {items 
 
     -- none is listed: the one that is saved is the last, or there is none
     module _ (taken : TakenBack None row (reverse items) row' (reverse items')) where
-      pub none_left : items' ≡ []
+      none_left : items' ≡ []
       none_left = reversed_none items' taken.1
 
       taken_all : before ≡ ([], row'.registers)
@@ -175,6 +175,9 @@ module _ {tracked is_listed : Bool} {saved : KeptRow} {row kept : Rules} {items 
 
       pub none_held : saved.marks.watched ≡ false → now.stack ≡ []
       none_held off = ap (λ (h : Held). h.stack) (sym is) ∙ ap (λ (b : Before). stacked saved b.0) taken_all ∙ rw off refl
+
+      pub back_so : (saved' : KeptRow) (row'' : Rules) → saved'.marks.watched ≡ false → ((xs : List Entry) → KeptSo saved'.marks saved'.row.registers xs) → StatesSo tracked is_listed saved' 0 (rows_before row''.registers (reverse items')) items'
+      back_so saved' row'' off since = begun_so tracked is_listed (λ e. (so.unlisted e).0) saved' row''.registers items' none_left off since
 
       pub back_held : (saved' : KeptRow) (row'' : Rules) → IsTrue saved.marks.watched → saved'.marks.watched ≡ false → row'' ≡ saved.row → Restored true now (held tracked saved' row'' kept' items')
       back_held saved' row'' on off at =
