@@ -1,7 +1,7 @@
 //! Instructions that say how a register of the caller is found (6.4.2.3).
 
 ghost use Rattle.std.specs.Prelude.{◌≡◌, IsOk, IsTrue};
-ghost use Rattle.dw_cfa.specs.Inner.ByOpcode.{rule_at, offset_at, offset_rule, offset_extended_at, offset_extended_sf_at, register_rule_at, expression_at};
+ghost use Rattle.dw_cfa.specs.Inner.ByOpcode.{undefined_at, same_value_at, offset_at, offset_rule, offset_extended_at, offset_extended_sf_at, register_rule_at, expression_at};
 ghost use Rattle.dw_cfa.specs.Inner.{ByOpcode.restore_at, Turns.{IsWithinLimit, Taken}};
 
 use crate::instr::Factors;
@@ -30,24 +30,42 @@ pub(crate) fn run_restore_extended<'a, K: Keep<'a>>(
     keep.restore(register, at, fault)
 }
 
-/// A register has a rule without operands.
-#[tactic(auto, unfolding(crate::specs::Inner::ByOpcode::rule_at))]
+/// A register has no value in the caller.
+#[tactic(auto, unfolding(crate::specs::Inner::ByOpcode::undefined_at))]
 #[inline(never)]
-pub(crate) fn run_rule<'a, K: Keep<'a>>(
+pub(crate) fn run_undefined<'a, K: Keep<'a>>(
     cursor: &mut Cursor<'a>,
-    rule: RegRule<'a>,
     keep: &mut K,
     at: u64,
     fault: &mut Refusal,
 ) -> End
     requires { IsWithinLimit (K.machine keep.old) }
-    ensures { Taken K.takes (rule_at rule.entry cursor.old) at keep.old result fault.new cursor.new keep.new }
+    ensures { Taken K.takes (undefined_at cursor.old) at keep.old result fault.new cursor.new keep.new }
 {
     let register = match cursor.register() {
         Ok(register) => register,
         Err(refusal) => return refused(refusal, fault),
     };
-    keep.set(register, rule, at, fault)
+    keep.set(register, RegRule::Undefined, at, fault)
+}
+
+/// A register has the value that it has here.
+#[tactic(auto, unfolding(crate::specs::Inner::ByOpcode::same_value_at))]
+#[inline(never)]
+pub(crate) fn run_same_value<'a, K: Keep<'a>>(
+    cursor: &mut Cursor<'a>,
+    keep: &mut K,
+    at: u64,
+    fault: &mut Refusal,
+) -> End
+    requires { IsWithinLimit (K.machine keep.old) }
+    ensures { Taken K.takes (same_value_at cursor.old) at keep.old result fault.new cursor.new keep.new }
+{
+    let register = match cursor.register() {
+        Ok(register) => register,
+        Err(refusal) => return refused(refusal, fault),
+    };
+    keep.set(register, RegRule::SameValue, at, fault)
 }
 
 /// A register is saved at the CFA plus an offset, which is factored.
@@ -71,7 +89,8 @@ pub(crate) fn run_offset<'a, K: Keep<'a>>(
     keep.set(register, RegRule::Offset(offset), at, fault)
 }
 
-// What is at the CFA plus an offset is a register's saved value, or the address is the value.
+// A register is saved at the CFA plus an offset, or is that address.
+#[inline(always)]
 fn offset_rule<'a>(is_value: bool, offset: i64) -> RegRule<'a>
     ensures { result ≡ offset_rule is_value offset }
 {

@@ -16,9 +16,8 @@ use crate::machine::{End, refuse, refused};
 use crate::opcode::{Opcode, known_opcode};
 use crate::registers::{
     run_expression, run_offset, run_offset_extended, run_offset_extended_sf, run_register,
-    run_restore_extended, run_rule,
+    run_restore_extended, run_same_value, run_undefined,
 };
-use crate::rule::RegRule;
 use dw_num::{Code, Cursor, Refusal, are_bytes};
 
 // Reads the operands behind an opcode, and applies the instruction to the machine.
@@ -51,8 +50,8 @@ fn apply<'a, K: Keep<'a>>(
         Opcode::DefCfaOffset => run_def_cfa_offset(cursor, keep, at, fault),
         Opcode::DefCfaOffsetSf => run_def_cfa_offset_sf(cursor, factors, keep, at, fault),
         Opcode::DefCfaExpression => run_def_cfa_expression(cursor, keep, at, known, fault),
-        Opcode::Undefined => run_rule(cursor, RegRule::Undefined, keep, at, fault),
-        Opcode::SameValue => run_rule(cursor, RegRule::SameValue, keep, at, fault),
+        Opcode::Undefined => run_undefined(cursor, keep, at, fault),
+        Opcode::SameValue => run_same_value(cursor, keep, at, fault),
         Opcode::Offset(register) => run_offset(cursor, factors, keep, at, register, fault),
         Opcode::OffsetExtended => run_offset_extended(cursor, factors, false, keep, at, fault),
         Opcode::OffsetExtendedSf => run_offset_extended_sf(cursor, factors, false, keep, at, fault),

@@ -75,8 +75,11 @@ restore_at i = register_at i >>= with_instr Restore
 abbrev pub set_to : RegRule → ℕ → Instr
 set_to rule r = Set r rule
 
-unfoldable pub rule_at : RegRule → Input → Read Instr
-rule_at rule i = register_at i >>= with_instr (set_to rule)
+unfoldable pub undefined_at : Input → Read Instr
+undefined_at i = register_at i >>= with_instr (set_to rules.Undefined)
+
+unfoldable pub same_value_at : Input → Read Instr
+same_value_at i = register_at i >>= with_instr (set_to rules.SameValue)
 
 -- saved at the CFA plus an offset, or that address
 abbrev pub offset_rule : Bool → ℤ → RegRule
@@ -131,8 +134,8 @@ operands_at f at opcodes.OffsetExtended i = offset_extended_at false f at i
 operands_at f at opcodes.OffsetExtendedSf i = offset_extended_sf_at false f at i
 operands_at f at (opcodes.Restore r) i = Ok (Restore r, i)
 operands_at f at opcodes.RestoreExtended i = restore_at i
-operands_at f at opcodes.Undefined i = rule_at rules.Undefined i
-operands_at f at opcodes.SameValue i = rule_at rules.SameValue i
+operands_at f at opcodes.Undefined i = undefined_at i
+operands_at f at opcodes.SameValue i = same_value_at i
 operands_at f at opcodes.Register i = register_rule_at i
 operands_at f at opcodes.RememberState i = Ok (RememberState, i)
 operands_at f at opcodes.RestoreState i = Ok (RestoreState, i)
