@@ -39,4 +39,4 @@ pub use Rattle.dw_cfa.specs.Inner.{Machine.{cie_fault, empty_fault, fde_fault, h
 pub use Rattle.dw_cfa.specs.Inner.{Marks.{Watching, in_mask, in_tree, marked, watching}, Opening.{GivesOffset, answers_move, answers_row}, Operands.{form_of, opcode_table}, RowEquality.{cfa_tells, rows_tell, rule_tells, same_rows}}
 pub use Rattle.dw_cfa.specs.Inner.{RowSteps.{gives, left_of, progress_after}, RowWalk.{AllSpecify, AreLeft, HasInitial, IsLed, RanUpTo, Readied, WalkKeeps, WalkedTo, WalksSo, initial_of, led_of, led_rows, walk_of}}
 pub use Rattle.dw_cfa.specs.Inner.{Rows.{listed, put, with_cfa, with_rule}, RuleAt.{CountsFrom, FoundAt}, Runs.{GivesRow, Placed, Placing, RanTo, RunsSo, WroteTo, at_end, fault_or, here, initial_row, on_initial, place_of}}
-pub use Rattle.dw_cfa.specs.Inner.{Runs.{refused_at, row_if, stop_on, stop_or}, States.{BeganWith, Held, Restored, StatesSo, TakenBack, first_if, held, saved_if, shown, stacked}, Steps.{InLimit, IsAfter, state_of}}
+pub use Rattle.dw_cfa.specs.Inner.{Runs.{refused_at, row_if, stop_on, stop_or}, States.{BeganWith, Held, Restored, StatesSo, TakenBack, first_if, held, remembering, saved_if, shown, stacked, with_row}, Steps.{InLimit, IsAfter, state_of}}

@@ -1,8 +1,8 @@
 //! The current row and the remembered ones (6.4.2.4).
 
-ghost use Rattle.std.specs.Prelude.{◌≡◌, ◌<◌, [], ◌∷◌, length, reverse, None, OnOk, IfOk, IsTrue, ◌↔◌, false};
+ghost use Rattle.std.specs.Prelude.{◌≡◌, ◌<◌, [], length, reverse, None, OnOk, IfOk, IsTrue, ◌↔◌, false};
 ghost use Rattle.dw_cfa.specs.{Difference.{FirstDifference, place_behind}, Rows.{AreSpecified, blank, rule_in}};
-ghost use Rattle.dw_cfa.specs.Inner.{Rows.{with_cfa, with_rule}, States.{first_if, BeganWith, Restored, TakenBack, rows_before}};
+ghost use Rattle.dw_cfa.specs.Inner.{Rows.{with_cfa, with_rule}, States.{first_if, BeganWith, Restored, TakenBack, remembering, rows_before, with_row}};
 
 use crate::entries::NEAR;
 use crate::kept_row::KeptRow;
@@ -257,7 +257,7 @@ impl<'a> States<'a> {
     }
 
     pub(crate) fn set_cfa(&mut self, cfa: CfaRule<'a>)
-        ensures { self.new ≡ record { row = with_cfa cfa.entry self.old.row; stack = self.old.stack; first = self.old.first; kept = self.old.kept } }
+        ensures { self.new ≡ with_row (with_cfa cfa.entry self.old.row) self.old }
     {
         self.rows.set_cfa(cfa);
     }
@@ -267,7 +267,7 @@ impl<'a> States<'a> {
     #[inline(never)]
     fn change(&mut self, register: u16, rule: RegRule<'a>) -> Result<(), AllocError>
         ensures kept { self.new.kept ≡ self.old.kept }
-        ensures changed { OnOk result (self.new ≡ record { row = with_rule register rule.entry self.old.row; stack = self.old.stack; first = self.old.first; kept = self.old.kept }) }
+        ensures changed { OnOk result (self.new ≡ with_row (with_rule register rule.entry self.old.row) self.old) }
     {
         self.is_listed = true;
         let row = self.rows.row();
@@ -282,7 +282,7 @@ impl<'a> States<'a> {
     #[inline(always)]
     pub(crate) fn set(&mut self, register: u16, rule: RegRule<'a>) -> Result<(), AllocError>
         ensures kept { self.new.kept ≡ self.old.kept }
-        ensures set { OnOk result (self.new ≡ record { row = with_rule register rule.entry self.old.row; stack = self.old.stack; first = self.old.first; kept = self.old.kept }) }
+        ensures set { OnOk result (self.new ≡ with_row (with_rule register rule.entry self.old.row) self.old) }
     {
         if self.is_listed {
             return self.change(register, rule);
@@ -296,7 +296,7 @@ impl<'a> States<'a> {
     #[inline(never)]
     fn set_rule_of(&mut self, row: &Row<'a>, register: u16) -> Result<(), AllocError>
         ensures kept { self.new.kept ≡ self.old.kept }
-        ensures set { OnOk result (self.new ≡ record { row = with_rule register (rule_in row.now.registers register) self.old.row; stack = self.old.stack; first = self.old.first; kept = self.old.kept }) }
+        ensures set { OnOk result (self.new ≡ with_row (with_rule register (rule_in row.now.registers register) self.old.row) self.old) }
     {
         self.set(register, row.rule(register))
     }
@@ -306,7 +306,7 @@ impl<'a> States<'a> {
     #[inline(always)]
     pub(crate) fn set_as(&mut self, row: &Row<'a>, register: u16) -> Result<(), AllocError>
         ensures kept { self.new.kept ≡ self.old.kept }
-        ensures set { OnOk result (self.new ≡ record { row = with_rule register (rule_in row.now.registers register) self.old.row; stack = self.old.stack; first = self.old.first; kept = self.old.kept }) }
+        ensures set { OnOk result (self.new ≡ with_row (with_rule register (rule_in row.now.registers register) self.old.row) self.old) }
     {
         if register >= NEAR {
             return self.set_rule_of(row, register);
@@ -325,7 +325,7 @@ impl<'a> States<'a> {
     fn list_row(&mut self) -> Result<(), AllocError>
         requires { length self.old.stack < 64 }
         ensures kept { self.new.kept ≡ self.old.kept }
-        ensures remembered { OnOk result (self.new ≡ record { row = self.old.row; stack = self.old.row ∷ self.old.stack; first = self.old.first; kept = self.old.kept }) }
+        ensures remembered { OnOk result (self.new ≡ remembering self.old) }
     {
         let cfa = self.rows.row().cfa();
         self.is_listed = true;
@@ -339,7 +339,7 @@ impl<'a> States<'a> {
     pub(crate) fn remember(&mut self) -> Result<(), AllocError>
         requires { length self.old.stack < 64 }
         ensures kept { self.new.kept ≡ self.old.kept }
-        ensures remembered { OnOk result (self.new ≡ record { row = self.old.row; stack = self.old.row ∷ self.old.stack; first = self.old.first; kept = self.old.kept }) }
+        ensures remembered { OnOk result (self.new ≡ remembering self.old) }
     {
         if !saves(self.tracked, self.depth, self.rows.row()) {
             return self.list_row();
