@@ -1,8 +1,8 @@
 //! Instructions that say how a register of the caller is found (6.4.2.3).
 
-ghost use Rattle.std.specs.Prelude.{◌≡◌, IsOk, IsTrue};
-ghost use Rattle.dw_cfa.specs.Inner.ByOpcode.{undefined_at, same_value_at, offset_at, offset_rule, offset_extended_at, offset_extended_sf_at, register_rule_at, expression_at};
-ghost use Rattle.dw_cfa.specs.Inner.{ByOpcode.restore_at, Turns.{IsWithinLimit, Taken}};
+ghost use Rattle.std.specs.Prelude.{IsOk, IsTrue};
+ghost use Rattle.dw_cfa.specs.Inner.ByOpcode.{undefined_at, same_value_at, offset_at, offset_extended_at, offset_extended_sf_at, val_offset_at};
+ghost use Rattle.dw_cfa.specs.Inner.{ByOpcode.{val_offset_sf_at, register_rule_at, expression_at, restore_at}, Turns.{IsWithinLimit, Taken}};
 
 use crate::instr::Factors;
 use crate::keep::Keep;
@@ -89,41 +89,24 @@ pub(crate) fn run_offset<'a, K: Keep<'a>>(
     keep.set(register, RegRule::Offset(offset), at, fault)
 }
 
-// A register is saved at the CFA plus an offset, or is that address.
-#[inline(always)]
-fn offset_rule<'a>(is_value: bool, offset: i64) -> RegRule<'a>
-    ensures { result ≡ offset_rule is_value offset }
-{
-    if is_value {
-        RegRule::ValOffset(offset)
-    } else {
-        RegRule::Offset(offset)
-    }
-}
-
-/// Any register is saved at the CFA plus an offset, which is factored, or is that address.
+/// The same for any register.
 #[tactic(auto, unfolding(crate::specs::Inner::ByOpcode::offset_extended_at))]
 #[inline(never)]
 pub(crate) fn run_offset_extended<'a, K: Keep<'a>>(
     cursor: &mut Cursor<'a>,
     factors: Factors,
-    is_value: bool,
     keep: &mut K,
     at: u64,
     fault: &mut Refusal,
 ) -> End
     requires { IsWithinLimit (K.machine keep.old) }
-    ensures { Taken K.takes (offset_extended_at is_value factors at cursor.old) at keep.old result fault.new cursor.new keep.new }
+    ensures { Taken K.takes (offset_extended_at factors at cursor.old) at keep.old result fault.new cursor.new keep.new }
 {
     let register = match cursor.register() {
         Ok(register) => register,
         Err(refusal) => return refused(refusal, fault),
     };
-    let offset = match factored(cursor, factors, at) {
-        Ok(offset) => offset,
-        Err(refusal) => return refused(refusal, fault),
-    };
-    keep.set(register, offset_rule(is_value, offset), at, fault)
+    run_offset(cursor, factors, keep, at, register, fault)
 }
 
 /// The same with an offset that is signed.
@@ -132,13 +115,12 @@ pub(crate) fn run_offset_extended<'a, K: Keep<'a>>(
 pub(crate) fn run_offset_extended_sf<'a, K: Keep<'a>>(
     cursor: &mut Cursor<'a>,
     factors: Factors,
-    is_value: bool,
     keep: &mut K,
     at: u64,
     fault: &mut Refusal,
 ) -> End
     requires { IsWithinLimit (K.machine keep.old) }
-    ensures { Taken K.takes (offset_extended_sf_at is_value factors at cursor.old) at keep.old result fault.new cursor.new keep.new }
+    ensures { Taken K.takes (offset_extended_sf_at factors at cursor.old) at keep.old result fault.new cursor.new keep.new }
 {
     let register = match cursor.register() {
         Ok(register) => register,
@@ -148,7 +130,55 @@ pub(crate) fn run_offset_extended_sf<'a, K: Keep<'a>>(
         Ok(offset) => offset,
         Err(refusal) => return refused(refusal, fault),
     };
-    keep.set(register, offset_rule(is_value, offset), at, fault)
+    keep.set(register, RegRule::Offset(offset), at, fault)
+}
+
+/// A register is the CFA plus an offset, which is factored.
+#[tactic(auto, unfolding(crate::specs::Inner::ByOpcode::val_offset_at))]
+#[inline(never)]
+pub(crate) fn run_val_offset<'a, K: Keep<'a>>(
+    cursor: &mut Cursor<'a>,
+    factors: Factors,
+    keep: &mut K,
+    at: u64,
+    fault: &mut Refusal,
+) -> End
+    requires { IsWithinLimit (K.machine keep.old) }
+    ensures { Taken K.takes (val_offset_at factors at cursor.old) at keep.old result fault.new cursor.new keep.new }
+{
+    let register = match cursor.register() {
+        Ok(register) => register,
+        Err(refusal) => return refused(refusal, fault),
+    };
+    let offset = match factored(cursor, factors, at) {
+        Ok(offset) => offset,
+        Err(refusal) => return refused(refusal, fault),
+    };
+    keep.set(register, RegRule::ValOffset(offset), at, fault)
+}
+
+/// The same with an offset that is signed.
+#[tactic(auto, unfolding(crate::specs::Inner::ByOpcode::val_offset_sf_at))]
+#[inline(never)]
+pub(crate) fn run_val_offset_sf<'a, K: Keep<'a>>(
+    cursor: &mut Cursor<'a>,
+    factors: Factors,
+    keep: &mut K,
+    at: u64,
+    fault: &mut Refusal,
+) -> End
+    requires { IsWithinLimit (K.machine keep.old) }
+    ensures { Taken K.takes (val_offset_sf_at factors at cursor.old) at keep.old result fault.new cursor.new keep.new }
+{
+    let register = match cursor.register() {
+        Ok(register) => register,
+        Err(refusal) => return refused(refusal, fault),
+    };
+    let offset = match signed(cursor, factors, at) {
+        Ok(offset) => offset,
+        Err(refusal) => return refused(refusal, fault),
+    };
+    keep.set(register, RegRule::ValOffset(offset), at, fault)
 }
 
 /// A register is in another one.

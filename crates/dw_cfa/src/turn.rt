@@ -16,7 +16,7 @@ use crate::machine::{End, refuse, refused};
 use crate::opcode::{Opcode, known_opcode};
 use crate::registers::{
     run_expression, run_offset, run_offset_extended, run_offset_extended_sf, run_register,
-    run_restore_extended, run_same_value, run_undefined,
+    run_restore_extended, run_same_value, run_undefined, run_val_offset, run_val_offset_sf,
 };
 use dw_num::{Code, Cursor, Refusal, are_bytes};
 
@@ -53,10 +53,10 @@ fn apply<'a, K: Keep<'a>>(
         Opcode::Undefined => run_undefined(cursor, keep, at, fault),
         Opcode::SameValue => run_same_value(cursor, keep, at, fault),
         Opcode::Offset(register) => run_offset(cursor, factors, keep, at, register, fault),
-        Opcode::OffsetExtended => run_offset_extended(cursor, factors, false, keep, at, fault),
-        Opcode::OffsetExtendedSf => run_offset_extended_sf(cursor, factors, false, keep, at, fault),
-        Opcode::ValOffset => run_offset_extended(cursor, factors, true, keep, at, fault),
-        Opcode::ValOffsetSf => run_offset_extended_sf(cursor, factors, true, keep, at, fault),
+        Opcode::OffsetExtended => run_offset_extended(cursor, factors, keep, at, fault),
+        Opcode::OffsetExtendedSf => run_offset_extended_sf(cursor, factors, keep, at, fault),
+        Opcode::ValOffset => run_val_offset(cursor, factors, keep, at, fault),
+        Opcode::ValOffsetSf => run_val_offset_sf(cursor, factors, keep, at, fault),
         Opcode::Register => run_register(cursor, keep, at, fault),
         Opcode::Expression => run_expression(cursor, false, keep, at, known, fault),
         Opcode::ValExpression => run_expression(cursor, true, keep, at, known, fault),

@@ -81,13 +81,11 @@ undefined_at i = register_at i >>= with_instr (set_to rules.Undefined)
 unfoldable pub same_value_at : Input → Read Instr
 same_value_at i = register_at i >>= with_instr (set_to rules.SameValue)
 
--- saved at the CFA plus an offset, or that address
-abbrev pub offset_rule : Bool → ℤ → RegRule
-offset_rule true z = rules.ValOffset z
-offset_rule false z = rules.Offset z
+abbrev pub set_offset : ℕ → ℤ → Instr
+set_offset r z = Set r (rules.Offset z)
 
-abbrev pub set_offset : Bool → ℕ → ℤ → Instr
-set_offset is_value r z = Set r (offset_rule is_value z)
+abbrev pub set_val_offset : ℕ → ℤ → Instr
+set_val_offset r z = Set r (rules.ValOffset z)
 
 abbrev pub set_register : ℕ → ℕ → Instr
 set_register r q = Set r (rules.Register q)
@@ -98,16 +96,25 @@ set_expression true r e = Set r (rules.ValExpression e)
 set_expression false r e = Set r (rules.Expression e)
 
 unfoldable pub offset_at : Factors → ℕ → ℕ → Input → Read Instr
-offset_at f at r i = factored_at f at i >>= with_instr (set_offset false r)
+offset_at f at r i = factored_at f at i >>= with_instr (set_offset r)
+
+abbrev pub then_offset : Factors → ℕ → ℕ × Input → Read Instr
+then_offset f at r = offset_at f at r.0 r.1
+
+unfoldable pub offset_extended_at : Factors → ℕ → Input → Read Instr
+offset_extended_at f at i = register_at i >>= then_offset f at
+
+unfoldable pub offset_extended_sf_at : Factors → ℕ → Input → Read Instr
+offset_extended_sf_at f at i = register_at i >>= then_signed set_offset f at
 
 abbrev pub then_factored : (ℕ → ℤ → Instr) → Factors → ℕ → ℕ × Input → Read Instr
 then_factored make f at r = factored_at f at r.1 >>= with_instr (make r.0)
 
-unfoldable pub offset_extended_at : Bool → Factors → ℕ → Input → Read Instr
-offset_extended_at is_value f at i = register_at i >>= then_factored (set_offset is_value) f at
+unfoldable pub val_offset_at : Factors → ℕ → Input → Read Instr
+val_offset_at f at i = register_at i >>= then_factored set_val_offset f at
 
-unfoldable pub offset_extended_sf_at : Bool → Factors → ℕ → Input → Read Instr
-offset_extended_sf_at is_value f at i = register_at i >>= then_signed (set_offset is_value) f at
+unfoldable pub val_offset_sf_at : Factors → ℕ → Input → Read Instr
+val_offset_sf_at f at i = register_at i >>= then_signed set_val_offset f at
 
 abbrev pub then_register : ℕ × Input → Read Instr
 then_register r = register_at r.1 >>= with_instr (set_register r.0)
@@ -130,8 +137,8 @@ operands_at f at opcodes.AdvanceLoc1 i = advance_at f 1 i
 operands_at f at opcodes.AdvanceLoc2 i = advance_at f 2 i
 operands_at f at opcodes.AdvanceLoc4 i = advance_at f 4 i
 operands_at f at (opcodes.Offset r) i = offset_at f at r i
-operands_at f at opcodes.OffsetExtended i = offset_extended_at false f at i
-operands_at f at opcodes.OffsetExtendedSf i = offset_extended_sf_at false f at i
+operands_at f at opcodes.OffsetExtended i = offset_extended_at f at i
+operands_at f at opcodes.OffsetExtendedSf i = offset_extended_sf_at f at i
 operands_at f at (opcodes.Restore r) i = Ok (Restore r, i)
 operands_at f at opcodes.RestoreExtended i = restore_at i
 operands_at f at opcodes.Undefined i = undefined_at i
@@ -146,6 +153,6 @@ operands_at f at opcodes.DefCfaOffset i = def_cfa_offset_at at i
 operands_at f at opcodes.DefCfaOffsetSf i = def_cfa_offset_sf_at f at i
 operands_at f at opcodes.DefCfaExpression i = def_cfa_expression_at i
 operands_at f at opcodes.Expression i = expression_at false i
-operands_at f at opcodes.ValOffset i = offset_extended_at true f at i
-operands_at f at opcodes.ValOffsetSf i = offset_extended_sf_at true f at i
+operands_at f at opcodes.ValOffset i = val_offset_at f at i
+operands_at f at opcodes.ValOffsetSf i = val_offset_sf_at f at i
 operands_at f at opcodes.ValExpression i = expression_at true i
