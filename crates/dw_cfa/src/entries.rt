@@ -281,7 +281,7 @@ impl<'a> Entries<'a> {
     }
 
     // Gives a register that has a slot a rule that is no expression.
-    #[tactic(auto, using(crate::proofs::Slots::plain_put))]
+    #[tactic(auto, using(crate::proofs::Slots::plain_put, crate::proofs::Slots::plain_holds, crate::proofs::Slots::set_length))]
     #[inline(always)]
     fn put_plain(&mut self, register: u16, slot: Slot)
         requires so { EntriesSo self.old }
@@ -295,7 +295,7 @@ impl<'a> Entries<'a> {
     }
 
     // Gives a register that has a slot a rule that is kept beside it.
-    #[tactic(auto, using(crate::proofs::Slots::expression_put))]
+    #[tactic(auto, using(crate::proofs::Slots::expression_put, crate::proofs::Slots::expression_holds, crate::proofs::Slots::put_so, crate::proofs::Slots::set_length))]
     #[inline(never)]
     fn put_beside(&mut self, register: u16, rule: RegRule<'a>) -> Result<(), AllocError>
         requires so { EntriesSo self.old }

@@ -95,8 +95,7 @@ impl<'a> Keep<'a> for Machine<'a> {
 
     #[inline(always)]
     fn def_cfa(&mut self, register: u16, offset: i64, _at: u64, _fault: &mut Refusal) -> End {
-        let rule = CfaRule::Register { register, offset };
-        self.states.set_cfa(rule);
+        self.states.set_cfa(CfaRule::Register { register, offset });
         End::On
     }
 
@@ -105,8 +104,7 @@ impl<'a> Keep<'a> for Machine<'a> {
         let CfaRule::Register { offset, .. } = self.states.row().cfa() else {
             return refuse(Code::CfaNotRegister, at, fault);
         };
-        let rule = CfaRule::Register { register, offset };
-        self.states.set_cfa(rule);
+        self.states.set_cfa(CfaRule::Register { register, offset });
         End::On
     }
 
@@ -115,8 +113,7 @@ impl<'a> Keep<'a> for Machine<'a> {
         let CfaRule::Register { register, .. } = self.states.row().cfa() else {
             return refuse(Code::CfaNotRegister, at, fault);
         };
-        let rule = CfaRule::Register { register, offset };
-        self.states.set_cfa(rule);
+        self.states.set_cfa(CfaRule::Register { register, offset });
         End::On
     }
 
@@ -206,8 +203,7 @@ impl<'a> Keep<'a> for Row<'a> {
 
     #[inline(always)]
     fn def_cfa(&mut self, register: u16, offset: i64, _at: u64, _fault: &mut Refusal) -> End {
-        let rule = CfaRule::Register { register, offset };
-        self.set_cfa(rule);
+        self.set_cfa(CfaRule::Register { register, offset });
         End::On
     }
 
@@ -216,8 +212,7 @@ impl<'a> Keep<'a> for Row<'a> {
         let CfaRule::Register { offset, .. } = self.cfa() else {
             return refuse(Code::CfaNotRegister, at, fault);
         };
-        let rule = CfaRule::Register { register, offset };
-        self.set_cfa(rule);
+        self.set_cfa(CfaRule::Register { register, offset });
         End::On
     }
 
@@ -226,8 +221,7 @@ impl<'a> Keep<'a> for Row<'a> {
         let CfaRule::Register { register, .. } = self.cfa() else {
             return refuse(Code::CfaNotRegister, at, fault);
         };
-        let rule = CfaRule::Register { register, offset };
-        self.set_cfa(rule);
+        self.set_cfa(CfaRule::Register { register, offset });
         End::On
     }
 

@@ -104,8 +104,7 @@ impl<'a> Keep<'a> for LookUp<'a> {
 
     #[inline(always)]
     fn def_cfa(&mut self, register: u16, offset: i64, _at: u64, _fault: &mut Refusal) -> End {
-        let rule = CfaRule::Register { register, offset };
-        self.row.set_cfa(rule);
+        self.row.set_cfa(CfaRule::Register { register, offset });
         End::On
     }
 
@@ -114,8 +113,7 @@ impl<'a> Keep<'a> for LookUp<'a> {
         let CfaRule::Register { offset, .. } = self.row.cfa() else {
             return refuse(Code::CfaNotRegister, at, fault);
         };
-        let rule = CfaRule::Register { register, offset };
-        self.row.set_cfa(rule);
+        self.row.set_cfa(CfaRule::Register { register, offset });
         End::On
     }
 
@@ -124,8 +122,7 @@ impl<'a> Keep<'a> for LookUp<'a> {
         let CfaRule::Register { register, .. } = self.row.cfa() else {
             return refuse(Code::CfaNotRegister, at, fault);
         };
-        let rule = CfaRule::Register { register, offset };
-        self.row.set_cfa(rule);
+        self.row.set_cfa(CfaRule::Register { register, offset });
         End::On
     }
 
