@@ -1,8 +1,8 @@
 -- Registers in slots: what is set in one register's slot is what setting that register leaves.
 use Rattle.dw_cfa.proofs.Words.{if◌then◌else◌, nat_lt, ◌≡◌, ◌⊎◌, Bool, true, false, inl, inr, cases_eq, cases_lt, ℕ, zero, suc, ◌+◌, ◌<◌, ◌≤◌, cond, Some, None, List, [], ◌∷◌, length, get_or, refl, sym, ap, ◌∙◌, subst, arith}
-use Rattle.dw_cfa.proofs.Words.{get_or-set_same, length-set, get_or-set_other, nat_tests, IsTrue, nat_eq, ◌-◌, ◌*◌, ◌/◌, ◌%◌, ◌^◌, bit_or, bit_and, bit_at, bit_not, trailing_zeros, w64, w128, Option, not, div-le_self, bit_at-zero, bit_at_above}
+use Rattle.dw_cfa.proofs.Words.{get_or-set_same, get_or-set_other, nat_tests, IsTrue, nat_eq, ◌-◌, ◌*◌, ◌/◌, ◌%◌, ◌^◌, bit_or, bit_and, bit_at, bit_not, trailing_zeros, w64, w128, Option, not, div-le_self, bit_at-zero, bit_at_above}
 use Rattle.dw_cfa.proofs.Words.{bit_at-trailing_zeros, bit_at_set_same, bit_at_set_other, bit_at_clear_other, bit_at_clear_same, bit_at_or, Entries, RegRule, Slot, Unspecified, is_specified, AreSpecified, rule_in, listed, put, EntriesSo}
-use Rattle.dw_cfa.proofs.Words.{entries_of, slot_rule, listed_from, listed_near, near_rule, no_slot, rule_if, FirstBit, FirstIn, Holds, IsSlotOf, set, pow-add, shr-shr, bit_at-lt, bit_at_and, bit_at_cat_low}
+use Rattle.dw_cfa.proofs.Words.{length-set, entries_of, slot_rule, listed_from, listed_near, near_rule, no_slot, rule_if, FirstBit, FirstIn, Holds, IsSlotOf, set, pow-add, shr-shr, bit_at-lt, bit_at_and, bit_at_cat_low}
 use Rattle.std.proofs.lemmas.Nat.{one_shl}
 use Rattle.dw_cfa.proofs.Lent.{RowLists.{Entry, lower, listed_is, listed_keeps, listed_rule, other_rule, put_keeps, put_rule, same_rule_set, unlisted}, SameRows.same_entries}
 use Rattle.dw_cfa.specs.declared.slot.Slot.TheVariants as slots

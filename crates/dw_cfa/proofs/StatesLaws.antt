@@ -2,8 +2,8 @@
 use Rattle.std.proofs.lemmas.List.{nil_from_length, reverse-append}
 use Rattle.dw_cfa.specs.declared.{kept_row.KeptRow.KeptRow, states.Undo.Undo, states.Undo.TheVariants.{Remembered, Register}}
 use Rattle.dw_cfa.proofs.Words.{◌≡◌, ℕ, suc, ◌+◌, ◌-◌, ◌<◌, ◌≤◌, Bool, true, false, length-append, List, [], ◌∷◌, ◌++◌, length, reverse, Some, None, Result, OnOk, OnErr, Ok, Err, refl, sym, ap}
-use Rattle.dw_cfa.proofs.Words.{◌∙◌, subst, arith, append-nil, AreSpecified, CfaRule, IsTrue, Watching, watching, KeptSo, Marks, RegRule, Rules, rule_in, with_cfa, with_rule, Held, StatesSo}
-use Rattle.dw_cfa.proofs.{Words.{remembering, rows_before, with_row, first_if, shown, held, stacked, BeganWith, TakenBack, Restored, on_err_weaker, on_ok_weaker}, Lent.RowLists.Entry, WideRows.{put_back, put_same}}
+use Rattle.dw_cfa.proofs.Words.{◌∙◌, subst, arith, append-nil, AreSpecified, CfaRule, IsTrue, Watching, watching, KeptSo, Marks, MarksSo, RegRule, Rules, rule_in, with_cfa, with_rule, Held, StatesSo}
+use Rattle.dw_cfa.proofs.{Words.{remembering, rows_before, with_row, first_if, shown, held, stacked, BeganWith, TakenBack, Restored, on_err_weaker, on_ok_weaker}, Lent.RowLists.Entry, Marked.unwatched, WideRows.{put_back, put_same}}
 
 abbrev Before : Type 0
 Before = List Rules × List Entry
@@ -21,10 +21,10 @@ pub begun_held : (tracked : Bool) (saved : KeptRow) (row kept : Rules) (items : 
 begun_held tracked saved row kept items none off = ap (shown tracked saved row kept) (none_before row.registers items none) ∙ rw off refl
 
 pub begun_so : (tracked is_listed : Bool) → (is_listed ≡ false → tracked ≡ false) → (saved : KeptRow) (registers : List Entry) (items : List Undo) → items ≡ [] → saved.marks.watched ≡ false
-    → ((xs : List Entry) → KeptSo saved.marks saved.row.registers xs) → StatesSo tracked is_listed saved 0 (rows_before registers (reverse items)) items
-begun_so tracked is_listed free saved registers items none off since =
+    → MarksSo saved.marks → StatesSo tracked is_listed saved 0 (rows_before registers (reverse items)) items
+begun_so tracked is_listed free saved registers items none off so =
     let is = none_before registers items none in
-    record { count = rw (is, off) refl; unlisted = λ e. (free e, none); untracked = λ e. absurd cc; since = since (rows_before registers (reverse items)).1 }
+    record { count = rw (is, off) refl; unlisted = λ e. (free e, none); untracked = λ e. absurd cc; since = unwatched saved.marks saved.row.registers (rows_before registers (reverse items)).1 so off }
 
 reversed_none : (items : List Undo) → reverse items ≡ [] → items ≡ []
 reversed_none [] e = refl
@@ -176,8 +176,8 @@ module _ {tracked is_listed : Bool} {saved : KeptRow} {row kept : Rules} {items 
       pub none_held : saved.marks.watched ≡ false → now.stack ≡ []
       none_held off = ap (λ (h : Held). h.stack) (sym is) ∙ ap (λ (b : Before). stacked saved b.0) taken_all ∙ rw off refl
 
-      pub back_so : (saved' : KeptRow) (row'' : Rules) → saved'.marks.watched ≡ false → ((xs : List Entry) → KeptSo saved'.marks saved'.row.registers xs) → StatesSo tracked is_listed saved' 0 (rows_before row''.registers (reverse items')) items'
-      back_so saved' row'' off since = begun_so tracked is_listed (λ e. (so.unlisted e).0) saved' row''.registers items' none_left off since
+      pub back_so : (saved' : KeptRow) (row'' : Rules) → saved'.marks.watched ≡ false → MarksSo saved'.marks → StatesSo tracked is_listed saved' 0 (rows_before row''.registers (reverse items')) items'
+      back_so saved' row'' off marks = begun_so tracked is_listed (λ e. (so.unlisted e).0) saved' row''.registers items' none_left off marks
 
       pub back_held : (saved' : KeptRow) (row'' : Rules) → IsTrue saved.marks.watched → saved'.marks.watched ≡ false → row'' ≡ saved.row → Restored true now (held tracked saved' row'' kept' items')
       back_held saved' row'' on off at =

@@ -95,7 +95,8 @@ impl<'a> Keep<'a> for Machine<'a> {
 
     #[inline(always)]
     fn def_cfa(&mut self, register: u16, offset: i64, _at: u64, _fault: &mut Refusal) -> End {
-        self.states.set_cfa(CfaRule::Register { register, offset });
+        let rule = CfaRule::Register { register, offset };
+        self.states.set_cfa(rule);
         End::On
     }
 
@@ -104,7 +105,8 @@ impl<'a> Keep<'a> for Machine<'a> {
         let CfaRule::Register { offset, .. } = self.states.row().cfa() else {
             return refuse(Code::CfaNotRegister, at, fault);
         };
-        self.states.set_cfa(CfaRule::Register { register, offset });
+        let rule = CfaRule::Register { register, offset };
+        self.states.set_cfa(rule);
         End::On
     }
 
@@ -113,7 +115,8 @@ impl<'a> Keep<'a> for Machine<'a> {
         let CfaRule::Register { register, .. } = self.states.row().cfa() else {
             return refuse(Code::CfaNotRegister, at, fault);
         };
-        self.states.set_cfa(CfaRule::Register { register, offset });
+        let rule = CfaRule::Register { register, offset };
+        self.states.set_cfa(rule);
         End::On
     }
 
@@ -203,7 +206,8 @@ impl<'a> Keep<'a> for Row<'a> {
 
     #[inline(always)]
     fn def_cfa(&mut self, register: u16, offset: i64, _at: u64, _fault: &mut Refusal) -> End {
-        self.set_cfa(CfaRule::Register { register, offset });
+        let rule = CfaRule::Register { register, offset };
+        self.set_cfa(rule);
         End::On
     }
 
@@ -212,7 +216,8 @@ impl<'a> Keep<'a> for Row<'a> {
         let CfaRule::Register { offset, .. } = self.cfa() else {
             return refuse(Code::CfaNotRegister, at, fault);
         };
-        self.set_cfa(CfaRule::Register { register, offset });
+        let rule = CfaRule::Register { register, offset };
+        self.set_cfa(rule);
         End::On
     }
 
@@ -221,7 +226,8 @@ impl<'a> Keep<'a> for Row<'a> {
         let CfaRule::Register { register, .. } = self.cfa() else {
             return refuse(Code::CfaNotRegister, at, fault);
         };
-        self.set_cfa(CfaRule::Register { register, offset });
+        let rule = CfaRule::Register { register, offset };
+        self.set_cfa(rule);
         End::On
     }
 

@@ -104,7 +104,8 @@ impl<'a> Keep<'a> for LookUp<'a> {
 
     #[inline(always)]
     fn def_cfa(&mut self, register: u16, offset: i64, _at: u64, _fault: &mut Refusal) -> End {
-        self.row.set_cfa(CfaRule::Register { register, offset });
+        let rule = CfaRule::Register { register, offset };
+        self.row.set_cfa(rule);
         End::On
     }
 
@@ -113,7 +114,8 @@ impl<'a> Keep<'a> for LookUp<'a> {
         let CfaRule::Register { offset, .. } = self.row.cfa() else {
             return refuse(Code::CfaNotRegister, at, fault);
         };
-        self.row.set_cfa(CfaRule::Register { register, offset });
+        let rule = CfaRule::Register { register, offset };
+        self.row.set_cfa(rule);
         End::On
     }
 
@@ -122,7 +124,8 @@ impl<'a> Keep<'a> for LookUp<'a> {
         let CfaRule::Register { register, .. } = self.row.cfa() else {
             return refuse(Code::CfaNotRegister, at, fault);
         };
-        self.row.set_cfa(CfaRule::Register { register, offset });
+        let rule = CfaRule::Register { register, offset };
+        self.row.set_cfa(rule);
         End::On
     }
 

@@ -1,7 +1,7 @@
 //! Instructions that say how a register of the caller is found (6.4.2.3).
 
 ghost use Rattle.std.specs.Prelude.{IsOk, IsTrue};
-ghost use Rattle.dw_cfa.specs.Inner.ByOpcode.{value_at, offset_at, offset_extended_at, offset_extended_sf_at, val_offset_at};
+ghost use Rattle.dw_cfa.specs.Inner.ByOpcode.{undefined_at, same_value_at, offset_at, offset_extended_at, offset_extended_sf_at, val_offset_at};
 ghost use Rattle.dw_cfa.specs.Inner.{ByOpcode.{val_offset_sf_at, register_rule_at, expression_at, restore_at}, Turns.{IsWithinLimit, Taken}};
 
 use crate::instr::Factors;
@@ -30,29 +30,42 @@ pub(crate) fn run_restore_extended<'a, K: Keep<'a>>(
     keep.restore(register, at, fault)
 }
 
-/// A register has no value in the caller, or the one that it has here.
-#[tactic(auto, unfolding(crate::specs::Inner::ByOpcode::value_at))]
+/// A register has no value in the caller.
+#[tactic(auto, unfolding(crate::specs::Inner::ByOpcode::undefined_at))]
 #[inline(never)]
-pub(crate) fn run_value<'a, K: Keep<'a>>(
+pub(crate) fn run_undefined<'a, K: Keep<'a>>(
     cursor: &mut Cursor<'a>,
-    is_same: bool,
     keep: &mut K,
     at: u64,
     fault: &mut Refusal,
 ) -> End
     requires { IsWithinLimit (K.machine keep.old) }
-    ensures { Taken K.takes (value_at is_same cursor.old) at keep.old result fault.new cursor.new keep.new }
+    ensures { Taken K.takes (undefined_at cursor.old) at keep.old result fault.new cursor.new keep.new }
 {
     let register = match cursor.register() {
         Ok(register) => register,
         Err(refusal) => return refused(refusal, fault),
     };
-    let rule = if is_same {
-        RegRule::SameValue
-    } else {
-        RegRule::Undefined
+    keep.set(register, RegRule::Undefined, at, fault)
+}
+
+/// A register has the value that it has here.
+#[tactic(auto, unfolding(crate::specs::Inner::ByOpcode::same_value_at))]
+#[inline(never)]
+pub(crate) fn run_same_value<'a, K: Keep<'a>>(
+    cursor: &mut Cursor<'a>,
+    keep: &mut K,
+    at: u64,
+    fault: &mut Refusal,
+) -> End
+    requires { IsWithinLimit (K.machine keep.old) }
+    ensures { Taken K.takes (same_value_at cursor.old) at keep.old result fault.new cursor.new keep.new }
+{
+    let register = match cursor.register() {
+        Ok(register) => register,
+        Err(refusal) => return refused(refusal, fault),
     };
-    keep.set(register, rule, at, fault)
+    keep.set(register, RegRule::SameValue, at, fault)
 }
 
 /// A register is saved at the CFA plus an offset, which is factored.

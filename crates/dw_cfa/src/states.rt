@@ -238,7 +238,7 @@ impl<'a> States<'a> {
     }
 
     /// Remembers no row, and says whether changes are tracked from the current one on.
-    #[tactic(auto, using(crate::proofs::StatesLaws::begun_held))]
+    #[tactic(auto, using(crate::proofs::StatesLaws::begun_held, crate::proofs::StatesLaws::begun_so))]
     pub(crate) fn track(&mut self, tracked: bool)
         ensures { self.new ≡ record { row = self.old.row; stack = []; first = first_if tracked self.old.row.registers; kept = self.old.kept } }
     {

@@ -16,7 +16,7 @@ use crate::machine::{End, refuse, refused};
 use crate::opcode::{Opcode, known_opcode};
 use crate::registers::{
     run_expression, run_offset, run_offset_extended, run_offset_extended_sf, run_register,
-    run_restore_extended, run_val_offset, run_val_offset_sf, run_value,
+    run_restore_extended, run_same_value, run_undefined, run_val_offset, run_val_offset_sf,
 };
 use dw_num::{Code, Cursor, Refusal, are_bytes};
 
@@ -50,8 +50,8 @@ fn apply<'a, K: Keep<'a>>(
         Opcode::DefCfaOffset => run_def_cfa_offset(cursor, keep, at, fault),
         Opcode::DefCfaOffsetSf => run_def_cfa_offset_sf(cursor, factors, keep, at, fault),
         Opcode::DefCfaExpression => run_def_cfa_expression(cursor, keep, at, known, fault),
-        Opcode::Undefined => run_value(cursor, false, keep, at, fault),
-        Opcode::SameValue => run_value(cursor, true, keep, at, fault),
+        Opcode::Undefined => run_undefined(cursor, keep, at, fault),
+        Opcode::SameValue => run_same_value(cursor, keep, at, fault),
         Opcode::Offset(register) => run_offset(cursor, factors, keep, at, register, fault),
         Opcode::OffsetExtended => run_offset_extended(cursor, factors, keep, at, fault),
         Opcode::OffsetExtendedSf => run_offset_extended_sf(cursor, factors, keep, at, fault),

@@ -5,7 +5,7 @@ use Rattle.dw_num.specs.declared.refusal.{Code.TheVariants.OffsetTooLarge, Refus
 use Rattle.dw_op.specs.Expression.{Expression}
 use Rattle.dw_cfa.specs.{Operands.advanced, declared.instr.Factors.Factors, declared.instr.Instr.Instr, declared.instr.Instr.TheVariants.{Nop, SetLoc}}
 use Rattle.dw_cfa.specs.declared.instr.Instr.TheVariants.{DefCfa, DefCfaRegister, DefCfaOffset, DefCfaExpression, Set, Restore, RememberState, RestoreState}
-use Rattle.dw_cfa.specs.{declared.opcode.Opcode.Opcode, Inner.FrontInstr.{leaving, block_at, with_instr}}
+use Rattle.dw_cfa.specs.{declared.opcode.Opcode.Opcode, declared.rule.RegRule.RegRule, Inner.FrontInstr.{leaving, block_at, with_instr}}
 use Rattle.dw_cfa.specs.declared.opcode.Opcode.TheVariants as opcodes
 use Rattle.dw_cfa.specs.declared.rule.RegRule.TheVariants as rules
 
@@ -72,12 +72,14 @@ unfoldable pub restore_at : Input → Read Instr
 restore_at i = register_at i >>= with_instr Restore
 
 -- a rule for a register
-abbrev pub set_value : Bool → ℕ → Instr
-set_value true r = Set r rules.SameValue
-set_value false r = Set r rules.Undefined
+abbrev pub set_to : RegRule → ℕ → Instr
+set_to rule r = Set r rule
 
-unfoldable pub value_at : Bool → Input → Read Instr
-value_at is_same i = register_at i >>= with_instr (set_value is_same)
+unfoldable pub undefined_at : Input → Read Instr
+undefined_at i = register_at i >>= with_instr (set_to rules.Undefined)
+
+unfoldable pub same_value_at : Input → Read Instr
+same_value_at i = register_at i >>= with_instr (set_to rules.SameValue)
 
 abbrev pub set_offset : ℕ → ℤ → Instr
 set_offset r z = Set r (rules.Offset z)
@@ -139,8 +141,8 @@ operands_at f at opcodes.OffsetExtended i = offset_extended_at f at i
 operands_at f at opcodes.OffsetExtendedSf i = offset_extended_sf_at f at i
 operands_at f at (opcodes.Restore r) i = Ok (Restore r, i)
 operands_at f at opcodes.RestoreExtended i = restore_at i
-operands_at f at opcodes.Undefined i = value_at false i
-operands_at f at opcodes.SameValue i = value_at true i
+operands_at f at opcodes.Undefined i = undefined_at i
+operands_at f at opcodes.SameValue i = same_value_at i
 operands_at f at opcodes.Register i = register_rule_at i
 operands_at f at opcodes.RememberState i = Ok (RememberState, i)
 operands_at f at opcodes.RestoreState i = Ok (RestoreState, i)

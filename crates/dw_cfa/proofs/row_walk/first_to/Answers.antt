@@ -9,4 +9,5 @@ returns-clause-walked c =
     let same = led_ran l fde old at c.requires.so so in
     let keeps = led_keeps l fde old at c.are_bytes.ensures (subst AreBytes c.rest.ensures c.are_bytes-2.ensures) c.requires.so so in
     subst (λ (o : Outcome). IfOk c.run_to.result (WalkedTo c.args.address progress.Begun o old l new.cursor new.keep)) same
-    (walked c.args.address progress.Begun (rows_left l.factors fde at) old l new.cursor new.keep c.run_to.result c.run_to.ensures.ran (ap (λ (o : Outcome). o.fault) same ∙ c.requires.known) at.initial c.run_to.ensures.same.0 keeps (row_left l at at c.are_bytes.ensures so.initial refl))
+    (walked c.args.address progress.Begun (rows_left l.factors fde at) old l new.cursor new.keep c.run_to.result c.run_to.ensures.ran (ap (λ (o : Outcome). o.fault) same ∙ c.requires.known)
+    at.initial c.run_to.ensures.same.0 keeps (row_left l at at c.are_bytes.ensures so.initial refl))
