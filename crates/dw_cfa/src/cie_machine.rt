@@ -3,7 +3,7 @@
 ghost use Rattle.std.specs.{Prelude.{◌≡◌, ◌<◌, None, Some, Ok, Err, OnOk, OnErr, IfOk, IfErr, MatchResult}, Bool.MatchBool};
 ghost use Rattle.dw_num.specs.{Refusals.Refuses, Target.address_limit, declared.error.ReadError.TheVariants.OutOfMemory};
 ghost use Rattle.dw_cfa.specs.{Behind.{LeavesTo, RunsBehind}, CieMachine.{following_none, with_steps}, Coverage.Lacks};
-ghost use Rattle.dw_cfa.specs.{RowSteps.{program_input, stepping}, Runs.finished, Inner.Runs.rows_behind};
+ghost use Rattle.dw_cfa.specs.{RowSteps.{program_input, stepping}, Rows.AreSpecified, Runs.finished, Inner.Runs.rows_behind};
 
 use crate::coverage::lacks_rule;
 use crate::instr::Factors;
@@ -13,6 +13,13 @@ use crate::steps::Progress;
 use dw_num::{Cursor, Program, ReadError, Target, are_bytes};
 use std::alloc::{AllocError, Global};
 use std::marker::Model;
+
+// A row lists each register once.
+fn are_specified(row: &Row<'_>)
+    ensures { AreSpecified 0 row.now.registers }
+{
+    let _ = row.specified();
+}
 
 /// The machine behind a CIE's program: it runs the programs of the CIE's FDEs (`instructions`, 6.4.1) one after another, and
 /// runs the CIE's own (`initial_instructions`) once, as 6.4.3 says. A contract sees the initial row, the factors
@@ -125,7 +132,7 @@ impl<'a> CieMachine<'a> {
         ensures same { self.new ≡ with_steps self.old self.new.steps }
     {
         are_bytes(fde_program.bytes);
-        self.machine.initial.ascends();
+        are_specified(&self.machine.initial);
         self.start(fde_program, begin)
     }
 

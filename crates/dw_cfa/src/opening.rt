@@ -99,6 +99,16 @@ fn next_moves(instrs: &mut Instructions<'_>) -> bool
     true
 }
 
+// The row where the first instruction is an advance, which moves the location on or not.
+fn row_at(moves: bool) -> FirstRow
+    ensures { result ≡ (if moves then Initial else Other) }
+{
+    if moves {
+        return FirstRow::Initial;
+    }
+    FirstRow::Other
+}
+
 // The row where the instructions to come follow one that gives the CFA an offset.
 fn row_behind(offset: i64, instrs: &mut Instructions<'_>) -> FirstRow
     ensures { result ≡ (if answers_move (answers instrs.old) then CfaOffset offset else Other) }
@@ -117,7 +127,7 @@ fn row_of(instrs: &mut Instructions<'_>) -> FirstRow
     'instrs: while let Some(answer) = instrs.next() {
         match answer {
             Ok(Instr::Nop) => {}
-            Ok(Instr::Advance(delta)) if delta > 0 => return FirstRow::Initial,
+            Ok(Instr::Advance(delta)) => return row_at(delta > 0),
             Ok(Instr::DefCfaOffset(offset)) => return row_behind(offset, instrs),
             _ => return FirstRow::Other,
         }
