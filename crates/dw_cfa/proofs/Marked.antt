@@ -1,6 +1,6 @@
 -- The registers that were set since a row was kept: those without a mark have the same rules in both rows.
 use Rattle.dw_cfa.proofs.Words.{◌≡◌, ◌↔◌, ℕ, suc, ◌+◌, ◌<◌, ◌≤◌, Bool, List, [], ◌∷◌, refl, sym, ap, ◌∙◌, subst, arith, inl, inr, ◌*◌, ◌%◌, ◌^◌, bit_or, IsTrue, Result, Ok, Err, OnOk, OnErr, bit_at, filter, nat_tests, cases_lt, IsAdded}
-use Rattle.dw_cfa.proofs.Words.{Marks, RegRule, Rules, Unspecified, SameValue, AreSpecified, rule_in, put, with_rule, DiffersFirst, SameBetween, SameUnset, CopiedUpTo, MarksMore, MarksSo, KeptSo, SameUnlisted, SameUnmarked, Unmarked}
+use Rattle.dw_cfa.proofs.Words.{false, Marks, RegRule, Rules, Unspecified, SameValue, AreSpecified, rule_in, put, with_rule, DiffersFirst, SameBetween, SameUnset, CopiedUpTo, MarksMore, MarksSo, KeptSo, SameUnlisted, SameUnmarked, Unmarked}
 use Rattle.dw_cfa.proofs.{Difference.FromOn, Lent.Narrowed.{filter_keeps, filter_rule}, Lent.RowLists.{Entry, lower, other_rule, put_rule, same_rule_set, unlisted}, Lent.SameRows.one_row, Slots.{bit_set_other, bit_set_same, neither}}
 
 -- ---- marks
@@ -30,6 +30,10 @@ far_added near r far far' le up e q = grind (arith, nat_tests, put_rule r SameVa
 
 pub more_so : (old new : Marks) (kept xs : List Entry) → KeptSo old kept xs → MarksSo new → MarksMore old new → KeptSo new kept xs
 more_so old new kept xs h so more = record { marks = so; same = λ q none. h.same q (more q none) }
+
+-- where none is watched, any may have been set
+pub unwatched : (m : Marks) (kept xs : List Entry) → MarksSo m → m.watched ≡ false → KeptSo m kept xs
+unwatched m kept xs so off = record { marks = so; same = λ q none. let on = none.watched in absurd cc }
 
 pub set_so : {X E : Type 0} (result : Result X E) (old new : Marks) (kept : List Entry) (row row' : Rules) (r : ℕ) (rule : RegRule) → KeptSo old kept row.registers → AreSpecified 0 row.registers
     → MarksSo new → MarksMore old new → (Unmarked new r → ⊥) → OnOk result (row' ≡ with_rule r rule row) → OnErr result (row' ≡ row) → KeptSo new kept row'.registers

@@ -2,7 +2,7 @@
 use Rattle.dw_cfa.proofs.Words.{if◌then◌else◌, nat_lt, ◌≡◌, ◌⊎◌, Bool, true, false, inl, inr, cases_eq, cases_lt, ℕ, zero, suc, ◌+◌, ◌<◌, ◌≤◌, cond, Some, None, List, [], ◌∷◌, length, get_or, refl, sym, ap, ◌∙◌, subst, arith}
 use Rattle.dw_cfa.proofs.Words.{get_or-set_same, get_or-set_other, nat_tests, IsTrue, nat_eq, ◌-◌, ◌*◌, ◌/◌, ◌%◌, ◌^◌, bit_or, bit_and, bit_at, bit_not, trailing_zeros, w64, w128, Option, not, div-le_self, bit_at-zero, bit_at_above}
 use Rattle.dw_cfa.proofs.Words.{bit_at-trailing_zeros, bit_at_set_same, bit_at_set_other, bit_at_clear_other, bit_at_clear_same, bit_at_or, Entries, RegRule, Slot, Unspecified, is_specified, AreSpecified, rule_in, listed, put, EntriesSo}
-use Rattle.dw_cfa.proofs.Words.{entries_of, slot_rule, listed_from, listed_near, near_rule, no_slot, rule_if, FirstBit, FirstIn, Holds, IsSlotOf, set, pow-add, shr-shr, bit_at-lt, bit_at_and, bit_at_cat_low}
+use Rattle.dw_cfa.proofs.Words.{length-set, entries_of, slot_rule, listed_from, listed_near, near_rule, no_slot, rule_if, FirstBit, FirstIn, Holds, IsSlotOf, set, pow-add, shr-shr, bit_at-lt, bit_at_and, bit_at_cat_low}
 use Rattle.std.proofs.lemmas.Nat.{one_shl}
 use Rattle.dw_cfa.proofs.Lent.{RowLists.{Entry, lower, listed_is, listed_keeps, listed_rule, other_rule, put_keeps, put_rule, same_rule_set, unlisted}, SameRows.same_entries}
 use Rattle.dw_cfa.specs.declared.slot.Slot.TheVariants as slots
@@ -167,6 +167,9 @@ plain_given : (s : Slot) (block : RegRule) → (s ≡ slots.Beside → ⊥) → 
 plain_given slots.Beside block not = absurd (not refl)
 plain_given s block not = refl
 
+pub set_length : (near : List Slot) (p : ℕ) (s : Slot) → length near ≡ 128 → length (set near p s) ≡ 128
+set_length near p s e = length-set near p s ∙ e
+
 module _ (e : Entries) (so : EntriesSo e) (r : ℕ) (s : Slot) (new : List Slot) (lt : r < 128) (b : ℕ) (bit : b ≡ 1 * 2 ^ r % 2 ^ 128) (stored : new ≡ set e.slots r s) where
   room : r < length e.slots
   room = omega (arith, lt, so.slots)
@@ -174,19 +177,23 @@ module _ (e : Entries) (so : EntriesSo e) (r : ℕ) (s : Slot) (new : List Slot)
   abbrev with_bit : ℕ
   with_bit = bit_or e.used b
 
+  module _ (expressions' : List Entry) (stay : (q : ℕ) → (q ≡ r → ⊥) → rule_in expressions' q ≡ rule_in e.expressions.entries q) where
+    slot_put : (rule : RegRule) → slot_rule s (rule_in expressions' r) ≡ rule → listed_near 0 with_bit new expressions' e.far.entries ≡ put r rule (entries_of e)
+    slot_put rule here =
+        let x = e.expressions.entries in
+        ap (λ (l : List Slot). listed_near 0 with_bit l expressions' e.far.entries) stored
+        ∙ rules_put (near_rule e.used e.slots x) (near_rule with_bit (set e.slots r s) expressions') e.far.entries so.far r rule lt
+        (put_rule_is e.used e.slots x expressions' r r s lt b bit refl room stay ∙ here)
+        (λ q low. other_rule_is e.used e.slots x expressions' r r s lt b bit refl room stay q)
+
+    slot_holds : IsTrue (is_specified (slot_rule s (rule_in expressions' r))) → Holds with_bit new expressions'
+    slot_holds given = subst (λ (l : List Slot). Holds with_bit l expressions') (sym stored) (put_holds e.used e.slots e.expressions.entries expressions' r r s lt b bit refl room stay so.used given)
+
   pub plain_put : (s ≡ slots.Beside → ⊥) → (rule : RegRule) → IsSlotOf rule s → listed_near 0 (bit_or e.used b) new e.expressions.entries e.far.entries ≡ put r rule (entries_of e)
-  plain_put not rule is =
-      let x = e.expressions.entries in
-      ap (λ (l : List Slot). listed_near 0 with_bit l x e.far.entries) stored
-      ∙ rules_put (near_rule e.used e.slots x) (near_rule with_bit (set e.slots r s) x) e.far.entries so.far r rule lt
-      (put_rule_is e.used e.slots x x r r s lt b bit refl room (λ q ne. refl) ∙ held_rule s rule not is (rule_in x r))
-      (λ q low. other_rule_is e.used e.slots x x r r s lt b bit refl room (λ n ne. refl) q)
+  plain_put not rule is = slot_put e.expressions.entries (λ q ne. refl) rule (held_rule s rule not is (rule_in e.expressions.entries r))
 
   pub plain_holds : (s ≡ slots.Beside → ⊥) → Holds (bit_or e.used b) new e.expressions.entries
-  plain_holds not =
-      let x = e.expressions.entries in
-      subst (λ (l : List Slot). Holds with_bit l x) (sym stored)
-      (put_holds e.used e.slots x x r r s lt b bit refl room (λ q ne. refl) so.used (plain_given s (rule_in x r) not))
+  plain_holds not = slot_holds e.expressions.entries (λ q ne. refl) (plain_given s (rule_in e.expressions.entries r) not)
 
   module _ (rule : RegRule) (expressions' : List Entry) (is : s ≡ slots.Beside) (put_in : expressions' ≡ put r rule e.expressions.entries) where
     others : (q : ℕ) → (q ≡ r → ⊥) → rule_in expressions' q ≡ rule_in e.expressions.entries q
@@ -196,17 +203,10 @@ module _ (e : Entries) (so : EntriesSo e) (r : ℕ) (s : Slot) (new : List Slot)
     here = rw (is, put_in) (same_rule_set r r rule e.expressions.entries so.expressions refl)
 
     pub expression_put : listed_near 0 (bit_or e.used b) new expressions' e.far.entries ≡ put r rule (entries_of e)
-    expression_put =
-        let x = e.expressions.entries in
-        ap (λ (l : List Slot). listed_near 0 with_bit l expressions' e.far.entries) stored
-        ∙ rules_put (near_rule e.used e.slots x) (near_rule with_bit (set e.slots r s) expressions') e.far.entries so.far r rule lt
-        (put_rule_is e.used e.slots x expressions' r r s lt b bit refl room others ∙ here)
-        (λ q low. other_rule_is e.used e.slots x expressions' r r s lt b bit refl room others q)
+    expression_put = slot_put expressions' others rule here
 
     pub expression_holds : IsTrue (is_specified rule) → Holds (bit_or e.used b) new expressions'
-    expression_holds given =
-        subst (λ (l : List Slot). Holds with_bit l expressions') (sym stored)
-        (put_holds e.used e.slots e.expressions.entries expressions' r r s lt b bit refl room others so.used (subst (λ (x : RegRule). IsTrue (is_specified x)) (sym here) given))
+    expression_holds given = slot_holds expressions' others (subst (λ (x : RegRule). IsTrue (is_specified x)) (sym here) given)
 
 -- ---- registers that are taken out of the mask
 

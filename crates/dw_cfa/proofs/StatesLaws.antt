@@ -2,8 +2,8 @@
 use Rattle.std.proofs.lemmas.List.{nil_from_length, reverse-append}
 use Rattle.dw_cfa.specs.declared.{kept_row.KeptRow.KeptRow, states.Undo.Undo, states.Undo.TheVariants.{Remembered, Register}}
 use Rattle.dw_cfa.proofs.Words.{◌≡◌, ℕ, suc, ◌+◌, ◌-◌, ◌<◌, ◌≤◌, Bool, true, false, length-append, List, [], ◌∷◌, ◌++◌, length, reverse, Some, None, Result, OnOk, OnErr, Ok, Err, refl, sym, ap}
-use Rattle.dw_cfa.proofs.Words.{◌∙◌, subst, arith, append-nil, AreSpecified, CfaRule, IsTrue, Watching, watching, KeptSo, Marks, RegRule, Rules, rule_in, with_cfa, with_rule, Held, StatesSo}
-use Rattle.dw_cfa.proofs.{Words.{rows_before, first_if, shown, held, stacked, BeganWith, TakenBack, Restored, on_err_weaker, on_ok_weaker}, Lent.RowLists.Entry, WideRows.{put_back, put_same}}
+use Rattle.dw_cfa.proofs.Words.{◌∙◌, subst, arith, append-nil, AreSpecified, CfaRule, IsTrue, Watching, watching, KeptSo, Marks, MarksSo, RegRule, Rules, rule_in, with_cfa, with_rule, Held, StatesSo}
+use Rattle.dw_cfa.proofs.{Words.{remembering, rows_before, with_row, first_if, shown, held, stacked, BeganWith, TakenBack, Restored, on_err_weaker, on_ok_weaker}, Lent.RowLists.Entry, Marked.unwatched, WideRows.{put_back, put_same}}
 
 abbrev Before : Type 0
 Before = List Rules × List Entry
@@ -21,10 +21,10 @@ pub begun_held : (tracked : Bool) (saved : KeptRow) (row kept : Rules) (items : 
 begun_held tracked saved row kept items none off = ap (shown tracked saved row kept) (none_before row.registers items none) ∙ rw off refl
 
 pub begun_so : (tracked is_listed : Bool) → (is_listed ≡ false → tracked ≡ false) → (saved : KeptRow) (registers : List Entry) (items : List Undo) → items ≡ [] → saved.marks.watched ≡ false
-    → ((xs : List Entry) → KeptSo saved.marks saved.row.registers xs) → StatesSo tracked is_listed saved 0 (rows_before registers (reverse items)) items
-begun_so tracked is_listed free saved registers items none off since =
+    → MarksSo saved.marks → StatesSo tracked is_listed saved 0 (rows_before registers (reverse items)) items
+begun_so tracked is_listed free saved registers items none off so =
     let is = none_before registers items none in
-    record { count = rw (is, off) refl; unlisted = λ e. (free e, none); untracked = λ e. absurd cc; since = since (rows_before registers (reverse items)).1 }
+    record { count = rw (is, off) refl; unlisted = λ e. (free e, none); untracked = λ e. absurd cc; since = unwatched saved.marks saved.row.registers (rows_before registers (reverse items)).1 so off }
 
 reversed_none : (items : List Undo) → reverse items ≡ [] → items ≡ []
 reversed_none [] e = refl
@@ -64,7 +64,7 @@ rows_set result rows row kept = on_ok_weaker result (λ same. ap (λ (w : Watchi
 pub rows_same : {X E : Type 0} (result : Result X E) (rows old : Watching) → OnErr result (rows ≡ old) → OnErr result (rows.row ≡ old.row)
 rows_same result rows old = on_err_weaker result (λ same. ap (λ (w : Watching). w.row) same)
 
-module _ (tracked is_listed : Bool) (saved : KeptRow) (row kept : Rules) (items : List Undo) (now : Held) (is : held tracked saved row kept items ≡ now) (depth : ℕ)
+module _ {tracked is_listed : Bool} {saved : KeptRow} {row kept : Rules} {items : List Undo} {now : Held} {depth : ℕ} (is : held tracked saved row kept items ≡ now)
     (so : StatesSo tracked is_listed saved depth (rows_before row.registers (reverse items)) items) where
   abbrev before : Before
   before = rows_before row.registers (reverse items)
@@ -74,7 +74,7 @@ module _ (tracked is_listed : Bool) (saved : KeptRow) (row kept : Rules) (items 
 
   -- a register is given a rule
   pub ruled : {X E : Type 0} (result : Result X E) (new : Held) (rows' : Watching) (r : ℕ) (rule : RegRule) → OnOk result (rows' ≡ watching (with_rule r rule row) kept)
-      → new ≡ record { row = rows'.row; stack = now.stack; first = now.first; kept = rows'.kept } → OnOk result (new ≡ record { row = with_rule r rule now.row; stack = now.stack; first = now.first; kept = now.kept })
+      → new ≡ record { row = rows'.row; stack = now.stack; first = now.first; kept = rows'.kept } → OnOk result (new ≡ with_row (with_rule r rule now.row) now)
   ruled (Ok x) new rows' r rule set same =
       same ∙ ap (λ (w : Watching). let h : Held = record { row = w.row; stack = now.stack; first = now.first; kept = w.kept } in h) set
       ∙ ap (λ (h : Held). let x : Held = record { row = with_rule r rule h.row; stack = now.stack; first = now.first; kept = h.kept } in x) is
@@ -93,8 +93,8 @@ module _ (tracked is_listed : Bool) (saved : KeptRow) (row kept : Rules) (items 
 
   -- one row more
   module _ (items' : List Undo) (one : rows_before row.registers (reverse items') ≡ (row ∷ before.0, before.1)) where
-    pub listed_held : held tracked saved row kept items' ≡ record { row = now.row; stack = now.row ∷ now.stack; first = now.first; kept = now.kept }
-    listed_held = ap (shown tracked saved row kept) one ∙ ap (λ (h : Held). let x : Held = record { row = h.row; stack = h.row ∷ h.stack; first = h.first; kept = h.kept } in x) is
+    pub listed_held : held tracked saved row kept items' ≡ remembering now
+    listed_held = ap (shown tracked saved row kept) one ∙ ap remembering is
 
     pub listed_so : StatesSo tracked true saved (depth + 1) (rows_before row.registers (reverse items')) items'
     listed_so =
@@ -130,7 +130,7 @@ module _ (tracked is_listed : Bool) (saved : KeptRow) (row kept : Rules) (items 
 
   -- a row is saved where none is remembered
   module _ (off : tracked ≡ false) (none : depth ≡ 0) (saved' : KeptRow) (items' : List Undo) (empty : items' ≡ []) where
-    pub saved_held : saved'.row ≡ row → IsTrue saved'.marks.watched → held tracked saved' row kept items' ≡ record { row = now.row; stack = now.row ∷ now.stack; first = now.first; kept = now.kept }
+    pub saved_held : saved'.row ≡ row → IsTrue saved'.marks.watched → held tracked saved' row kept items' ≡ remembering now
     saved_held same on =
         let nothing = nil_from_length now.stack (omega (arith, none, depth_is)) in
         let first = sym (ap (λ (h : Held). h.first) is) ∙ ap (λ (t : Bool). first_if t before.1) off in
@@ -163,7 +163,7 @@ module _ (tracked is_listed : Bool) (saved : KeptRow) (row kept : Rules) (items 
 
     -- none is listed: the one that is saved is the last, or there is none
     module _ (taken : TakenBack None row (reverse items) row' (reverse items')) where
-      pub none_left : items' ≡ []
+      none_left : items' ≡ []
       none_left = reversed_none items' taken.1
 
       taken_all : before ≡ ([], row'.registers)
@@ -175,6 +175,9 @@ module _ (tracked is_listed : Bool) (saved : KeptRow) (row kept : Rules) (items 
 
       pub none_held : saved.marks.watched ≡ false → now.stack ≡ []
       none_held off = ap (λ (h : Held). h.stack) (sym is) ∙ ap (λ (b : Before). stacked saved b.0) taken_all ∙ rw off refl
+
+      pub back_so : (saved' : KeptRow) (row'' : Rules) → saved'.marks.watched ≡ false → MarksSo saved'.marks → StatesSo tracked is_listed saved' 0 (rows_before row''.registers (reverse items')) items'
+      back_so saved' row'' off marks = begun_so tracked is_listed (λ e. (so.unlisted e).0) saved' row''.registers items' none_left off marks
 
       pub back_held : (saved' : KeptRow) (row'' : Rules) → IsTrue saved.marks.watched → saved'.marks.watched ≡ false → row'' ≡ saved.row → Restored true now (held tracked saved' row'' kept' items')
       back_held saved' row'' on off at =

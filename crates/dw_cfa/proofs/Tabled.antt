@@ -2,8 +2,8 @@
 use Rattle.dw_cfa.proofs.Words.{◌≡◌, ℕ, ◌^◌, Bool, true, false, Option, Some, Ok, Err, refl, sym, ap, ◌∙◌, ℤ, pos, ◌*ℤ◌, unsigned_abs, nat_lt, Factors, Input, Instr, Opcode, Read, fixed_at, register_at, uleb_at, sleb_at, ◌>>=◌, DefCfa}
 use Rattle.dw_cfa.proofs.Words.{DefCfaOffset, opcode_of, form_of, offset_of, leaving, block_at, with_instr, form_at, judged, known_at, instr_at}
 use Rattle.dw_cfa.specs.Inner.ByOpcode.{offset_in, plain_in, plain_at, factored_in, factored_at, signed_in, signed_at, set_loc_at, advance_at, def_cfa_register_at, def_cfa_offset_at, def_cfa_offset_sf_at, def_cfa_expression_at, then_plain}
-use Rattle.dw_cfa.specs.Inner.ByOpcode.{def_cfa_at, then_signed, def_cfa_sf_at, restore_at, undefined_at, same_value_at, set_offset, set_val_offset, set_register, set_expression, set_val_expression, offset_at, then_offset}
-use Rattle.dw_cfa.specs.Inner.ByOpcode.{offset_extended_at, offset_extended_sf_at, then_factored, val_offset_at, val_offset_sf_at, then_register, register_rule_at, then_block, expression_at, val_expression_at, operands_at}
+use Rattle.dw_cfa.specs.Inner.ByOpcode.{def_cfa_at, then_signed, def_cfa_sf_at, restore_at, undefined_at, same_value_at, set_offset, set_val_offset, set_register, set_expression, offset_at, then_offset}
+use Rattle.dw_cfa.specs.Inner.ByOpcode.{offset_extended_at, offset_extended_sf_at, then_factored, val_offset_at, val_offset_sf_at, then_register, register_rule_at, then_block, expression_at, operands_at}
 use Rattle.dw_cfa.specs.declared.opcode.Opcode.TheVariants as opcodes
 
 module _ (at : ℕ) where
@@ -29,7 +29,7 @@ module _ (at : ℕ) where
   behind (Ok x) table code is = is x
 
 pub form_is : (f : Factors) (at : ℕ) (opcode : Opcode) (i : Input) → form_at (form_of f opcode) i >>= judged at ≡ operands_at f at opcode i
-unfolding operands_at set_loc_at advance_at def_cfa_register_at def_cfa_offset_at def_cfa_offset_sf_at def_cfa_expression_at def_cfa_at def_cfa_sf_at restore_at undefined_at same_value_at offset_at offset_extended_at offset_extended_sf_at val_offset_at val_offset_sf_at register_rule_at expression_at val_expression_at plain_at factored_at signed_at
+unfolding operands_at set_loc_at advance_at def_cfa_register_at def_cfa_offset_at def_cfa_offset_sf_at def_cfa_expression_at def_cfa_at def_cfa_sf_at restore_at undefined_at same_value_at offset_at offset_extended_at offset_extended_sf_at val_offset_at val_offset_sf_at register_rule_at expression_at plain_at factored_at signed_at
 form_is f at (opcodes.Offset r) i = with_offset at (uleb_at i) (λ n. pos n *ℤ f.data_factor) (set_offset r) (factored_in f at) (λ x. refl) (λ z. refl)
 form_is f at opcodes.OffsetExtended i =
     behind at (register_at i) _ (then_offset f at) (λ r. with_offset at (uleb_at r.1) (λ n. pos n *ℤ f.data_factor) (set_offset r.0) (factored_in f at) (λ x. refl) (λ z. refl))
@@ -41,12 +41,12 @@ form_is f at opcodes.DefCfaSf i =
     behind at (register_at i) _ (then_signed DefCfa f at) (λ r. with_offset at (sleb_at r.1) (λ z. z *ℤ f.data_factor) (DefCfa r.0) (signed_in f at) (λ x. refl) (λ z. refl))
 form_is f at opcodes.DefCfaOffset i = with_offset at (uleb_at i) (λ n. pos n) DefCfaOffset (plain_in at) (λ x. refl) (λ z. refl)
 form_is f at opcodes.DefCfaOffsetSf i = with_offset at (sleb_at i) (λ z. z *ℤ f.data_factor) DefCfaOffset (signed_in f at) (λ x. refl) (λ z. refl)
-form_is f at opcodes.Expression i = behind at (register_at i) _ (then_block set_expression) (λ r. unjudged at (block_at r.1) (set_expression r.0) (λ x. refl))
+form_is f at opcodes.Expression i = behind at (register_at i) _ (then_block (set_expression false)) (λ r. unjudged at (block_at r.1) (set_expression false r.0) (λ x. refl))
 form_is f at opcodes.ValOffset i =
     behind at (register_at i) _ (then_factored set_val_offset f at) (λ r. with_offset at (uleb_at r.1) (λ n. pos n *ℤ f.data_factor) (set_val_offset r.0) (factored_in f at) (λ x. refl) (λ z. refl))
 form_is f at opcodes.ValOffsetSf i =
     behind at (register_at i) _ (then_signed set_val_offset f at) (λ r. with_offset at (sleb_at r.1) (λ z. z *ℤ f.data_factor) (set_val_offset r.0) (signed_in f at) (λ x. refl) (λ z. refl))
-form_is f at opcodes.ValExpression i = behind at (register_at i) _ (then_block set_val_expression) (λ r. unjudged at (block_at r.1) (set_val_expression r.0) (λ x. refl))
+form_is f at opcodes.ValExpression i = behind at (register_at i) _ (then_block (set_expression true)) (λ r. unjudged at (block_at r.1) (set_expression true r.0) (λ x. refl))
 form_is f at opcodes.Nop i = refl
 form_is f at (opcodes.AdvanceLoc delta) i = refl
 form_is f at (opcodes.Restore r) i = refl

@@ -65,7 +65,7 @@ module _ (f : Factors) (cie fde : Input) (begin : ℕ) (cb : AreBytes cie.bytes)
       rw left.1 (fde_only f left.0 fde begin fb le left.2.listed a r (subst (λ (c : CfaRule). FdeFaultUpTo f c fde begin a r) (sym left.2.cfa) fault))
 
   -- what a run up to the address answers
-  pub up_to : {X : Type 0} (result : Result X ReadError) (row : Rules) → begin ≤ a → FoundAt a (run_rows f cie fde begin) (run_stop f cie fde begin) row result
+  pub up_to : {X : Type 0} (result : Result X ReadError) (row : Rules) → begin ≤ a → FoundAt a f cie fde begin row result
       → ((o : Outcome) → RunsTo f cie fde begin o → OnOk result (last_at a o.rows ≡ Some row) × IfErr result (Refuses (λ r. o.fault ≡ Some r)))
       × IfErr result (Refuses (FaultUpTo f cie fde begin a)) × OnOk result (NoFaultUpTo f cie fde begin a)
   up_to (Ok x) row start (last, above) = (

@@ -4,7 +4,7 @@ pub use Rattle.std.specs.{List.{AllByRecursion, AllZip}, declared.ops.Bound.Boun
 pub use Rattle.std.proofs.Common.{All, Bool, Decides, Err, FitsSigned, IfErr, IfOk, IfSome, IsOk, IsTrue, List, MatchBool, MatchOption, MatchResult, None, Ok, OnErr, OnOk, Option, Result, Some, SomeIff, [], add-one, ap}
 pub use Rattle.std.proofs.Common.{append-nil, append_assoc, arith, bit_and, bit_or, cond, count_by, div-le_self, eq-eqb, eqb-true, false, filter, get_or, get_or-set_other, get_or-set_same, if◌then◌else◌, inl, inr, is_some}
 pub use Rattle.std.proofs.Common.{le-leb, le-ltb, length, length-append, length-set, lt-ltb, ltb-false, ltb-true, map, mul-le-mul, mul-pos, nat_cmp, nat_eq, nat_le, nat_lt, negsuc, not, of_z, option_copied, option_map, pos}
-pub use Rattle.std.proofs.Common.{pow-add, pow_pos, refl, replicate, reverse, rules, set, shr-shr, slice_get, subst, suc, sym, take, take_all, to_z, true, unsigned_abs, unwrap_or, w64, zero, ℕ, ℤ, ◌%◌, ◌*ℤ◌, ◌*◌, ◌++◌, ◌+◌, ◌-◌}
+pub use Rattle.std.proofs.Common.{pow-add, refl, reverse, rules, set, shr-shr, slice_get, subst, suc, sym, take, take_all, to_z, true, unsigned_abs, unwrap_or, w64, zero, ℕ, ℤ, ◌%◌, ◌*ℤ◌, ◌*◌, ◌++◌, ◌+◌, ◌-◌}
 pub use Rattle.std.proofs.{Common.{◌/◌, ◌<◌, ◌^◌, ◌||◌, ◌↔◌, ◌∙◌, ◌∷◌, ◌≡◌, ◌≤◌, ◌⊎◌}, lemmas.Bool.{cases_Bool, cases_eq, cases_lt, eqb-false, or_cases, or_parts}, lemmas.Bool.Decides.{leb_tells, nat_tests, not_from_Decides}}
 pub use Rattle.std.proofs.lemmas.{Int.{fits_signed_mul, to_z-of_z}, List.Sums.sum_by-cons, Map.Made.filter_same_pairs, Nat.Bits.{bit_at-lt, bit_at-trailing_zeros, bit_at-zero, bit_at_above, bit_at_and, bit_at_cat_low}}
 pub use Rattle.std.proofs.lemmas.{Nat.Bits.{bit_at_clear_other, bit_at_clear_same, bit_at_or, bit_at_set_other, bit_at_set_same}, Result.{IfErr-weaker, IfOk-weaker, err_from_is_err_and, on_err_weaker, on_ok_weaker}}
@@ -27,7 +27,7 @@ pub use Rattle.dw_cfa.specs.{Faults.{FdeBreaks, FdeFault, FdeFaultBehind, FdeFau
 pub use Rattle.dw_cfa.specs.{Kept.{CieKept, FdeKept, IsRegisterRule, in_cie, is_remember, is_restore, keeps_half, remembered, restored}, Listing.{Listing, ProgramFault, answers, answers_before, complete, faulty}}
 pub use Rattle.dw_cfa.specs.{Location.{Counts, StaysAt, back_from, location, location_back, moves_location, onto}, Opening.{cfa_with, first_row, moves_first, row_with}, Operands.{InstrForm, Operand, OperandValue, address, advanced}}
 pub use Rattle.dw_cfa.specs.{Operands.{expression, fixed, none, offset_of, one, register, signed, two, unsigned}, RegisterSets.{AgreesBeside, Registers, has}, RowLaws.{BehindWhereFault, FirstRowIsBegin, GivesWhereKept, LastHolds}}
-pub use Rattle.dw_cfa.specs.{RowLaws.{LeavesWhereKept, NoneFalls, OneBehind, OneCount, OneHolds, OneInitial, OneRun, RefusedWhereFault, RowsWhereKept}, RowSteps.{Stepping, program_input, stepping}, RowWalk.{AllKeep, Led, StandsOn, Walking}}
+pub use Rattle.dw_cfa.specs.{RowLaws.{LeavesWhereKept, NoneFalls, OneBehind, OneCount, OneHolds, OneInitial, OneRun, RefusedWhereFault, RowsWhereKept}, RowSteps.{Stepping, program_input, stepping}, RowWalk.{AllKeep, StandsOn, Walking}}
 pub use Rattle.dw_cfa.specs.{Rows.{AreSpecified, Rules, blank, is_specified, rule, rule_in}, RuleAt.{NeverFalls, last_at, left_above, or_here, rows_above}, RulesBehind.RulesBehind, Runs.{Outcome, fails, finished, row_then}}
 pub use Rattle.dw_cfa.specs.declared.{entries.Entries.Entries, execution.LocatedRow.LocatedRow, instr.Factors.Factors, instr.Instr.Instr, instr.Instr.TheVariants.{Advance, DefCfa, DefCfaExpression, DefCfaOffset, DefCfaRegister, Nop}}
 pub use Rattle.dw_cfa.specs.declared.{instr.Instr.TheVariants.{RememberState, Restore, RestoreState, Set, SetLoc}, machine.Machine.Machine, marks.Marks.Marks, opcode.Opcode.Opcode, opening.FirstRow.TheVariants.{CfaOffset, Initial, Other}}
@@ -39,4 +39,4 @@ pub use Rattle.dw_cfa.specs.Inner.{Machine.{cie_fault, empty_fault, fde_fault, h
 pub use Rattle.dw_cfa.specs.Inner.{Marks.{Watching, in_mask, in_tree, marked, watching}, Opening.{GivesOffset, answers_move, answers_row}, Operands.{form_of, opcode_table}, RowEquality.{cfa_tells, rows_tell, rule_tells, same_rows}}
 pub use Rattle.dw_cfa.specs.Inner.{RowSteps.{gives, left_of, progress_after}, RowWalk.{AllSpecify, AreLeft, HasInitial, IsLed, RanUpTo, Readied, WalkKeeps, WalkedTo, WalksSo, initial_of, led_of, led_rows, walk_of}}
 pub use Rattle.dw_cfa.specs.Inner.{Rows.{listed, put, with_cfa, with_rule}, RuleAt.{CountsFrom, FoundAt}, Runs.{GivesRow, Placed, Placing, RanTo, RunsSo, WroteTo, at_end, fault_or, here, initial_row, on_initial, place_of}}
-pub use Rattle.dw_cfa.specs.Inner.{Runs.{refused_at, row_if, stop_on, stop_or}, States.{BeganWith, Held, Restored, StatesSo, TakenBack, first_if, held, saved_if, shown, stacked}, Steps.{InLimit, IsAfter, state_of}}
+pub use Rattle.dw_cfa.specs.Inner.{Runs.{refused_at, row_if, stop_on, stop_or}, States.{BeganWith, Held, Restored, StatesSo, TakenBack, first_if, held, remembering, saved_if, shown, stacked, with_row}, Steps.{InLimit, IsAfter, state_of}}

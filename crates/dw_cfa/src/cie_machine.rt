@@ -100,6 +100,7 @@ impl<'a> CieMachine<'a> {
     }
 
     // The same by the run that the code keeps to.
+    #[tactic(auto, using(crate::proofs::RunSteps::started))]
     fn start(&mut self, fde_program: Program<'a>, begin: u64) -> Result<(), AllocError>
         requires { begin < address_limit self.old.target.size }
         ensures ok { OnOk result (self.new ≡ with_steps self.old (stepping self.old.initial (rows_behind self.old.factors self.old.initial (program_input fde_program.entry self.old.target) begin))) }
@@ -122,6 +123,7 @@ impl<'a> CieMachine<'a> {
     /// Begins an FDE's program (`instructions`, 6.4.1) at an address `begin` of the target, which is `initial_location` of that
     /// FDE where its rows are asked for, or answers want of memory. What an FDE before it changed is taken back first. Behind
     /// want of memory a program has to begin again before anything else is asked.
+    #[tactic(auto, using(crate::proofs::Lent::Given::follow_runs))]
     pub fn begin(&mut self, fde_program: Program<'a>, begin: u64) -> Result<(), AllocError>
         requires { begin < address_limit self.old.target.size }
         ensures ok { OnOk result (self.new ≡ with_steps self.old (stepping self.old.initial self.new.steps.outcome)) }

@@ -8,6 +8,7 @@ use crate::row::Row;
 
 impl<'a> Entries<'a> {
     // Takes a register out.
+    #[tactic(auto, using(crate::proofs::Slots::far_set, crate::proofs::Slots::put_so, crate::proofs::WideRows::removed_is))]
     fn take_out(&mut self, register: u16)
         requires { EntriesSo self.old }
         ensures entries { entries_of self.new ≡ put register Unspecified (entries_of self.old) }
@@ -22,6 +23,7 @@ impl<'a> Entries<'a> {
 
 impl<'a> Row<'a> {
     /// Leaves a register Unspecified (6.4.1). Takes no memory.
+    #[tactic(auto, using(crate::proofs::Lent::Narrowed::put_out, crate::proofs::Slots::entries_ascend))]
     pub fn drop_register(&mut self, register: u16)
         ensures { self.new ≡ without register self.old }
     {

@@ -29,6 +29,7 @@ pub(crate) struct Entries<'a> {
 
 impl<'a> Entries<'a> {
     /// None.
+    #[tactic(auto, using(crate::proofs::Slots::none_hold, crate::proofs::Slots::none_listed))]
     #[inline(always)]
     pub(crate) fn none(alloc: Global) -> Entries<'a>
         ensures entries { entries_of result ≡ [] }
@@ -43,6 +44,7 @@ impl<'a> Entries<'a> {
     }
 
     // The slot of a register that is specified.
+    #[tactic(auto, using(crate::proofs::Slots::is_given, crate::proofs::Slots::is_set, crate::proofs::Slots::not_in, crate::proofs::Slots::not_set, crate::proofs::Slots::one_in))]
     #[inline(always)]
     pub(crate) fn slot(&self, register: u16) -> Option<Slot>
         requires so { EntriesSo self.now }
@@ -279,6 +281,7 @@ impl<'a> Entries<'a> {
     }
 
     // Gives a register that has a slot a rule that is no expression.
+    #[tactic(auto, using(crate::proofs::Slots::plain_put, crate::proofs::Slots::plain_holds, crate::proofs::Slots::set_length))]
     #[inline(always)]
     fn put_plain(&mut self, register: u16, slot: Slot)
         requires so { EntriesSo self.old }
@@ -292,6 +295,7 @@ impl<'a> Entries<'a> {
     }
 
     // Gives a register that has a slot a rule that is kept beside it.
+    #[tactic(auto, using(crate::proofs::Slots::expression_put, crate::proofs::Slots::expression_holds, crate::proofs::Slots::put_so, crate::proofs::Slots::set_length))]
     #[inline(never)]
     fn put_beside(&mut self, register: u16, rule: RegRule<'a>) -> Result<(), AllocError>
         requires so { EntriesSo self.old }
@@ -404,6 +408,7 @@ impl<'a> Entries<'a> {
     }
 
     // Makes them a copy of others, where both have the same trees.
+    #[tactic(auto, using(crate::proofs::Copied::slots_copied, crate::proofs::Copied::slots_copied_so))]
     #[inline(always)]
     fn copy_narrow(&mut self, others: &Entries<'a>)
         requires so { EntriesSo self.old }
@@ -466,6 +471,7 @@ impl<'a> Entries<'a> {
     }
 
     // Takes a register out that may have a slot.
+    #[tactic(auto, using(crate::proofs::Slots::dropped_holds, crate::proofs::Slots::dropped_put))]
     #[inline(always)]
     pub(crate) fn drop_near(&mut self, register: u16)
         requires so { EntriesSo self.old }

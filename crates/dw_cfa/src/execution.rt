@@ -54,6 +54,7 @@ pub(crate) fn next_row<'a>(
 
 /// Runs a program up to the end of the last row that starts at or below an address, which the machine has then. Answers
 /// whether the program goes on behind it. Where it is known that the program has no fault, no expression is judged again.
+#[tactic(auto, using(crate::proofs::RowsTo::ends_above, crate::proofs::RunSteps::rows_end, crate::proofs::StopsTo::not_below))]
 #[inline(always)]
 pub(crate) fn run_to<'a, K: Keep<'a>>(
     cursor: &mut Cursor<'a>,
@@ -89,6 +90,7 @@ pub(crate) fn run_to<'a, K: Keep<'a>>(
 }
 
 // Runs an instruction of a CIE's program.
+#[tactic(auto, using(crate::proofs::RunSteps::initial_read, crate::proofs::Turns::entered, crate::proofs::Turns::in_limit))]
 #[inline(always)]
 fn write_one<'a>(
     cursor: &mut Cursor<'a>,

@@ -59,6 +59,7 @@ impl<'a> Entries<'a> {
     }
 
     // Takes those out that may have slots and that others leave Unspecified.
+    #[tactic(auto, using(crate::proofs::Lent::Narrowed::both_hold, crate::proofs::Lent::Narrowed::kept_below))]
     #[inline(always)]
     fn keep_near(&mut self, others: &Entries<'_>)
         requires so { EntriesSo self.old }

@@ -1,12 +1,12 @@
 //! What is done with the instructions of a program, one after another.
 
 ghost use Rattle.std.specs.Prelude.{◌≡◌, ℕ, ◌≤◌, false, nat_lt, true};
-ghost use Rattle.dw_num.specs.declared.refusal.{Code.TheVariants.{CfaNotRegister, NotInCie}, Refusal.Refusal};
+ghost use Rattle.dw_num.specs.declared.refusal.Refusal.{Refusal};
 ghost use Rattle.dw_cfa.specs.declared.instr.{Instr.Instr, Instr.TheVariants.{Advance, DefCfa, DefCfaExpression, DefCfaOffset, DefCfaRegister}};
 ghost use Rattle.dw_cfa.specs.declared.{instr.Instr.TheVariants.{Nop, RememberState, Restore, RestoreState, Set, SetLoc}, machine.End.End};
 ghost use Rattle.dw_cfa.specs.{declared.machine.Machine.Machine, Inner.Turns.{Did, IsWithinLimit, cie_machine}};
 
-use crate::machine::{End, Machine, refused};
+use crate::machine::{End, Machine, refuse};
 use crate::row::Row;
 use crate::rule::{CfaRule, RegRule};
 use dw_num::{Code, Refusal};
@@ -83,16 +83,6 @@ pub(crate) trait Keep<'a> {
         ensures { result ≡ nat_lt address (machine self.now).location };
 }
 
-/// Refuses to keep half of a rule that is no register plus an offset.
-#[inline(never)]
-pub(crate) fn not_register(at: u64, fault: &mut Refusal) -> End
-    ensures end { result ≡ End.Refused }
-    ensures fault { fault.new ≡ record { code = CfaNotRegister; at = at } }
-{
-    let code = Code::CfaNotRegister;
-    refused(Refusal { code, at }, fault)
-}
-
 impl<'a> Keep<'a> for Machine<'a> {
     ghost machine = { λ m. m };
 
@@ -113,7 +103,7 @@ impl<'a> Keep<'a> for Machine<'a> {
     #[inline(always)]
     fn def_cfa_register(&mut self, register: u16, at: u64, fault: &mut Refusal) -> End {
         let CfaRule::Register { offset, .. } = self.states.row().cfa() else {
-            return not_register(at, fault);
+            return refuse(Code::CfaNotRegister, at, fault);
         };
         let rule = CfaRule::Register { register, offset };
         self.states.set_cfa(rule);
@@ -123,7 +113,7 @@ impl<'a> Keep<'a> for Machine<'a> {
     #[inline(always)]
     fn def_cfa_offset(&mut self, offset: i64, at: u64, fault: &mut Refusal) -> End {
         let CfaRule::Register { register, .. } = self.states.row().cfa() else {
-            return not_register(at, fault);
+            return refuse(Code::CfaNotRegister, at, fault);
         };
         let rule = CfaRule::Register { register, offset };
         self.states.set_cfa(rule);
@@ -161,8 +151,7 @@ impl<'a> Keep<'a> for Machine<'a> {
     #[inline(always)]
     fn remember(&mut self, at: u64, fault: &mut Refusal) -> End {
         if self.states.depth() >= MOST_REMEMBERED {
-            let code = Code::StateStackFull;
-            return refused(Refusal { code, at }, fault);
+            return refuse(Code::StateStackFull, at, fault);
         }
         if self.states.remember().is_err() {
             return End::OutOfMemory;
@@ -174,10 +163,7 @@ impl<'a> Keep<'a> for Machine<'a> {
     fn recall(&mut self, at: u64, fault: &mut Refusal) -> End {
         match self.states.restore() {
             Ok(true) => End::On,
-            Ok(false) => {
-                let code = Code::EmptyStateStack;
-                refused(Refusal { code, at }, fault)
-            }
+            Ok(false) => refuse(Code::EmptyStateStack, at, fault),
             Err(_) => End::OutOfMemory,
         }
     }
@@ -185,8 +171,7 @@ impl<'a> Keep<'a> for Machine<'a> {
     #[inline(always)]
     fn advance(&mut self, distance: u128, at: u64, fault: &mut Refusal) -> End {
         if distance > self.limit - self.location {
-            let code = Code::LocationTooLarge;
-            return refused(Refusal { code, at }, fault);
+            return refuse(Code::LocationTooLarge, at, fault);
         }
         self.location += distance;
         End::Moved
@@ -196,8 +181,7 @@ impl<'a> Keep<'a> for Machine<'a> {
     fn go(&mut self, address: u64, at: u64, fault: &mut Refusal) -> End {
         let address = u128::from(address);
         if address < self.location {
-            let code = Code::LocationBackwards;
-            return refused(Refusal { code, at }, fault);
+            return refuse(Code::LocationBackwards, at, fault);
         }
         self.location = address;
         End::Moved
@@ -207,16 +191,6 @@ impl<'a> Keep<'a> for Machine<'a> {
     fn is_above(&self, address: u64) -> bool {
         self.location > u128::from(address)
     }
-}
-
-// What a CIE's program may not hold.
-#[inline(never)]
-fn not_in_cie(at: u64, fault: &mut Refusal) -> End
-    ensures end { result ≡ End.Refused }
-    ensures fault { fault.new ≡ record { code = NotInCie; at = at } }
-{
-    let code = Code::NotInCie;
-    refused(Refusal { code, at }, fault)
 }
 
 /// A CIE's program gives rules to one row, and nothing else (6.4.1).
@@ -240,7 +214,7 @@ impl<'a> Keep<'a> for Row<'a> {
     #[inline(always)]
     fn def_cfa_register(&mut self, register: u16, at: u64, fault: &mut Refusal) -> End {
         let CfaRule::Register { offset, .. } = self.cfa() else {
-            return not_register(at, fault);
+            return refuse(Code::CfaNotRegister, at, fault);
         };
         let rule = CfaRule::Register { register, offset };
         self.set_cfa(rule);
@@ -250,7 +224,7 @@ impl<'a> Keep<'a> for Row<'a> {
     #[inline(always)]
     fn def_cfa_offset(&mut self, offset: i64, at: u64, fault: &mut Refusal) -> End {
         let CfaRule::Register { register, .. } = self.cfa() else {
-            return not_register(at, fault);
+            return refuse(Code::CfaNotRegister, at, fault);
         };
         let rule = CfaRule::Register { register, offset };
         self.set_cfa(rule);
@@ -277,23 +251,23 @@ impl<'a> Keep<'a> for Row<'a> {
     }
 
     fn restore(&mut self, _register: u16, at: u64, fault: &mut Refusal) -> End {
-        not_in_cie(at, fault)
+        refuse(Code::NotInCie, at, fault)
     }
 
     fn remember(&mut self, at: u64, fault: &mut Refusal) -> End {
-        not_in_cie(at, fault)
+        refuse(Code::NotInCie, at, fault)
     }
 
     fn recall(&mut self, at: u64, fault: &mut Refusal) -> End {
-        not_in_cie(at, fault)
+        refuse(Code::NotInCie, at, fault)
     }
 
     fn advance(&mut self, _distance: u128, at: u64, fault: &mut Refusal) -> End {
-        not_in_cie(at, fault)
+        refuse(Code::NotInCie, at, fault)
     }
 
     fn go(&mut self, _address: u64, at: u64, fault: &mut Refusal) -> End {
-        not_in_cie(at, fault)
+        refuse(Code::NotInCie, at, fault)
     }
 
     fn is_above(&self, _address: u64) -> bool {

@@ -1,7 +1,7 @@
 //! A row that was kept, and the registers that were set since (6.4.1).
 
-ghost use Rattle.std.specs.Prelude.{◌≡◌, ◌↔◌, ℕ, List, false, IsTrue, OnErr, OnOk};
-ghost use Rattle.dw_cfa.specs.{Difference.{FirstDifference, place_behind}, Rows.{AreSpecified, blank, rule_in}, declared.rule.RegRule.{RegRule as TheRule}};
+ghost use Rattle.std.specs.Prelude.{◌≡◌, ◌↔◌, ℕ, false, IsTrue, OnErr, OnOk};
+ghost use Rattle.dw_cfa.specs.{Difference.{FirstDifference, place_behind}, Rows.{AreSpecified, blank, rule_in}};
 ghost use Rattle.dw_cfa.specs.Inner.{Difference.SameUnset, Marks.{CopiedUpTo, KeptSo, MarksSo, SameUnlisted, SameUnmarked}};
 
 use crate::behind::{place_behind, start_behind};
@@ -151,7 +151,7 @@ impl<'a> KeptRow<'a> {
     pub(crate) fn none(alloc: Global) -> KeptRow<'a>
         ensures row { result.row ≡ blank }
         ensures watched { result.marks.watched ≡ false }
-        ensures so { (registers : List (ℕ × TheRule)) → KeptSo result.marks result.row.registers registers }
+        ensures so { MarksSo result.marks }
     {
         KeptRow {
             row: Row::blank(alloc),
@@ -173,7 +173,7 @@ impl<'a> KeptRow<'a> {
         requires { MarksSo self.old.marks }
         ensures row { self.new.row ≡ self.old.row }
         ensures watched { self.new.marks.watched ≡ false }
-        ensures so { (registers : List (ℕ × TheRule)) → KeptSo self.new.marks self.new.row.registers registers }
+        ensures so { MarksSo self.new.marks }
     {
         self.marks.forget();
     }
@@ -230,6 +230,7 @@ impl<'a> KeptRow<'a> {
     }
 
     /// Whether a row is the kept one.
+    #[tactic(auto, using(crate::proofs::Marked::kept_exactly))]
     #[inline(always)]
     pub(crate) fn is_same(&self, row: &Row<'_>) -> bool
         requires { KeptSo self.now.marks self.now.row.registers row.now.registers }

@@ -6,8 +6,8 @@ ghost use Rattle.dw_num.specs.Target.{address_limit};
 ghost use Rattle.dw_cfa.specs.{Rows.blank, Inner.LookUp.{SpecifiesIn, kept_if, look_up_at}, Inner.Turns.Did};
 
 use crate::entries::NEAR;
-use crate::keep::{Keep, not_register};
-use crate::machine::{End, refused};
+use crate::keep::Keep;
+use crate::machine::{End, refuse};
 use crate::near_slots::is_in;
 use crate::row::Row;
 use crate::rule::{CfaRule, RegRule};
@@ -112,7 +112,7 @@ impl<'a> Keep<'a> for LookUp<'a> {
     #[inline(always)]
     fn def_cfa_register(&mut self, register: u16, at: u64, fault: &mut Refusal) -> End {
         let CfaRule::Register { offset, .. } = self.row.cfa() else {
-            return not_register(at, fault);
+            return refuse(Code::CfaNotRegister, at, fault);
         };
         let rule = CfaRule::Register { register, offset };
         self.row.set_cfa(rule);
@@ -122,7 +122,7 @@ impl<'a> Keep<'a> for LookUp<'a> {
     #[inline(always)]
     fn def_cfa_offset(&mut self, offset: i64, at: u64, fault: &mut Refusal) -> End {
         let CfaRule::Register { register, .. } = self.row.cfa() else {
-            return not_register(at, fault);
+            return refuse(Code::CfaNotRegister, at, fault);
         };
         let rule = CfaRule::Register { register, offset };
         self.row.set_cfa(rule);
@@ -174,8 +174,7 @@ impl<'a> Keep<'a> for LookUp<'a> {
     #[inline(never)]
     fn recall(&mut self, at: u64, fault: &mut Refusal) -> End {
         if !self.remembers {
-            let code = Code::EmptyStateStack;
-            return refused(Refusal { code, at }, fault);
+            return refuse(Code::EmptyStateStack, at, fault);
         }
         if self.row.become_copy(&self.kept).is_err() {
             return End::OutOfMemory;
@@ -198,8 +197,7 @@ impl<'a> Keep<'a> for LookUp<'a> {
     #[inline(always)]
     fn go(&mut self, address: u64, at: u64, fault: &mut Refusal) -> End {
         if address < self.location {
-            let code = Code::LocationBackwards;
-            return refused(Refusal { code, at }, fault);
+            return refuse(Code::LocationBackwards, at, fault);
         }
         self.location = address;
         End::Moved

@@ -6,7 +6,7 @@ ghost use Rattle.dw_cfa.specs.{Rows.blank, Inner.LookUp.look_up_at};
 
 use crate::row::Row;
 use crate::states::States;
-use dw_num::{Refusal, Target};
+use dw_num::{Code, Refusal, Target};
 use std::alloc::Global;
 
 /// The state of the machine in an FDE's program: the initial row, the current one with the remembered ones, and
@@ -55,4 +55,13 @@ pub(crate) fn refused(refusal: Refusal, fault: &mut Refusal) -> End
 {
     *fault = refusal;
     End::Refused
+}
+
+/// Ends with the refusal of the instruction at a place. Out of line, as most are accepted.
+#[inline(never)]
+pub(crate) fn refuse(code: Code, at: u64, fault: &mut Refusal) -> End
+    ensures end { result ≡ End.Refused }
+    ensures fault { fault.new ≡ record { code = code; at = at } }
+{
+    refused(Refusal { code, at }, fault)
 }

@@ -95,6 +95,7 @@ impl<'a> Marks<'a> {
     }
 
     // Marks the registers in a tree.
+    #[tactic(auto, using(crate::proofs::Words::err_from_is_err_and, crate::proofs::RegisterSets::none_else))]
     pub(crate) fn mark_all(&mut self, far: &BTreeMap<u16, RegRule<'_>>) -> Result<(), AllocError>
         requires so { MarksSo self.old }
         requires watched { IsTrue self.old.watched }
@@ -113,6 +114,7 @@ impl<'a> Marks<'a> {
     }
 
     /// Marks what others mark, or answers want of memory. Where either watches none, none is watched any more.
+    #[tactic(auto, using(crate::proofs::RegisterSets::all_marked, crate::proofs::RegisterSets::more_marked))]
     #[inline(always)]
     pub(crate) fn add_all(&mut self, others: &Marks<'_>) -> Result<(), AllocError>
         requires so { MarksSo self.old }

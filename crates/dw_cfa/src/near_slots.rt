@@ -24,6 +24,7 @@ pub(crate) fn bit_of(register: u16) -> u128
 }
 
 /// Whether a register is in a mask, of which one half is looked at.
+#[tactic(auto, using(crate::proofs::Slots::high_half, crate::proofs::Slots::low_half))]
 #[inline(always)]
 pub(crate) fn is_in(mask: u128, register: u16) -> bool
     requires { register < 128 }
@@ -96,6 +97,7 @@ pub(crate) fn copy_slots(slots: &mut [Slot; 128], others: &[Slot; 128], mask: u1
 }
 
 /// The first register from a place on that the mask has, and its rule.
+#[tactic(auto, using(crate::proofs::Slots::none_used, crate::proofs::Slots::next_used))]
 #[inline(always)]
 pub(crate) fn next_near<'a>(
     at: u16,

@@ -102,6 +102,7 @@ impl<'a> Keep<'a> for Noted<'a> {
 
 /// The instruction at the front of a program, its factors multiplied out, or its first fault: an opcode that
 /// is no instruction's, then its operands' from left to right, then an offset that is too large.
+#[tactic(auto, using(crate::proofs::Turns::in_limit))]
 pub(crate) fn read_instr<'a>(
     cursor: &mut Cursor<'a>,
     factors: Factors,

@@ -57,7 +57,7 @@ fn signed_in(byte: u8) -> Option<i64>
 
 // The offset of the CFA that a code gives by one byte.
 #[inline(always)]
-#[tactic(auto, using(crate::proofs::FirstRows::plain_given))]
+#[tactic(auto, using(crate::proofs::FirstRows::plain_given, crate::proofs::FirstRows::signed_given))]
 fn offset_by(code: u8, operand: u8, factors: Factors) -> Option<i64>
     ensures { IfSome result (λ n. GivesOffset factors code (operand ∷ []) n) }
 {
@@ -139,6 +139,7 @@ fn row_of(instrs: &mut Instructions<'_>) -> FirstRow
 /// location by more than 0, or there is none, it is the row that its CIE's program leaves; and where a `DW_CFA_def_cfa_offset` or
 /// `DW_CFA_def_cfa_offset_sf` comes before, it is that row with this offset of the CFA. `Other` for a `DW_CFA_set_loc`, which may
 /// stay where it is. Takes no memory.
+#[tactic(auto, using(crate::proofs::FirstRows::answers_first))]
 #[inline(always)]
 pub fn first_row(program: Program<'_>, factors: Factors, target: Target) -> FirstRow
     ensures { (instrs : List TheInstr) → ProgramSpells target factors instrs program.entry.bytes.now → result ≡ first_row instrs }

@@ -69,6 +69,7 @@ impl<'a> RegisterSet<'a> {
 }
 
 // Drops a register from a row, if another row gives it another rule.
+#[tactic(auto, using(crate::proofs::RegisterSets::dropped_at, crate::proofs::RegisterSets::stays_at))]
 fn agree_at(row: &mut Row<'_>, other: &Row<'_>, register: u16) -> Result<(), AllocError>
     ensures cfa { row.new.cfa ≡ row.old.cfa }
     ensures rules { OnOk result (LeavesAt (is_agreed other.now.registers) register row.old.registers row.new.registers) }

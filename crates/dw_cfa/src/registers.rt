@@ -2,7 +2,7 @@
 
 ghost use Rattle.std.specs.Prelude.{IsOk, IsTrue};
 ghost use Rattle.dw_cfa.specs.Inner.ByOpcode.{undefined_at, same_value_at, offset_at, offset_extended_at, offset_extended_sf_at, val_offset_at};
-ghost use Rattle.dw_cfa.specs.Inner.{ByOpcode.{val_offset_sf_at, register_rule_at, expression_at, val_expression_at, restore_at}, Turns.{IsWithinLimit, Taken}};
+ghost use Rattle.dw_cfa.specs.Inner.{ByOpcode.{val_offset_sf_at, register_rule_at, expression_at, restore_at}, Turns.{IsWithinLimit, Taken}};
 
 use crate::instr::Factors;
 use crate::keep::Keep;
@@ -204,19 +204,20 @@ pub(crate) fn run_register<'a, K: Keep<'a>>(
     keep.set(register, RegRule::Register(other), at, fault)
 }
 
-/// A register is saved where an expression says. One that is known to be accepted is not judged again.
+/// A register is saved where an expression says, or is what that gives. One that is known to be accepted is not judged again.
 #[tactic(auto, unfolding(crate::specs::Inner::ByOpcode::expression_at))]
 #[inline(never)]
 pub(crate) fn run_expression<'a, K: Keep<'a>>(
     cursor: &mut Cursor<'a>,
+    is_value: bool,
     keep: &mut K,
     at: u64,
     known: bool,
     fault: &mut Refusal,
 ) -> End
     requires location { IsWithinLimit (K.machine keep.old) }
-    requires known { IsTrue known → IsOk (expression_at cursor.old) }
-    ensures { Taken K.takes (expression_at cursor.old) at keep.old result fault.new cursor.new keep.new }
+    requires known { IsTrue known → IsOk (expression_at is_value cursor.old) }
+    ensures { Taken K.takes (expression_at is_value cursor.old) at keep.old result fault.new cursor.new keep.new }
 {
     let register = match cursor.register() {
         Ok(register) => register,
@@ -226,30 +227,10 @@ pub(crate) fn run_expression<'a, K: Keep<'a>>(
         Ok(expression) => expression,
         Err(refusal) => return refused(refusal, fault),
     };
-    keep.set(register, RegRule::Expression(expression), at, fault)
-}
-
-/// A register is what an expression gives. One that is known to be accepted is not judged again.
-#[tactic(auto, unfolding(crate::specs::Inner::ByOpcode::val_expression_at))]
-#[inline(never)]
-pub(crate) fn run_val_expression<'a, K: Keep<'a>>(
-    cursor: &mut Cursor<'a>,
-    keep: &mut K,
-    at: u64,
-    known: bool,
-    fault: &mut Refusal,
-) -> End
-    requires location { IsWithinLimit (K.machine keep.old) }
-    requires known { IsTrue known → IsOk (val_expression_at cursor.old) }
-    ensures { Taken K.takes (val_expression_at cursor.old) at keep.old result fault.new cursor.new keep.new }
-{
-    let register = match cursor.register() {
-        Ok(register) => register,
-        Err(refusal) => return refused(refusal, fault),
+    let rule = if is_value {
+        RegRule::ValExpression(expression)
+    } else {
+        RegRule::Expression(expression)
     };
-    let expression = match block(cursor, known) {
-        Ok(expression) => expression,
-        Err(refusal) => return refused(refusal, fault),
-    };
-    keep.set(register, RegRule::ValExpression(expression), at, fault)
+    keep.set(register, rule, at, fault)
 }

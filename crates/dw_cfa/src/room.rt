@@ -3,7 +3,7 @@
 ghost use Rattle.std.specs.Prelude.{◌≡◌, ◌<◌, ◌≤◌, Some, IfErr, OnOk};
 ghost use Rattle.dw_num.specs.{Refusals.Refuses, Target.address_limit};
 ghost use Rattle.dw_cfa.specs.{Faults.{FaultUpTo, NoFaultUpTo}, Gives.RunsTo, RowSteps.program_input, Rows.blank};
-ghost use Rattle.dw_cfa.specs.{RuleAt.last_at, Runs.Outcome, Inner.RuleAt.FoundAt, Inner.Runs.{RunsSo, run_rows, run_stop}};
+ghost use Rattle.dw_cfa.specs.{RuleAt.last_at, Runs.Outcome, Inner.RuleAt.FoundAt, Inner.Runs.RunsSo};
 
 use crate::execution::{lead, run_initial, run_to};
 use crate::instr::Factors;
@@ -15,6 +15,7 @@ use std::alloc::Global;
 use std::marker::Model;
 
 // Runs a CIE's program, and an FDE's up to the end of the last row that starts at or below an address.
+#[tactic(auto, using(crate::proofs::Words::err_from_is_err_and, crate::proofs::Lent::Given::refusal_weaker, crate::proofs::RunSteps::run_stuck, crate::proofs::RunSteps::run_ran))]
 #[inline(always)]
 fn run_both<'a>(
     cie: &mut Cursor<'a>,
@@ -25,7 +26,7 @@ fn run_both<'a>(
 ) -> Result<(), ReadError>
     requires so { RunsSo machine.old fde.old }
     requires start { machine.old.location ≤ address }
-    ensures { FoundAt address (run_rows factors cie.old fde.old machine.old.location) (run_stop factors cie.old fde.old machine.old.location) machine.new.states.row result }
+    ensures { FoundAt address factors cie.old fde.old machine.old.location machine.new.states.row result }
 {
     lead(cie, factors, machine, false)?;
     let _ = run_to(fde, factors, machine, address, false)?;
@@ -33,6 +34,7 @@ fn run_both<'a>(
 }
 
 // The same, by what a look-up keeps.
+#[tactic(auto, using(crate::proofs::Words::err_from_is_err_and, crate::proofs::Lent::Given::refusal_weaker, crate::proofs::LookUps::look_up_ran, crate::proofs::RunSteps::run_stuck))]
 #[inline(always)]
 fn run_look_up<'a>(
     cie: &mut Cursor<'a>,
@@ -44,7 +46,7 @@ fn run_look_up<'a>(
 ) -> Result<(), ReadError>
     requires begin { begin < address_limit fde.old.target.size }
     requires start { begin ≤ address }
-    ensures { FoundAt address (run_rows factors cie.old fde.old begin) (run_stop factors cie.old fde.old begin) look.new.row result }
+    ensures { FoundAt address factors cie.old fde.old begin look.new.row result }
 {
     run_initial(cie, factors, &mut look.row, false)?;
     look.begin(begin, fde.target().size);
@@ -93,7 +95,7 @@ impl<'a> RowRoom<'a> {
     ) -> Result<(), ReadError>
         requires begin { begin < address_limit target.size }
         requires start { begin ≤ address }
-        ensures { FoundAt address (run_rows factors (program_input cie_program.entry target) (program_input fde_program.entry target) begin) (run_stop factors (program_input cie_program.entry target) (program_input fde_program.entry target) begin) self.new result }
+        ensures { FoundAt address factors (program_input cie_program.entry target) (program_input fde_program.entry target) begin self.new result }
     {
         let mut machine = Machine::new(self.alloc, begin, target);
         let mut cie = Cursor::new(cie_program.bytes, cie_program.at, target);
@@ -116,7 +118,7 @@ impl<'a> RowRoom<'a> {
     ) -> Result<(), ReadError>
         requires begin { begin < address_limit target.size }
         requires start { begin ≤ address }
-        ensures { FoundAt address (run_rows factors (program_input cie_program.entry target) (program_input fde_program.entry target) begin) (run_stop factors (program_input cie_program.entry target) (program_input fde_program.entry target) begin) self.new result }
+        ensures { FoundAt address factors (program_input cie_program.entry target) (program_input fde_program.entry target) begin self.new result }
     {
         let mut cie = Cursor::new(cie_program.bytes, cie_program.at, target);
         let mut fde = Cursor::new(fde_program.bytes, fde_program.at, target);

@@ -220,6 +220,7 @@ impl<'a> Row<'a> {
     }
 
     /// Registers ascend. This does nothing.
+    #[tactic(auto, using(crate::proofs::Slots::entries_ascend))]
     pub fn ascends(&self)
         ensures { AreSpecified 0 self.now.registers }
     {

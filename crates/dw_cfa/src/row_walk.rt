@@ -37,6 +37,7 @@ fn is_equal(leading: Leading<'_>, other: Leading<'_>) -> bool
 }
 
 // Whether both leave the same row: equal programs are read alike, wherever they stand.
+#[tactic(auto, using(crate::proofs::Walks::initial_elsewhere))]
 fn leads_same(leading: Leading<'_>, other: Leading<'_>) -> bool
     ensures { IsTrue result → LeadsSame leading.entry other.entry }
 {
@@ -45,6 +46,7 @@ fn leads_same(leading: Leading<'_>, other: Leading<'_>) -> bool
 }
 
 // Runs a CIE's program in a machine, which has its row then.
+#[tactic(auto, using(crate::proofs::StatesLaws::began))]
 #[inline(never)]
 fn run_cie<'a>(leading: Leading<'a>, machine: &mut Machine<'a>) -> Result<(), ReadError>
     requires { IsOk (initial_row (placed leading.factors (program_input leading.program leading.target)) blank) }
@@ -79,6 +81,7 @@ fn ready<'a>(leading: Leading<'a>, machine: &mut Machine<'a>, kept: bool) -> Res
 
 // Brings a CIE's row about, and runs an FDE's program up to the end of its first row. Out of line: room for its errors is
 // cleared at each row else.
+#[tactic(auto, using(crate::proofs::StaySpecified::led_keeps, crate::proofs::StaySpecified::row_behind, crate::proofs::Walks::led_initial, crate::proofs::Walks::led_ran))]
 #[inline(never)]
 fn first_row<'a>(
     leading: &Leading<'a>,
@@ -103,6 +106,7 @@ fn first_row<'a>(
 }
 
 // Brings a CIE's row about, and runs an FDE's program up to the end of the last row that starts at or below an address.
+#[tactic(auto, using(crate::proofs::RowsTo::only_memory, crate::proofs::Walks::led_initial, crate::proofs::Walks::led_ran))]
 #[inline(always)]
 fn first_to<'a>(
     leading: Leading<'a>,
@@ -128,6 +132,7 @@ fn first_to<'a>(
 }
 
 // The same from where a walk stands.
+#[tactic(auto, using(crate::proofs::RowsTo::walked))]
 #[inline(always)]
 fn walk_to<'a>(
     progress: Progress,
@@ -154,6 +159,7 @@ fn walk_to<'a>(
 }
 
 // Brings a CIE's row about, and keeps it.
+#[tactic(auto, using(crate::proofs::Walks::left_kept))]
 fn keep_ready<'a>(
     leading: Leading<'a>,
     machine: &mut Machine<'a>,
@@ -315,6 +321,7 @@ impl<'a> RowWalk<'a> {
     /// Goes on to the next row (6.4.1, 6.4.3), which `row` lends then, and answers the location that it starts at, or none behind
     /// the last row. No row is copied. The only error is `OutOfMemory`, since the programs are known to have no fault; it is
     /// answered from then on, until `go_to`.
+    #[tactic(auto, using(crate::proofs::Walks::goes_on_stands))]
     #[inline(always)]
     pub fn advance(&mut self) -> Result<Option<u128>, ReadError>
         ensures advances { Advances self.old.steps result self.new.steps }
@@ -402,6 +409,7 @@ impl<'a> RowWalk<'a> {
     /// Keeps the row that the CIE's program (`initial_instructions`, 6.4.1) leaves, where no row was gone on to yet behind `go_to` or
     /// `go_on`, and says whether it did: the first row is then compared with it by what the FDE's program set. The row that is lent
     /// may be another one then. Want of memory is answered from then on, until `go_to`.
+    #[tactic(auto, using(crate::proofs::Walks::led_initial))]
     pub fn keep_initial(&mut self) -> Result<bool, AllocError>
         ensures kept { IfOk result (λ kept. IsTrue kept → LeavesTo self.old.led.factors self.old.led.program (Ok self.new.kept)) }
         ensures begun { IfOk result (λ kept. IsTrue kept ↔ (self.old.initial ≡ None) × (self.old.steps.outcome ≡ finished → ⊥)) }
@@ -483,6 +491,7 @@ impl<'a> RowWalk<'a> {
     /// Whether no row is to come, or rows are to come behind one that was gone on to and the CIE's row (that of its
     /// `initial_instructions`, 6.4.1) specifies every register that a row specifies. Then each row still to come specifies them
     /// too. Takes no memory.
+    #[tactic(auto, using(crate::proofs::StaySpecified::walk_keeps))]
     pub fn keeps(&self, row: &Row<'_>) -> bool
         ensures keeps { IsTrue result → AllKeep row.now self.now.steps.outcome.rows }
         ensures exact { IsTrue result ↔ CieKeeps self.now row.now }

@@ -1,8 +1,8 @@
 //! The current row and the remembered ones (6.4.2.4).
 
-ghost use Rattle.std.specs.Prelude.{◌≡◌, ◌<◌, [], ◌∷◌, length, reverse, None, OnOk, IfOk, IsTrue, ◌↔◌, false};
+ghost use Rattle.std.specs.Prelude.{◌≡◌, ◌<◌, [], length, reverse, None, OnOk, IfOk, IsTrue, ◌↔◌, false};
 ghost use Rattle.dw_cfa.specs.{Difference.{FirstDifference, place_behind}, Rows.{AreSpecified, blank, rule_in}};
-ghost use Rattle.dw_cfa.specs.Inner.{Rows.{with_cfa, with_rule}, States.{first_if, BeganWith, Restored, TakenBack, rows_before}};
+ghost use Rattle.dw_cfa.specs.Inner.{Rows.{with_cfa, with_rule}, States.{first_if, BeganWith, Restored, TakenBack, remembering, rows_before, with_row}};
 
 use crate::entries::NEAR;
 use crate::kept_row::KeptRow;
@@ -158,6 +158,7 @@ fn saves(tracked: bool, depth: usize, row: &Row<'_>) -> bool
 
 impl<'a> States<'a> {
     /// The row alone. Where changes are tracked, `rewind` brings it back in as many steps as it was changed.
+    #[tactic(auto, using(crate::proofs::StatesLaws::begun_held))]
     pub(crate) fn new(alloc: Global, row: Row<'a>, tracked: bool) -> States<'a>
         ensures { result ≡ record { row = row.entry; stack = []; first = first_if tracked row.entry.registers; kept = blank } }
     {
@@ -237,6 +238,7 @@ impl<'a> States<'a> {
     }
 
     /// Remembers no row, and says whether changes are tracked from the current one on.
+    #[tactic(auto, using(crate::proofs::StatesLaws::begun_held, crate::proofs::StatesLaws::begun_so))]
     pub(crate) fn track(&mut self, tracked: bool)
         ensures { self.new ≡ record { row = self.old.row; stack = []; first = first_if tracked self.old.row.registers; kept = self.old.kept } }
     {
@@ -255,16 +257,17 @@ impl<'a> States<'a> {
     }
 
     pub(crate) fn set_cfa(&mut self, cfa: CfaRule<'a>)
-        ensures { self.new ≡ record { row = with_cfa cfa.entry self.old.row; stack = self.old.stack; first = self.old.first; kept = self.old.kept } }
+        ensures { self.new ≡ with_row (with_cfa cfa.entry self.old.row) self.old }
     {
         self.rows.set_cfa(cfa);
     }
 
     // Lists the rule that a register has, and gives it another one.
+    #[tactic(auto, using(crate::proofs::StatesLaws::listed_behind, crate::proofs::StatesLaws::ruled, crate::proofs::StatesLaws::same_held, crate::proofs::StatesLaws::same_so))]
     #[inline(never)]
     fn change(&mut self, register: u16, rule: RegRule<'a>) -> Result<(), AllocError>
         ensures kept { self.new.kept ≡ self.old.kept }
-        ensures changed { OnOk result (self.new ≡ record { row = with_rule register rule.entry self.old.row; stack = self.old.stack; first = self.old.first; kept = self.old.kept }) }
+        ensures changed { OnOk result (self.new ≡ with_row (with_rule register rule.entry self.old.row) self.old) }
     {
         self.is_listed = true;
         let row = self.rows.row();
@@ -275,10 +278,11 @@ impl<'a> States<'a> {
     }
 
     /// Gives a register a rule, or answers want of memory.
+    #[tactic(auto, using(crate::proofs::StatesLaws::ruled, crate::proofs::StatesLaws::set_held))]
     #[inline(always)]
     pub(crate) fn set(&mut self, register: u16, rule: RegRule<'a>) -> Result<(), AllocError>
         ensures kept { self.new.kept ≡ self.old.kept }
-        ensures set { OnOk result (self.new ≡ record { row = with_rule register rule.entry self.old.row; stack = self.old.stack; first = self.old.first; kept = self.old.kept }) }
+        ensures set { OnOk result (self.new ≡ with_row (with_rule register rule.entry self.old.row) self.old) }
     {
         if self.is_listed {
             return self.change(register, rule);
@@ -292,16 +296,17 @@ impl<'a> States<'a> {
     #[inline(never)]
     fn set_rule_of(&mut self, row: &Row<'a>, register: u16) -> Result<(), AllocError>
         ensures kept { self.new.kept ≡ self.old.kept }
-        ensures set { OnOk result (self.new ≡ record { row = with_rule register (rule_in row.now.registers register) self.old.row; stack = self.old.stack; first = self.old.first; kept = self.old.kept }) }
+        ensures set { OnOk result (self.new ≡ with_row (with_rule register (rule_in row.now.registers register) self.old.row) self.old) }
     {
         self.set(register, row.rule(register))
     }
 
     /// Gives a register the rule that a row gives it, or answers want of memory.
+    #[tactic(auto, using(crate::proofs::StatesLaws::ruled, crate::proofs::StatesLaws::set_held))]
     #[inline(always)]
     pub(crate) fn set_as(&mut self, row: &Row<'a>, register: u16) -> Result<(), AllocError>
         ensures kept { self.new.kept ≡ self.old.kept }
-        ensures set { OnOk result (self.new ≡ record { row = with_rule register (rule_in row.now.registers register) self.old.row; stack = self.old.stack; first = self.old.first; kept = self.old.kept }) }
+        ensures set { OnOk result (self.new ≡ with_row (with_rule register (rule_in row.now.registers register) self.old.row) self.old) }
     {
         if register >= NEAR {
             return self.set_rule_of(row, register);
@@ -315,11 +320,12 @@ impl<'a> States<'a> {
     }
 
     // Lists the current row as one that is remembered.
+    #[tactic(auto, using(crate::proofs::StatesLaws::listed_held, crate::proofs::StatesLaws::listed_so, crate::proofs::StatesLaws::mark_behind))]
     #[inline(never)]
     fn list_row(&mut self) -> Result<(), AllocError>
         requires { length self.old.stack < 64 }
         ensures kept { self.new.kept ≡ self.old.kept }
-        ensures remembered { OnOk result (self.new ≡ record { row = self.old.row; stack = self.old.row ∷ self.old.stack; first = self.old.first; kept = self.old.kept }) }
+        ensures remembered { OnOk result (self.new ≡ remembering self.old) }
     {
         let cfa = self.rows.row().cfa();
         self.is_listed = true;
@@ -333,7 +339,7 @@ impl<'a> States<'a> {
     pub(crate) fn remember(&mut self) -> Result<(), AllocError>
         requires { length self.old.stack < 64 }
         ensures kept { self.new.kept ≡ self.old.kept }
-        ensures remembered { OnOk result (self.new ≡ record { row = self.old.row; stack = self.old.row ∷ self.old.stack; first = self.old.first; kept = self.old.kept }) }
+        ensures remembered { OnOk result (self.new ≡ remembering self.old) }
     {
         if !saves(self.tracked, self.depth, self.rows.row()) {
             return self.list_row();
@@ -379,6 +385,7 @@ impl<'a> States<'a> {
     }
 
     /// Goes back to the initial row, which was the first, and remembers none.
+    #[tactic(auto, using(crate::proofs::Words::on_ok_weaker, crate::proofs::StatesLaws::rewound))]
     #[inline(always)]
     pub(crate) fn rewind(&mut self, initial: &Row<'a>) -> Result<(), AllocError>
         requires { BeganWith initial.now self.old.first }

@@ -34,6 +34,7 @@ pub(crate) fn progress_after(answer: Result<(u128, bool), ReadError>) -> Progres
 }
 
 // Runs a CIE's program, and an FDE's up to the end of its first row.
+#[tactic(auto, using(crate::proofs::Words::err_from_is_err_and, crate::proofs::Lent::Given::refusal_weaker, crate::proofs::RunSteps::run_stuck, crate::proofs::RunSteps::run_ran))]
 fn first_row<'a>(
     cie: &mut Cursor<'a>,
     fde: &mut Cursor<'a>,

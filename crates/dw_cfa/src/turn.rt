@@ -12,12 +12,11 @@ use crate::cfa::{
 };
 use crate::instr::Factors;
 use crate::keep::Keep;
-use crate::machine::{End, refused};
+use crate::machine::{End, refuse, refused};
 use crate::opcode::{Opcode, known_opcode};
 use crate::registers::{
     run_expression, run_offset, run_offset_extended, run_offset_extended_sf, run_register,
-    run_restore_extended, run_same_value, run_undefined, run_val_expression, run_val_offset,
-    run_val_offset_sf,
+    run_restore_extended, run_same_value, run_undefined, run_val_offset, run_val_offset_sf,
 };
 use dw_num::{Code, Cursor, Refusal, are_bytes};
 
@@ -59,8 +58,8 @@ fn apply<'a, K: Keep<'a>>(
         Opcode::ValOffset => run_val_offset(cursor, factors, keep, at, fault),
         Opcode::ValOffsetSf => run_val_offset_sf(cursor, factors, keep, at, fault),
         Opcode::Register => run_register(cursor, keep, at, fault),
-        Opcode::Expression => run_expression(cursor, keep, at, known, fault),
-        Opcode::ValExpression => run_val_expression(cursor, keep, at, known, fault),
+        Opcode::Expression => run_expression(cursor, false, keep, at, known, fault),
+        Opcode::ValExpression => run_expression(cursor, true, keep, at, known, fault),
         Opcode::Restore(register) => keep.restore(register, at, fault),
         Opcode::RestoreExtended => run_restore_extended(cursor, keep, at, fault),
         Opcode::RememberState => keep.remember(at, fault),
@@ -91,15 +90,13 @@ pub(crate) fn execute<'a, K: Keep<'a>>(
     };
     match known_opcode(code) {
         Some(opcode) => apply(opcode, cursor, factors, keep, at, known, fault),
-        None => {
-            let code = Code::UnknownInstruction;
-            refused(Refusal { code, at }, fault)
-        }
+        None => refuse(Code::UnknownInstruction, at, fault),
     }
 }
 
 /// The same of an FDE's program, in the rows still to come. Where it is known that these have no fault, no expression is judged
 /// again.
+#[tactic(auto, using(crate::proofs::RunSteps::rows_read, crate::proofs::Turns::stays, crate::proofs::Turns::turned))]
 #[inline(always)]
 pub(crate) fn turn<'a, K: Keep<'a>>(
     cursor: &mut Cursor<'a>,

@@ -29,6 +29,7 @@ impl<'a> Model for WatchedRow<'a> {
 
 impl<'a> WatchedRow<'a> {
     /// Nothing is watched until `keep`.
+    #[tactic(auto, using(crate::proofs::Marked::unwatched))]
     pub(crate) fn new(alloc: Global, row: Row<'a>) -> WatchedRow<'a>
         ensures { result ≡ watching row.entry blank }
     {
@@ -86,6 +87,7 @@ impl<'a> WatchedRow<'a> {
     }
 
     /// Goes on with a copy of another row, or answers want of memory.
+    #[tactic(auto, using(crate::proofs::Marked::unwatched))]
     pub(crate) fn become_copy(&mut self, other: &Row<'a>) -> Result<(), AllocError>
         ensures ok { OnOk result (self.new.row ≡ other.now) }
         ensures kept { self.new.kept ≡ self.old.kept }
@@ -96,6 +98,7 @@ impl<'a> WatchedRow<'a> {
 
     /// Goes back to a row that was saved, from which the current one differs in the registers that were set since alone, or
     /// answers want of memory.
+    #[tactic(auto, using(crate::proofs::Marked::unwatched))]
     #[inline(always)]
     pub(crate) fn go_back(&mut self, saved: &KeptRow<'a>) -> Result<(), AllocError>
         requires { KeptSo saved.now.marks saved.now.row.registers self.old.row.registers }

@@ -1,5 +1,5 @@
 -- How the code reads the operands of each opcode.
-use Rattle.std.specs.Prelude.{ℕ, ◌^◌, Result, Ok, nat_lt, if◌then◌else◌, ℤ, pos, ◌*ℤ◌, unsigned_abs}
+use Rattle.std.specs.Prelude.{Bool, true, false, ℕ, ◌^◌, Result, Ok, nat_lt, if◌then◌else◌, ℤ, pos, ◌*ℤ◌, unsigned_abs}
 use Rattle.dw_num.specs.{Front.{Read, fault, fixed_at, register_at, uleb_at, sleb_at, address_at, ◌>>=◌}, Input.Input}
 use Rattle.dw_num.specs.declared.refusal.{Code.TheVariants.OffsetTooLarge, Refusal.Refusal}
 use Rattle.dw_op.specs.Expression.{Expression}
@@ -90,11 +90,10 @@ set_val_offset r z = Set r (rules.ValOffset z)
 abbrev pub set_register : ℕ → ℕ → Instr
 set_register r q = Set r (rules.Register q)
 
-abbrev pub set_expression : ℕ → Expression → Instr
-set_expression r e = Set r (rules.Expression e)
-
-abbrev pub set_val_expression : ℕ → Expression → Instr
-set_val_expression r e = Set r (rules.ValExpression e)
+-- saved where an expression says, or what that gives
+abbrev pub set_expression : Bool → ℕ → Expression → Instr
+set_expression true r e = Set r (rules.ValExpression e)
+set_expression false r e = Set r (rules.Expression e)
 
 unfoldable pub offset_at : Factors → ℕ → ℕ → Input → Read Instr
 offset_at f at r i = factored_at f at i >>= with_instr (set_offset r)
@@ -126,11 +125,8 @@ register_rule_at i = register_at i >>= then_register
 abbrev pub then_block : (ℕ → Expression → Instr) → ℕ × Input → Read Instr
 then_block make r = block_at r.1 >>= with_instr (make r.0)
 
-unfoldable pub expression_at : Input → Read Instr
-expression_at i = register_at i >>= then_block set_expression
-
-unfoldable pub val_expression_at : Input → Read Instr
-val_expression_at i = register_at i >>= then_block set_val_expression
+unfoldable pub expression_at : Bool → Input → Read Instr
+expression_at is_value i = register_at i >>= then_block (set_expression is_value)
 
 -- the operands of the instruction whose opcode is at this place
 unfoldable pub operands_at : Factors → ℕ → Opcode → Input → Read Instr
@@ -156,7 +152,7 @@ operands_at f at opcodes.DefCfaRegister i = def_cfa_register_at i
 operands_at f at opcodes.DefCfaOffset i = def_cfa_offset_at at i
 operands_at f at opcodes.DefCfaOffsetSf i = def_cfa_offset_sf_at f at i
 operands_at f at opcodes.DefCfaExpression i = def_cfa_expression_at i
-operands_at f at opcodes.Expression i = expression_at i
+operands_at f at opcodes.Expression i = expression_at false i
 operands_at f at opcodes.ValOffset i = val_offset_at f at i
 operands_at f at opcodes.ValOffsetSf i = val_offset_sf_at f at i
-operands_at f at opcodes.ValExpression i = val_expression_at i
+operands_at f at opcodes.ValExpression i = expression_at true i

@@ -11,6 +11,14 @@ pub record Held : Type 0 where
   pub first : Option (List (ℕ × RegRule))
   pub kept : Rules
 
+-- with another row
+abbrev pub with_row : Rules → Held → Held
+with_row row h = record { row = row; stack = h.stack; first = h.first; kept = h.kept }
+
+-- with one remembered row more, the current one
+abbrev pub remembering : Held → Held
+remembering h = record { row = h.row; stack = h.row ∷ h.stack; first = h.first; kept = h.kept }
+
 -- the remembered rows and the registers before all changes: what was changed since is taken back from the current registers
 unfoldable pub rows_before : List (ℕ × RegRule) → List Undo → List Rules × List (ℕ × RegRule)
 rows_before registers [] = ([], registers)

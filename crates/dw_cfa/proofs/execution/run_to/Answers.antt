@@ -1,4 +1,4 @@
-use Rattle.dw_cfa.proofs.{Words.{ltb-false, ltb-true, sym, ap, ◌∙◌, arith, Outcome}, RowsTo.{row_passed, stops_above, ends_above}, RunSteps.rows_end, StopsTo.{not_below, refused_here}}
+use Rattle.dw_cfa.proofs.{Words.{ltb-false, ltb-true, sym, ap, ◌∙◌, arith, Outcome}, RowsTo.{row_passed, stops_above}, StopsTo.refused_here}
 use Rattle.dw_cfa.proofs.execution.run_to.Goals as goal
 
 pub instrs-preserved : goal.instrs-preserved
@@ -18,22 +18,8 @@ returns-then-is_above-clause-ran g c =
     let l = c.instrs in
     stops_above c.args.factors l.cursor (g.K.Keep.machine l.keep) _ _ l.invariant.3 l.invariant.2 _ _ c.in-Moved.ensures.turned (omega (arith, ltb-true _ _ (sym c.is_above.ensures ∙ c.if-is_above.true)))
 
-pub returns-then-is_above-clause-none : goal.returns-then-is_above-clause-none
-returns-then-is_above-clause-none g c r e =
-    let later = not_below c.args.factors c.turn.new.cursor (g.K.Keep.machine c.turn.new.keep) in
-    omega (arith, later, ltb-true _ _ (sym c.is_above.ensures ∙ c.if-is_above.true), c.in-Moved.ensures.turned.stop, c.instrs.invariant.4)
-
 pub returns-in-Refused-clause-err : goal.returns-in-Refused-clause-err
 returns-in-Refused-clause-err g c =
     let l = c.instrs in
     let refused = c.in-Refused.ensures.turned in
     (sym l.invariant.3.fault ∙ ap (λ (o : Outcome). o.fault) refused, omega (arith, l.invariant.2, l.invariant.4, refused_here c.args.factors l.cursor (g.K.Keep.machine l.keep) c.turn.new.fault refused))
-
-pub returns-clause-ran : goal.returns-clause-ran
-returns-clause-ran g c = let l = c.instrs in ends_above c.args.factors l.cursor (g.K.Keep.machine l.keep) _ _ l.invariant.3 l.invariant.2 l.invariant.0 (omega arith)
-
-pub returns-clause-none : goal.returns-clause-none
-returns-clause-none g c r e =
-    let l = c.instrs in
-    let none = sym (ap (λ (o : Outcome). o.fault) (rows_end c.args.factors l.cursor (g.K.Keep.machine l.keep) (omega arith))) ∙ (l.invariant.3.fault ∙ e) in
-    absurd cc

@@ -1,4 +1,4 @@
-use Rattle.dw_cfa.proofs.{Words.{◌∙◌, err_from_is_err_and, marked}, RegisterSets.{more_added, none_else, rest_up, tree_next}}
+use Rattle.dw_cfa.proofs.{Words.{◌∙◌, marked}, RegisterSets.{more_added, rest_up, tree_next}}
 use Rattle.dw_cfa.proofs.marks.Marks.mark_all.Goals as goal
 
 pub registers-preserved : goal.registers-preserved
@@ -11,8 +11,3 @@ registers-preserved c =
       tree_next all xs rest r x (marked c.args.self.now) (marked c.registers.self) (marked c.mark.new.self) step inv.0 (d.added inv.1) inv.3,
       more_added r (marked c.args.self.now) (marked c.registers.self) (marked c.mark.new.self) (d.added inv.1) inv.4,
     )
-
-pub returns-in_err-mark-clause-others : goal.returns-in_err-mark-clause-others
-returns-in_err-mark-clause-others c =
-    rw (err_from_is_err_and c.from_residual.result c.from_residual.ensures.1).1
-    (none_else c.args.far.now.entries c.registers.others (marked c.args.self.now) (marked c.registers.self) (marked c.mark.new.self) c.in_err-mark.ensures.same c.registers.invariant.3)

@@ -1,12 +1,5 @@
-use Rattle.dw_cfa.proofs.{Words.{Some, sym, subst, Progress, Rules, rows_left, progress_after, AreLeft, initial_of}, Walks.{goes_on_stands, stands_on}, row_walk.RowWalk.advance.Goals.{then-is_err, else-is_err}}
+use Rattle.dw_cfa.proofs.{Words.{progress_after, AreLeft, initial_of}, Walks.stands_on, row_walk.RowWalk.advance.Goals.{then-is_err, else-is_err}}
 use Rattle.dw_cfa.proofs.row_walk.RowWalk.advance.Goals as goal
-
-pub returns-in-Ok-clause-stands : goal.returns-in-Ok-clause-stands
-returns-in-Ok-clause-stands c =
-    let w = c.self.inside in let new = c.go_on_row.new in
-    let left = subst (λ (p : Progress). AreLeft w.leading (initial_of p w.machine.initial)) c.in-Running.is c.self.invariant.left in
-    goes_on_stands w.leading new.cursor new.machine new.progress (rows_left w.leading.factors w.fde w.machine) c.in-Ok.start c.in-Ok.ensures.row
-    (subst (λ (r : Rules). AreLeft w.leading (Some r)) (sym c.go_on_row.ensures.initial) left)
 
 pub returns-clause-stands : goal.returns-clause-stands
 returns-clause-stands c =

@@ -1,12 +1,5 @@
-use Rattle.dw_cfa.proofs.{Words.{Ok, ap, refl, sym, ◌∙◌, inl, subst, LeavesTo, Progress, Walking, initial_of, Led}, Walks.{led_initial, walk_from}}
+use Rattle.dw_cfa.proofs.{Words.{ap, refl, sym, ◌∙◌, inl, Progress, Walking, initial_of}, Walks.walk_from}
 use Rattle.dw_cfa.proofs.row_walk.RowWalk.keep_initial.Goals as goal
-
-pub keep_ready-requires-clause-runs : goal.keep_ready-requires-clause-runs
-keep_ready-requires-clause-runs c =
-    let w = c.self.inside in led_initial w.leading w.fde w.machine.location (rw c.in-Begun.is at c.self.invariant.no_fault)
-
-pub returns-clause-kept : goal.returns-clause-kept
-returns-clause-kept c = λ _. subst (λ (led : Led). LeavesTo led.factors led.program (Ok c.keep_ready.new.machine.states.kept)) (ap (λ (k : Walking). k.led) c.self.view_is) c.in-Ok.ensures.left
 
 pub returns-clause-begun : goal.returns-clause-begun
 returns-clause-begun c =

@@ -4,16 +4,16 @@ use Rattle.dw_cfa.proofs.states.States.remember.Goals as goal
 pub invariant_of-self : goal.invariant_of-self
 invariant_of-self c =
     let s = c.self.inside in let new = c.keep.new.self in let items = c.unlist.new.undo.items in let free = c.if-not-saves.ensures refl in
-    saved_so s.tracked s.is_listed s.saved s.rows.row s.rows.kept s.undo.items c.args.self.now c.self.view_is s.depth c.self.invariant free.0 free.1 new items c.unlist.ensures s.depth (free.1 ∙ ap (λ (b : Bool). length (saved_if b new.row)) (sym c.in_err-keep.ensures.err))
+    saved_so c.self.view_is c.self.invariant free.0 free.1 new items c.unlist.ensures s.depth (free.1 ∙ ap (λ (b : Bool). length (saved_if b new.row)) (sym c.in_err-keep.ensures.err))
     (subst (λ (row : Rules). KeptSo new.marks new.row.registers row.registers) c.row-2.ensures c.in_err-keep.ensures.so)
 
 pub invariant_of-self-2 : goal.invariant_of-self-2
 invariant_of-self-2 c =
     let s = c.self.inside in let new = c.keep.new.self in let items = c.unlist.new.undo.items in let free = c.if-not-saves.ensures refl in
-    saved_so s.tracked s.is_listed s.saved s.rows.row s.rows.kept s.undo.items c.args.self.now c.self.view_is s.depth c.self.invariant free.0 free.1 new items c.unlist.ensures 1 (ap (λ (b : Bool). length (saved_if b new.row)) (sym c.in_ok-keep.ensures.watched))
+    saved_so c.self.view_is c.self.invariant free.0 free.1 new items c.unlist.ensures 1 (ap (λ (b : Bool). length (saved_if b new.row)) (sym c.in_ok-keep.ensures.watched))
     (subst (λ (row : Rules). KeptSo new.marks new.row.registers row.registers) c.row-2.ensures c.in_ok-keep.ensures.so)
 
 pub returns-clause-remembered : goal.returns-clause-remembered
 returns-clause-remembered c =
     let s = c.self.inside in let items = c.unlist.new.undo.items in let free = c.if-not-saves.ensures refl in
-    saved_held s.tracked s.is_listed s.saved s.rows.row s.rows.kept s.undo.items c.args.self.now c.self.view_is s.depth c.self.invariant free.0 free.1 c.keep.new.self items c.unlist.ensures (c.in_ok-keep.ensures.ok ∙ c.row-2.ensures) c.in_ok-keep.ensures.watched
+    saved_held c.self.view_is c.self.invariant free.0 free.1 c.keep.new.self items c.unlist.ensures (c.in_ok-keep.ensures.ok ∙ c.row-2.ensures) c.in_ok-keep.ensures.watched

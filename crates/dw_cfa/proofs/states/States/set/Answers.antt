@@ -1,17 +1,11 @@
-use Rattle.dw_cfa.proofs.{Words.{subst, AreSpecified, Rules}, Marked.set_so, StatesLaws.{marked_so, ruled, set_held, since_row, rows_set, rows_same}}
+use Rattle.dw_cfa.proofs.{Words.{subst, AreSpecified, Rules}, Marked.set_so, StatesLaws.{marked_so, since_row, rows_set, rows_same}}
 use Rattle.dw_cfa.proofs.states.States.set.Goals as goal
 
 pub invariant_of-self-2 : goal.invariant_of-self-2
 invariant_of-self-2 c =
     let s = c.self.inside in let rows = c.set.new.self in let m = c.in_ok-mark.ensures in let free = c.if-self.false in
     let up = subst (λ (row : Rules). AreSpecified 0 row.registers) c.row.ensures c.ascends.ensures in
-    marked_so s.tracked s.is_listed s.saved s.rows.row s.rows.kept s.undo.items c.args.self.now c.self.view_is s.depth c.self.invariant c.mark.new.self rows.row rows.kept free m.watched
+    marked_so c.self.view_is c.self.invariant c.mark.new.self rows.row rows.kept free m.watched
     (set_so c.set.result s.saved.marks c.mark.new.self s.saved.row.registers s.rows.row rows.row c.args.register c.args.rule
-    (since_row s.tracked s.is_listed s.saved s.rows.row s.rows.kept s.undo.items c.args.self.now c.self.view_is s.depth c.self.invariant free) up m.so m.more m.marked (rows_set c.set.result rows _ _ c.set.ensures.ok)
+    (since_row c.self.view_is c.self.invariant free) up m.so m.more m.marked (rows_set c.set.result rows _ _ c.set.ensures.ok)
     (rows_same c.set.result rows s.rows c.set.ensures.err))
-
-pub returns-clause-set : goal.returns-clause-set
-returns-clause-set c =
-    let s = c.self.inside in let rows = c.set.new.self in
-    ruled s.tracked s.is_listed s.saved s.rows.row s.rows.kept s.undo.items c.args.self.now c.self.view_is s.depth c.self.invariant c.set.result _ rows c.args.register c.args.rule c.set.ensures.ok
-    (set_held s.tracked s.is_listed s.saved s.rows.row s.rows.kept s.undo.items c.args.self.now c.self.view_is s.depth c.self.invariant c.mark.new.self rows.row rows.kept c.if-self.false c.in_ok-mark.ensures.watched)
