@@ -43,13 +43,7 @@ restore_len t r x e = omega (arith, packed_len 0xc0 0x06 r)
 
 -- where one rule goes to another, and the other is none, only the first is long enough for it
 restore_either : (t : Target) (r n : ℕ) (a b : RegRule) → same_rule a b ≡ false → (b ≡ rules.Unspecified → rule_len t r a ≤ n) → rule_len t r b ≤ n → length (packed 0xc0 0x06 r) ≤ n
-restore_either t r n a b e h k = elim (specified_or b) [
-  | inl is ↦ omega (arith, restore_len t r b is)
-  | inr none ↦ elim (specified_or a) [
-    | inl is ↦ omega (arith, restore_len t r a is, h none)
-    | inr unset ↦ let same = rw (unset, none) at e in absurd cc
-  ]
-]
+restore_either t r n a b e h k = grind (arith, specified_or, restore_len)
 
 -- ---- the CFA
 
@@ -85,10 +79,7 @@ cfa_to_len t (cfa.Expression x) (cfa.Expression e) h = bytes_one t (DefCfaExpres
 cfa_to_len t old cfa.Unset h = omega arith
 
 cfa_difference_len : (t : Target) (old new : CfaRule) (most : ℕ) → CfaFits t new → cfa_len t new ≤ most → length (program_bytes t (cfa_difference old new)) ≤ 14 + most
-cfa_difference_len t old new most h le = elim (cases_Bool (same_cfa old new)) [
-  | inl e ↦ rw e (omega arith)
-  | inr e ↦ rw e (omega (arith, cfa_to_len t old new h))
-]
+cfa_difference_len t old new most h le = grind (arith, cases_Bool, same_cfa, cfa_to_len)
 
 -- ---- both
 

@@ -1,7 +1,7 @@
 -- What holds of a member's program and of its CIE's, as instructions: they keep what programs have to, start as many rows as there
 -- are changes, and change at the member's addresses to its rows.
 use Rattle.dw_canon.proofs.Words.{◌≡◌, ℕ, zero, suc, ◌+◌, ◌<◌, ◌≤◌, Bool, true, false, cond, List, [], ◌∷◌, ◌++◌, length, map, replicate, Option, Some, None, refl, sym, ap, ◌∙◌, subst, inl, inr, arith, count_by, IsTrue, nat_le, cases_Bool}
-use Rattle.dw_canon.proofs.Words.{AllByRecursion, length-map, append-nil, Target, address_limit, Instr, Nop, CfaRule, RegRule, LocatedRow, cfa_after, rule_after, ProgramSpells, CieKept, FdeKept, in_cie, initial_cfa, initial_rule}
+use Rattle.dw_canon.proofs.Words.{rules, AllByRecursion, length-map, append-nil, Target, address_limit, Instr, Nop, CfaRule, RegRule, LocatedRow, cfa_after, rule_after, ProgramSpells, CieKept, FdeKept, in_cie, initial_cfa, initial_rule}
 use Rattle.dw_canon.proofs.Words.{HoldsAfter, onto, moves_location, row_starts, State, begun, after, Rules, AreSpecified, rule, blank, Placed, counts_exists, one_count, instrs_of, Gives, rows_at, never_falls, AreChanges, HasCfa, fde_instrs}
 use Rattle.dw_canon.proofs.Words.{cie_instrs, RowFits, ChangesStand, MemberStands, InstrFits, Member, changes_of, program_bytes, factors}
 use Rattle.std.proofs.lemmas.List.Sums.{sum_by-cons}
@@ -26,9 +26,7 @@ items_back (i ∷ instrs) = ap (λ (l : List Instr). i ∷ l) (items_back instrs
 
 module _ (limit : ℕ) (initial : Rules) (begin : ℕ) (instrs : List Instr) (rows : List LocatedRow) (runs : RunsTo limit initial instrs (on initial begin) rows) where
   gives : Gives limit initial (items_of instrs) (on initial begin) rows
-  gives =
-      let all = plain_gives limit initial (items_of instrs) (on initial begin) (subst (λ (l : List Instr). NoFaults limit initial l (on initial begin)) (sym (items_back instrs)) runs.0) in
-      subst (Gives limit initial (items_of instrs) (on initial begin)) (ap (λ (l : List Instr). plain_rows initial l (on initial begin)) (items_back instrs) ∙ runs.1) all
+  gives = search (rules, plain_gives, items_back)
 
   pub run_kept : AreSpecified 0 initial.registers → begin ≤ limit → AllInLimit limit instrs → FdeKept limit begin initial.cfa instrs
   run_kept listed le all =
@@ -89,10 +87,7 @@ among_later t initial end at row (change ∷ changes) h =
 
 found_in : (P : Rules → Type 0) (a : ℕ) (row : LocatedRow) (o : Option Rules) (x : Rules) → P row.row → ((y : Rules) → o ≡ Some y → P y) → or_here a row o ≡ Some x → P x
 found_in P a row (Some y) x h more e = let same : y ≡ x = cc in subst P same (more y refl)
-found_in P a row None x h more e = elim (cases_Bool (nat_le row.location a)) [
-  | inl le ↦ let f = rw le at e in let same : row.row ≡ x = cc in subst P same h
-  | inr gt ↦ let f = rw gt at e in absurd cc
-]
+found_in P a row None x h more e = search rules
 
 last_in : (P : Rules → Type 0) (a : ℕ) (rows : List LocatedRow) (x : Rules) → AllByRecursion (λ (row : LocatedRow). P row.row) rows → last_at a rows ≡ Some x → P x
 last_in P a [] x h e = absurd cc

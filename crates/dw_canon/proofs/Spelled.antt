@@ -65,16 +65,7 @@ module _ (t : Target) where
   -- ---- advances
 
   advance_is : (delta : ℕ) → delta < 2 ^ 32 → AdvanceSpells t delta (advance_bytes t.order delta)
-  advance_is delta lt = elim (cases_Bool (nat_lt delta 64)) [
-    | inl e ↦ rw e (inl (ltb-true delta 64 e, refl))
-    | inr e ↦ elim (cases_Bool (nat_lt delta 256)) [
-      | inl f ↦ rw (e, f) (inr (inl (code 0x02 (Fixed t.order 1 delta) (fixed_bytes t.order 1 delta) (record { bytes = refl; fits = omega (arith, ltb-true delta 256 f) }))))
-      | inr f ↦ elim (cases_Bool (nat_lt delta 65536)) [
-        | inl g ↦ rw (e, f, g) (inr (inr (inl (code 0x03 (Fixed t.order 2 delta) (fixed_bytes t.order 2 delta) (record { bytes = refl; fits = omega (arith, ltb-true delta 65536 g) })))))
-        | inr g ↦ rw (e, f, g) (inr (inr (inr (code 0x04 (Fixed t.order 4 delta) (fixed_bytes t.order 4 delta) (record { bytes = refl; fits = omega arith })))))
-      ]
-    ]
-  ]
+  advance_is delta lt = grind arith
 
   -- ---- rules
 

@@ -31,10 +31,7 @@ cfa_keeps t n (DefCfaExpression e) w old h = w
 cfa_keeps t n i w old h = h
 
 rule_keeps : (t : Target) (n r : ℕ) (initial : RegRule) → rule_len t r initial ≤ n → (i : Instr) → own_weight t r i ≤ n → (old : RegRule) → rule_len t r old ≤ n → rule_len t r (rule_change r initial i old) ≤ n
-rule_keeps t n r initial start (Set q given) w old h = elim (eqb_tells q r) [
-  | inl is ↦ let v = rw (is.0) at w in rw (is.0) (subst (λ (x : ℕ). rule_len t x given ≤ n) is.1 v)
-  | inr not ↦ rw (not.0) h
-]
+rule_keeps t n r initial start (Set q given) w old h = grind arith
 rule_keeps t n r initial start (Restore q) w old h = elim (eqb_tells q r) [ inl is ↦ rw (is.0) start | inr not ↦ rw (not.0) h ]
 rule_keeps t n r initial start i w old h = h
 
@@ -45,23 +42,11 @@ width_len order Four a = omega (arith, length-fixed order 4 a)
 width_len order Eight a = omega (arith, length-fixed order 8 a)
 
 advance_len : (order : Order) (delta : ℕ) → length (advance_bytes order delta) ≤ 5
-advance_len order delta = elim (cases_Bool (nat_lt delta 64)) [
-  | inl e ↦ rw e (omega arith)
-  | inr e ↦ elim (cases_Bool (nat_lt delta 256)) [
-    | inl f ↦ rw (e, f) (omega (arith, length-fixed order 1 delta))
-    | inr f ↦ elim (cases_Bool (nat_lt delta 65536)) [
-      | inl g ↦ rw (e, f, g) (omega (arith, length-fixed order 2 delta))
-      | inr g ↦ rw (e, f, g) (omega (arith, length-fixed order 4 delta))
-    ]
-  ]
-]
+advance_len order delta = grind arith
 
 move_len : (t : Target) (at to : ℕ) → length (instr_bytes t (move at to)) ≤ 9
 unfolding instr_with
-move_len t at to = elim (cases_Bool (nat_lt (to - at) (2 ^ 32))) [
-  | inl e ↦ rw e (omega (arith, advance_len t.order (to - at)))
-  | inr e ↦ rw e (omega (arith, width_len t.order t.size to))
-]
+move_len t at to = grind arith
 
 -- ---- the rows of two programs
 

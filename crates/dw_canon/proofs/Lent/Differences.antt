@@ -38,13 +38,7 @@ module _ (limit : ℕ) (initial old : Rules) (at : ℕ) where
   cfa_leads t (cfa.Expression x) (cfa.Expression e) is h k set = (refl, rw is refl, refl)
   cfa_leads t cfa.Unset (cfa.Register q m) is h k set = (refl, rw is refl, refl)
   cfa_leads t (cfa.Expression x) (cfa.Register q m) is h k set = (refl, rw is refl, refl)
-  cfa_leads t (cfa.Register r n) (cfa.Register q m) is h k set = elim (cases_Bool (nat_eq r q)) [
-    | inl e ↦ rw e (refl, rw is refl, rw (is, eqb-true r q e) refl)
-    | inr e ↦ elim (cases_Bool (int_eq n m)) [
-      | inl f ↦ rw (e, f) (refl, rw is refl, rw (is, (Decides-int_eq n m).0 f) refl)
-      | inr f ↦ rw (e, f) (refl, rw is refl, refl)
-    ]
-  ]
+  cfa_leads t (cfa.Register r n) (cfa.Register q m) is h k set = grind arith
 
   pub cfa_quiet : (t : Target) (new : CfaRule) → CfaFits t old.cfa → CfaFits t new → ((new ≡ cfa.Unset) → old.cfa ≡ cfa.Unset)
       → Quiet limit initial (cfa_difference old.cfa new) (on old at) (on (with_cfa new old) at)

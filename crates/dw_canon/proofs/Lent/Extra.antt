@@ -1,6 +1,6 @@
 -- Places of what is written, and how many rows its programs start.
 use Rattle.dw_canon.proofs.Words.{◌≡◌, ℕ, ◌+◌, ◌*◌, ◌%◌, List, [], ◌∷◌, ◌++◌, length, refl, sym, ap, ◌∙◌, append_assoc, arith, inl, inr, replicate, AllByRecursion, AllZip, length-append, length-replicate, Dwarf32, Size, Four, Eight, Target}
-use Rattle.dw_canon.proofs.Words.{byte_count, fixed_bytes, length-fixed, Instr, row_starts, Head, head_at, FdeSays, Starts, RowStarts, total, IsAmong, Written, cie, fde, fields_of, program_of, nops_of, filled, contents, entry_bytes}
+use Rattle.dw_canon.proofs.Words.{rules, byte_count, fixed_bytes, length-fixed, Instr, row_starts, Head, head_at, FdeSays, Starts, RowStarts, total, IsAmong, Written, cie, fde, fields_of, program_of, nops_of, filled, contents, entry_bytes}
 use Rattle.dw_canon.proofs.Words.{section_bytes, missing, fde_field_bytes, span_of, head_of, heads_at, ranges_at, Fits, Runs, IsSection, nops, row_starts_nops}
 use Rattle.dw_canon.proofs.{Accepts.{begun, instrs_so, written_index}, Lent.Fields.{entry_length, written_headers}}
 
@@ -11,19 +11,11 @@ filled_up Four n = omega arith
 filled_up Eight n = omega arith
 
 contents_length : (target : Target) (w : Written) → length (contents target w) ≡ length (fields_of target w) + (length (program_of w) + nops_of target w)
-contents_length target w = omega (
-  arith,
-  length-append (fields_of target w) (filled (nops_of target w) (program_of w)),
-  length-append (program_of w) (replicate (nops_of target w) 0),
-  length-replicate {A = ℕ} (nops_of target w) 0,
-)
+contents_length target w = search (rules, length-append, length-replicate)
 
 -- each entry, with its length, is a multiple of the address size
 pub entry_aligned : (target : Target) (w : Written) → length (entry_bytes target w) % byte_count target.size ≡ 0
-entry_aligned target w =
-    let n = 4 + (length (fields_of target w) + length (program_of w)) in
-    let e : length (entry_bytes target w) ≡ n + missing target.size n = omega (arith, entry_length target w, contents_length target w) in
-    ap (λ (m : ℕ). m % byte_count target.size) e ∙ filled_up target.size n
+entry_aligned target w = search (rules, contents_length)
 
 both_aligned : (size : Size) (a b : ℕ) → a % byte_count size ≡ 0 → b % byte_count size ≡ 0 → (a + b) % byte_count size ≡ 0
 both_aligned Four a b h k = omega arith
@@ -70,15 +62,7 @@ module _ (target : Target) (ws : List Written) (is : IsSection target ws) where
       )
 
   pub written_starts : RowStarts target (section_bytes target ws) (total (starts_of ws))
-  written_starts = record {
-    headers = heads_at target 0 ws;
-    are = written_headers target ws is.small is.fits;
-    index = ranges_at target 0 ws;
-    is_index = written_index target ws is;
-    counts = starts_of ws;
-    each = each_starts 0 ws is.fits is.runs (λ h i. i);
-    sum = refl;
-  }
+  written_starts = search (rules, written_headers, written_index, each_starts)
 
 -- ---- how long it is
 

@@ -44,10 +44,7 @@ either_fits t old new h k = with_all (λ (r : ℕ). r < 65536) (keys_of old.regi
 -- ---- a difference
 
 cfa_to_fits : (t : Target) (old new : CfaRule) → CfaFits t new → AllByRecursion (InstrFits t) (cfa_to old new)
-cfa_to_fits t (cfa.Register r n) (cfa.Register q m) h = elim (cases_Bool (nat_eq r q)) [
-  | inl e ↦ rw e (h.1, tt)
-  | inr e ↦ elim (cases_Bool (int_eq n m)) [ inl f ↦ rw (e, f) (h.0, tt) | inr f ↦ rw (e, f) (h, tt) ]
-]
+cfa_to_fits t (cfa.Register r n) (cfa.Register q m) h = grind arith
 cfa_to_fits t old cfa.Unset h = tt
 cfa_to_fits t old new h = (h, tt)
 
@@ -101,10 +98,7 @@ cie_fits t initial fits = difference_fits t blank blank initial (blank_fits t) f
 
 -- it holds what a CIE may hold
 cie_cfa_to : (old new : CfaRule) → AllByRecursion (λ i. IsTrue (in_cie i)) (cfa_to old new)
-cie_cfa_to (cfa.Register r n) (cfa.Register q m) = elim (cases_Bool (nat_eq r q)) [
-  | inl e ↦ rw e (refl, tt)
-  | inr e ↦ elim (cases_Bool (int_eq n m)) [ inl f ↦ rw (e, f) (refl, tt) | inr f ↦ rw (e, f) (refl, tt) ]
-]
+cie_cfa_to (cfa.Register r n) (cfa.Register q m) = grind arith
 cie_cfa_to old cfa.Unset = tt
 cie_cfa_to old new = (refl, tt)
 
@@ -113,13 +107,7 @@ unspecified_only rules.Unspecified e = refl
 unspecified_only x e = absurd cc
 
 cie_one : (initial : Rules) (r : ℕ) → AllByRecursion (λ i. IsTrue (in_cie i)) (rule_difference blank blank initial r)
-cie_one initial r = elim (cases_Bool (same_rule (rule blank r) (rule initial r))) [
-  | inl e ↦ rw e tt
-  | inr e ↦ rw e (elim (cases_Bool (same_rule (rule initial r) (rule blank r))) [
-    | inl f ↦ let both = unspecified_only (rule initial r) f in absurd cc
-    | inr f ↦ rw f (refl, tt)
-  ])
-]
+cie_one initial r = grind arith
 
 any_register : (rs : List ℕ) → AllByRecursion (λ (r : ℕ). Unit {0}) rs
 any_register [] = tt

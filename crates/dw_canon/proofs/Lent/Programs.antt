@@ -1,7 +1,7 @@
 -- The program of a member runs without a fault, and its rows are the member's changes.
 use Rattle.dw_cfa.specs.Runs.{Outcome}
 use Rattle.dw_cfa.specs.Inner.Runs.{here}
-use Rattle.dw_canon.proofs.Words.{◌≡◌, ℕ, zero, suc, ◌+◌, ◌-◌, ◌<◌, ◌≤◌, ◌^◌, Bool, true, false, List, [], ◌∷◌, ◌++◌, map, replicate, Option, None, refl, sym, ap, ◌∙◌, subst, arith, nat_lt}
+use Rattle.dw_canon.proofs.Words.{rules, ◌≡◌, ℕ, zero, suc, ◌+◌, ◌-◌, ◌<◌, ◌≤◌, ◌^◌, Bool, true, false, List, [], ◌∷◌, ◌++◌, map, replicate, Option, None, refl, sym, ap, ◌∙◌, subst, arith, nat_lt}
 use Rattle.dw_canon.proofs.Words.{le-ltb, append_assoc, append-nil, Member, changes_of, fde_instrs, Target, Instr, Nop, LocatedRow, moves_location, State, after, fde_fault, Rules, Placed, row_if}
 use Rattle.dw_canon.proofs.{Words.{fault_or, fde_rows, instrs_of, Gives, move, difference, later_changes, RowFits, RowStands, ChangesStand}, Lent.Differences.{Quiet, on, no_half, difference_quiet}}
 
@@ -54,9 +54,7 @@ located change = record { location = change.0; row = change.1 }
 
 module _ (limit : ℕ) (initial row : Rules) (at to : ℕ) (less : at < to) (within : to ≤ limit) where
   move_kind : (b : Bool) → nat_lt (to - at) (2 ^ 32) ≡ b → (fde_fault limit (move at to) (on row at) ≡ None) × (moves_location (move at to) ≡ true) × (after initial (move at to) (on row at) ≡ on row to)
-  move_kind true e =
-      let sum : at + (to - at) ≡ to = omega arith in
-      rw e (rw sum (rw (le-ltb limit to within) refl), refl, ap (on row) sum)
+  move_kind true e = search rules
   move_kind false e = rw e (rw (le-ltb to at (omega arith)) refl, refl, refl)
 
 pub below_end : (t : Target) (initial : Rules) (end at : ℕ) (row : Rules) (changes : List (ℕ × Rules)) → ChangesStand t initial end at row changes → at < end
