@@ -28,14 +28,8 @@ same_packed a b c d r = elim (cases_Bool (nat_lt r 64)) [ inl e ↦ rw e refl | 
 -- restore is no longer than a rule
 restore_len : (t : Target) (r : ℕ) (x : RegRule) → is_specified x ≡ true → length (packed 0xc0 0x06 r) ≤ rule_len t r x
 restore_len t r rules.Unspecified e = absurd cc
-restore_len t r (rules.Offset n) e = elim (cases_Bool (is_positive n)) [
-  | inl f ↦ rw f (omega (arith, packed_len 0xc0 0x06 r, length-append (shortest_uleb r) (shortest_sleb (neg_ℤ n))))
-  | inr f ↦ rw f (omega (arith, same_packed 0xc0 0x06 0x80 0x05 r, length-append (packed 0x80 0x05 r) (shortest_uleb (unsigned_abs n))))
-]
-restore_len t r (rules.ValOffset n) e = elim (cases_Bool (is_positive n)) [
-  | inl f ↦ rw f (omega (arith, packed_len 0xc0 0x06 r, length-append (shortest_uleb r) (shortest_sleb (neg_ℤ n))))
-  | inr f ↦ rw f (omega (arith, packed_len 0xc0 0x06 r, length-append (shortest_uleb r) (shortest_uleb (unsigned_abs n))))
-]
+restore_len t r (rules.Offset n) e = grind (arith, length-append)
+restore_len t r (rules.ValOffset n) e = grind (arith, length-append)
 restore_len t r (rules.Register q) e = omega (arith, packed_len 0xc0 0x06 r, length-append (shortest_uleb r) (shortest_uleb q))
 restore_len t r (rules.Expression x) e = omega (arith, packed_len 0xc0 0x06 r, length-append (shortest_uleb r) (expression_bytes t x))
 restore_len t r (rules.ValExpression x) e = omega (arith, packed_len 0xc0 0x06 r, length-append (shortest_uleb r) (expression_bytes t x))
@@ -43,16 +37,13 @@ restore_len t r x e = omega (arith, packed_len 0xc0 0x06 r)
 
 -- where one rule goes to another, and the other is none, only the first is long enough for it
 restore_either : (t : Target) (r n : ℕ) (a b : RegRule) → same_rule a b ≡ false → (b ≡ rules.Unspecified → rule_len t r a ≤ n) → rule_len t r b ≤ n → length (packed 0xc0 0x06 r) ≤ n
-restore_either t r n a b e h k = grind (arith, specified_or, restore_len)
+restore_either t r n a b e h k = grind (arith, restore_len)
 
 -- ---- the CFA
 
 define_len : (t : Target) (r : ℕ) (n : ℤ) → r < 65536 → IsOffset n → length (instr_bytes t (DefCfa r n)) ≤ 14
 unfolding instr_with
-define_len t r n lt h = elim (cases_Bool (is_negative n)) [
-  | inl e ↦ rw e (omega (arith, register_len r lt, neg_len n h, length-append (shortest_uleb r) (shortest_sleb (neg_ℤ n))))
-  | inr e ↦ rw e (omega (arith, register_len r lt, abs_len n h, length-append (shortest_uleb r) (shortest_uleb (unsigned_abs n))))
-]
+define_len t r n lt h = grind (arith, cases_Bool, is_negative, register_len, neg_len, length-append, shortest_sleb, neg_ℤ, abs_len, unsigned_abs)
 
 register_to_len : (t : Target) (r : ℕ) → r < 65536 → length (instr_bytes t (DefCfaRegister r)) ≤ 14
 unfolding instr_with
@@ -79,7 +70,7 @@ cfa_to_len t (cfa.Expression x) (cfa.Expression e) h = bytes_one t (DefCfaExpres
 cfa_to_len t old cfa.Unset h = omega arith
 
 cfa_difference_len : (t : Target) (old new : CfaRule) (most : ℕ) → CfaFits t new → cfa_len t new ≤ most → length (program_bytes t (cfa_difference old new)) ≤ 14 + most
-cfa_difference_len t old new most h le = grind (arith, cases_Bool, same_cfa, cfa_to_len)
+cfa_difference_len t old new most h le = grind (arith, cfa_to_len)
 
 -- ---- both
 

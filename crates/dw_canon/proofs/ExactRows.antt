@@ -14,11 +14,7 @@ pub record Exact (t : Target) (s : List ℕ) (p : Part) : Type 0 where
 pub all_exact : (t : Target) (s : List ℕ) (ms xs : List Member) → AllByRecursion (MemberFits t) ms → AllByRecursion (λ (m : Member). m.begin < m.end) xs → AllByRecursion (IsMember t s) xs
     → AllByRecursion (λ (m : Member). MemberStands t (initial_of ms m.register) m) xs → AllByRecursion (Exact t s) (map (part_of t ms) xs)
 all_exact t s ms [] fits some is stands = tt
-all_exact t s ms (m ∷ xs) fits some is stands =
-    let law = member_program t (initial_of ms m.register) m (group_fits t ms m.register fits) stands.0 in (
-      record { changes = changes_of m; source = subst (λ (f : Fde). ChangesOf t s f (changes_of m)) (sym (fde_is t ms m some.0)) is.0; starts = law.3 },
-      all_exact t s ms xs fits some.1 is.1 stands.1,
-    )
+all_exact t s ms (m ∷ xs) fits some is stands = grind (arith, member_program t (initial_of ms m.register) m (group_fits t ms m.register fits) stands.0, fde_is t ms m some.0, all_exact t s ms xs fits some.1 is.1 stands.1)
 
 -- ---- the FDE
 

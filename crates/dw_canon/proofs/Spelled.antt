@@ -71,16 +71,10 @@ module _ (t : Target) where
 
   packed_is : (low c r : ℕ) (P : List ℕ → Type 0) (rest : List ℕ) → r < 65536 → P rest
       → ((r < 64) × Code (low + r) P (packed low c r ++ rest)) ⊎ Code c (Both (Register r) P) (packed low c r ++ rest)
-  packed_is low c r P rest lt h = elim (cases_Bool (nat_lt r 64)) [
-    | inl e ↦ rw e (inl (ltb-true r 64 e, code (low + r) P rest h))
-    | inr e ↦ rw e (inr (code c (Both (Register r) P) (shortest_uleb r ++ rest) (both (Register r) P (shortest_uleb r) rest (register r lt) h)))
-  ]
+  packed_is low c r P rest lt h = grind (arith, register)
 
   packed_alone : (low c r : ℕ) → r < 65536 → ((r < 64) × Alone (low + r) (packed low c r)) ⊎ Code c (Register r) (packed low c r)
-  packed_alone low c r lt = elim (cases_Bool (nat_lt r 64)) [
-    | inl e ↦ rw e (inl (ltb-true r 64 e, refl))
-    | inr e ↦ rw e (inr (code c (Register r) (shortest_uleb r) (register r lt)))
-  ]
+  packed_alone low c r lt = grind (arith, register)
 
   with_register : (c r : ℕ) (P : List ℕ → Type 0) (rest : List ℕ) → r < 65536 → P rest → Code c (Both (Register r) P) (c ∷ (shortest_uleb r ++ rest))
   with_register c r P rest lt h = code c (Both (Register r) P) (shortest_uleb r ++ rest) (both (Register r) P (shortest_uleb r) rest (register r lt) h)

@@ -28,8 +28,7 @@ place_is target at (fde c b n instrs program) = refl
 -- so each stands at one
 pub places_aligned : (target : Target) (at : ℕ) (ws : List Written) → at % byte_count target.size ≡ 0 → AllByRecursion (λ (h : Head). head_at h % byte_count target.size ≡ 0) (heads_at target at ws)
 places_aligned target at [] h = tt
-places_aligned target at (w ∷ ws) h =
-    (ap (λ (n : ℕ). n % byte_count target.size) (place_is target at w) ∙ h, places_aligned target (at + length (entry_bytes target w)) ws (both_aligned target.size at (length (entry_bytes target w)) h (entry_aligned target w)))
+places_aligned target at (w ∷ ws) h = grind (arith, places_aligned target (at + length (entry_bytes target w)) ws (both_aligned target.size at (length (entry_bytes target w)) h (entry_aligned target w)))
 
 -- ---- rows that programs start
 

@@ -22,13 +22,7 @@ nops_fit t (suc n) = (tt, nops_fit t n)
 
 with_one : (P : ℕ → Type 0) (r : ℕ) (rs : List ℕ) → P r → AllByRecursion P rs → AllByRecursion P (with_register r rs)
 with_one P r [] h k = (h, tt)
-with_one P r (x ∷ rs) h k = elim (cases_Bool (nat_lt r x)) [
-  | inl less ↦ rw less (h, k)
-  | inr more ↦ elim (cases_Bool (nat_eq r x)) [
-    | inl same ↦ rw (more, same) k
-    | inr other ↦ rw (more, other) (k.0, with_one P r rs h k.1)
-  ]
-]
+with_one P r (x ∷ rs) h k = grind (arith, with_one P r rs h k.1)
 
 pub with_all : (P : ℕ → Type 0) (rs qs : List ℕ) → AllByRecursion P rs → AllByRecursion P qs → AllByRecursion P (with_registers rs qs)
 with_all P [] qs h k = k

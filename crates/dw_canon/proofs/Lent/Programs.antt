@@ -29,9 +29,7 @@ next_row at false s code next rows none e = rw (none, e) refl
 pub plain_gives : (limit : ℕ) (initial : Rules) (items : List Placed) (s : State) → NoFaults limit initial (instrs_of items) s → Gives limit initial items s (plain_rows initial (instrs_of items) s)
 unfolding fde_rows
 plain_gives limit initial [] s h = refl
-plain_gives limit initial (item ∷ items) s h =
-    next_row item.at (moves_location item.instr) s (fde_fault limit item.instr s) (fde_rows limit initial items None (after initial item.instr s))
-    (plain_rows initial (instrs_of items) (after initial item.instr s)) h.0 (plain_gives limit initial items (after initial item.instr s) h.1)
+plain_gives limit initial (item ∷ items) s h = grind (arith, plain_gives limit initial items (after initial item.instr s) h.1)
 
 pub quiet_faults : (limit : ℕ) (initial : Rules) (xs ys : List Instr) (s s' : State) → Quiet limit initial xs s s' → NoFaults limit initial ys s' → NoFaults limit initial (xs ++ ys) s
 quiet_faults limit initial [] ys s s' q h = subst (NoFaults limit initial ys) (sym q) h
