@@ -1,7 +1,7 @@
 -- What a member of a section takes in the normal form, and its group's CIE, against the programs of its FDE.
 use Rattle.dw_section.proofs.Lent.{OneLengths.one_lengths, Sections.here}
-use Rattle.dw_canon.proofs.Words.{ℕ, ◌+◌, ◌*◌, ◌<◌, ◌≤◌, List, ◌∷◌, length, inl, inr, arith, AllByRecursion, suc-mul, Target, AreBytes, Instr, Rules, blank, counts_exists, Accepted, HasLengths, RowFits, changes_programs, Held, held_all}
-use Rattle.dw_canon.proofs.{Words.{rules, least_starts, cie_instrs, fde_instrs, difference, later_changes, RestsOn, initial_row, Member, IsMember, fde_of, changes_of, program_bytes, factors_of}, Costs.bytes_more, Lent.MemberPlaces.all_both}
+use Rattle.dw_canon.proofs.Words.{ℕ, ◌+◌, ◌*◌, ◌<◌, ◌≤◌, List, ◌∷◌, length, inl, inr, arith, AllByRecursion, Target, AreBytes, Instr, Rules, blank, counts_exists, Accepted, HasLengths, RowFits, changes_programs, Held, held_all}
+use Rattle.dw_canon.proofs.{Words.{rules, least_starts, cie_instrs, fde_instrs, RestsOn, initial_row, Member, IsMember, fde_of, changes_of, program_bytes, factors_of}, Costs.bytes_more, Lent.MemberPlaces.all_both}
 use Rattle.dw_canon.proofs.{Lent.Shared.{MemberFits, initial_fits, initial_or, initial_cfa_or}, Sums.sum_more, Weights.{rule_weight, cfa_weight, program_most}, Within.{all_len, IsWithin, holds_within, step_len, later_len}}
 
 -- the rows of a member are within what its programs give, and its changes are no more than they start rows

@@ -1,6 +1,6 @@
 -- The bytes of an instruction in the normal form spell it.
-use Rattle.dw_canon.proofs.Words.{◌≡◌, ◌⊎◌, ℕ, zero, suc, ◌+◌, ◌*◌, ◌<◌, ◌^◌, true, false, List, [], ◌∷◌, ◌++◌, length, refl, sym, inl, inr, arith, ℤ, pos, negsuc, unsigned_abs, nat_lt, FitsSigned, IsTrue, w64, AllByRecursion, cases_Bool}
-use Rattle.dw_canon.proofs.Words.{ltb-true, lt-ltb, le-ltb, Target, Size, Four, Eight, Register, Fixed, Address, fixed_bytes, is_specified, shortest_uleb, shortest_sleb, byte_count, address_limit, shortest_uleb-spells, shortest_sleb-spells}
+use Rattle.dw_canon.proofs.Words.{◌≡◌, ◌⊎◌, ℕ, zero, suc, ◌+◌, ◌*◌, ◌<◌, ◌^◌, true, false, List, [], ◌∷◌, ◌++◌, length, refl, sym, inl, inr, arith, ℤ, pos, negsuc, unsigned_abs, nat_lt, FitsSigned, IsTrue, w64, AllByRecursion}
+use Rattle.dw_canon.proofs.Words.{lt-ltb, le-ltb, Target, Size, Four, Eight, Register, Address, fixed_bytes, is_specified, shortest_uleb, shortest_sleb, byte_count, address_limit, shortest_uleb-spells, shortest_sleb-spells}
 use Rattle.dw_canon.proofs.Words.{least_block, Expression, Code, Both, least_block_exists, least_no_longer, block_of_least, Instr, SetLoc, Advance, DefCfa, DefCfaRegister, DefCfaOffset, DefCfaExpression, Set, Restore, RegRule, IsOffset}
 use Rattle.dw_canon.proofs.Words.{BlockSpells, InstrSpells, ProgramSpells, Plain, Factored, SignedFactored, AdvanceSpells, RuleSpells, IsSpelled, in_table, HasBlock, RuleFits, InstrFits, expression_bytes, rule_bytes, instr_bytes}
 use Rattle.dw_canon.proofs.Words.{program_bytes, advance_bytes, packed, factors, Alone}

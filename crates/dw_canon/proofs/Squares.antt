@@ -1,5 +1,5 @@
 -- A product is at most a quarter of the square of the sum.
-use Rattle.dw_canon.proofs.Words.{◌≡◌, ℕ, ◌+◌, ◌-◌, ◌*◌, ◌≤◌, subst, inl, inr, arith, cases_lt, mul-le-mul}
+use Rattle.dw_canon.proofs.Words.{ℕ, ◌+◌, ◌-◌, ◌*◌, ◌≤◌, arith, mul-le-mul}
 
 upward : (a d : ℕ) → 4 * (a * (a + d)) ≤ (a + (a + d)) * (a + (a + d))
 upward a d = omega arith

@@ -1,6 +1,6 @@
 -- The instructions of a difference lead from the one row to the other, with no fault.
-use Rattle.dw_canon.proofs.Words.{◌≡◌, ◌⊎◌, ℕ, Bool, true, false, List, [], ◌∷◌, ◌++◌, None, refl, sym, ap, ◌∙◌, subst, inl, inr, arith, nat_eq, nat_lt, if◌then◌else◌, map, flat_map, keys_of, int_eq, cases_Bool, eqb-true, eqb-false}
-use Rattle.dw_canon.proofs.Words.{Decides-int_eq, Target, Instr, Set, Restore, CfaRule, RegRule, moves_location, keeps_half, State, after, half_fault, fde_fault, Rules, AreSpecified, rule, rule_in, same_rows, cfa_to, either, cfa_difference}
+use Rattle.dw_canon.proofs.Words.{◌≡◌, ◌⊎◌, ℕ, Bool, true, false, List, [], ◌∷◌, ◌++◌, None, refl, sym, ap, ◌∙◌, subst, inl, inr, arith, nat_eq, nat_lt, if◌then◌else◌, map, flat_map, cases_Bool, eqb-true, eqb-false}
+use Rattle.dw_canon.proofs.Words.{Target, Instr, Set, Restore, CfaRule, RegRule, moves_location, keeps_half, State, after, half_fault, fde_fault, Rules, AreSpecified, rule, rule_in, same_rows, cfa_to, either, cfa_difference}
 use Rattle.dw_canon.proofs.Words.{rule_difference, difference, with_register, with_registers, CfaFits, RowFits, same_cfa, same_rule, cfa_tells, rule_tells}
 use Rattle.dw_cfa.specs.Inner.Rows.{with_cfa, with_rule}
 use Rattle.dw_cfa.proofs.Lent.RowLists.{put_rule, put_keeps}

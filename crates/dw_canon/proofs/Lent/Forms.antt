@@ -1,6 +1,6 @@
 -- The normal form has the same bytes by any tests that tell equal rules, by any function that gives each list of operations its
 -- least block, and by any that gives each return address register the row that its FDEs share.
-use Rattle.dw_canon.proofs.Words.{rules, ◌≡◌, ℕ, ◌+◌, ◌-◌, Bool, List, [], ◌∷◌, ◌++◌, length, map, refl, sym, ap, ◌∙◌, ◌↔◌, ◌==◌, IsTrue, nat_eq, if◌then◌else◌, AllByRecursion, flat_map, AreBytes, Target, Op, LeastBlock, least_block, Instr}
+use Rattle.dw_canon.proofs.Words.{rules, ◌≡◌, ℕ, ◌+◌, ◌-◌, Bool, List, [], ◌∷◌, ◌++◌, length, map, refl, sym, ap, ◌∙◌, ◌↔◌, ◌==◌, IsTrue, if◌then◌else◌, AllByRecursion, flat_map, AreBytes, Target, Op, LeastBlock, least_block, Instr}
 use Rattle.dw_canon.proofs.Words.{CfaRule, RegRule, same_cfa, same_rule, cfa_tells, rule_tells, Rules, Accepted, return_registers, group, IsShared, initial_of, cie_instrs, fde_instrs, cie_bytes, cie_at, fde_bytes, canon, InstrFits}
 use Rattle.dw_canon.proofs.Words.{MemberStands, Member, AreMembers, IsNormalForm, written, cie_field_bytes, fde_field_bytes}
 use Rattle.dw_op.proofs.Lent.LeastOne.{least_block_only}

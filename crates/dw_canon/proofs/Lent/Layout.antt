@@ -1,8 +1,8 @@
 -- The normal form is its CIEs and FDEs, laid out with their instructions.
 use Rattle.dw_canon.specs.Canon.{canon as canon_with}
 use Rattle.dw_canon.specs.Inner.Laid as layout
-use Rattle.dw_canon.proofs.Words.{rules, ◌≡◌, ℕ, ◌+◌, ◌-◌, List, [], ◌∷◌, ◌++◌, length, map, refl, sym, ap, ◌∙◌, ◌==◌, if◌then◌else◌, flat_map, Target, return_registers, initial_of, cie_bytes, cie_at, fde_instrs, fde_bytes}
-use Rattle.dw_canon.proofs.{Words.{canon, Member, program_bytes, written, fde_field_bytes, cie_of, place_of, laid, group_of, groups_of, part_of, parts_of, entry_bytes, section_bytes}, Lent.Extra.section_append}
+use Rattle.dw_canon.proofs.Words.{rules, ◌≡◌, ℕ, ◌+◌, List, [], ◌∷◌, ◌++◌, length, map, refl, sym, ap, ◌∙◌, ◌==◌, if◌then◌else◌, flat_map, Target, return_registers, cie_bytes, cie_at, fde_bytes}
+use Rattle.dw_canon.proofs.{Words.{canon, Member, cie_of, place_of, laid, group_of, groups_of, part_of, parts_of, entry_bytes, section_bytes}, Lent.Extra.section_append}
 
 module _ (t : Target) (ms : List Member) where
   at_place : (at : ℕ) (rs : List ℕ) (register : ℕ) → cie_at t ms at rs register ≡ place_of t at (map (group_of t ms) rs) register

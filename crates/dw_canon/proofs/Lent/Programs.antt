@@ -1,7 +1,7 @@
 -- The program of a member runs without a fault, and its rows are the member's changes.
 use Rattle.dw_cfa.specs.Runs.{Outcome}
 use Rattle.dw_cfa.specs.Inner.Runs.{here}
-use Rattle.dw_canon.proofs.Words.{rules, ◌≡◌, ℕ, zero, suc, ◌+◌, ◌-◌, ◌<◌, ◌≤◌, ◌^◌, Bool, true, false, List, [], ◌∷◌, ◌++◌, map, replicate, Option, None, refl, sym, ap, ◌∙◌, subst, arith, nat_lt}
+use Rattle.dw_canon.proofs.Words.{rules, ◌≡◌, ℕ, zero, suc, ◌-◌, ◌<◌, ◌≤◌, ◌^◌, Bool, true, false, List, [], ◌∷◌, ◌++◌, map, replicate, Option, None, refl, sym, ap, ◌∙◌, subst, arith, nat_lt}
 use Rattle.dw_canon.proofs.Words.{le-ltb, append_assoc, append-nil, Member, changes_of, fde_instrs, Target, Instr, Nop, LocatedRow, moves_location, State, after, fde_fault, Rules, Placed, row_if}
 use Rattle.dw_canon.proofs.{Words.{fault_or, fde_rows, instrs_of, Gives, move, difference, later_changes, RowFits, RowStands, ChangesStand}, Lent.Differences.{Quiet, on, no_half, difference_quiet}}
 
