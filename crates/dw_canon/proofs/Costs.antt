@@ -22,9 +22,6 @@ bytes_one t i n h = let none : List ℕ = [] in omega (arith, length-append (ins
 
 -- ---- a register
 
-same_packed : (a b c d r : ℕ) → length (packed a b r) ≡ length (packed c d r)
-same_packed a b c d r = elim (cases_Bool (nat_lt r 64)) [ inl e ↦ rw e refl | inr e ↦ rw e refl ]
-
 -- restore is no longer than a rule
 restore_len : (t : Target) (r : ℕ) (x : RegRule) → is_specified x ≡ true → length (packed 0xc0 0x06 r) ≤ rule_len t r x
 restore_len t r rules.Unspecified e = absurd cc

@@ -83,20 +83,6 @@ among_later t initial end at row [] h = refl
 among_later t initial end at row (change ∷ changes) h =
     inr ((before_next t initial end change.0 change.1 changes h.3, λ same. h.1 (let is : row ≡ change.1 = cc in is)), (changes, refl, among_later t initial end change.0 change.1 changes h.3))
 
--- ---- what holds of all rows holds of the one at an address
-
-found_in : (P : Rules → Type 0) (a : ℕ) (row : LocatedRow) (o : Option Rules) (x : Rules) → P row.row → ((y : Rules) → o ≡ Some y → P y) → or_here a row o ≡ Some x → P x
-found_in P a row (Some y) x h more e = let same : y ≡ x = cc in subst P same (more y refl)
-found_in P a row None x h more e = search rules
-
-last_in : (P : Rules → Type 0) (a : ℕ) (rows : List LocatedRow) (x : Rules) → AllByRecursion (λ (row : LocatedRow). P row.row) rows → last_at a rows ≡ Some x → P x
-last_in P a [] x h e = absurd cc
-last_in P a (row ∷ rows) x h e = found_in P a row (last_at a rows) x h.0 (λ y is. last_in P a rows y h.1 is) e
-
-all_set : (t : Target) (initial : Rules) (end at : ℕ) (row : Rules) (changes : List (ℕ × Rules)) → ChangesStand t initial end at row changes → AllByRecursion (λ (row : LocatedRow). row.row.cfa ≡ cfa.Unset → ⊥) (map located changes)
-all_set t initial end at row [] h = tt
-all_set t initial end at row (change ∷ changes) h = (h.2.set, all_set t initial end change.0 change.1 changes h.3)
-
 -- ---- the member
 
 module _ (t : Target) (initial : Rules) (fits : RowFits t initial) (m : Member) (stands : MemberStands t initial m) (n : ℕ) where
@@ -132,14 +118,6 @@ module _ (t : Target) (initial : Rules) (fits : RowFits t initial) (m : Member) 
         all_found ci member_instrs m.begin m.end (map located (changes_of m)) (changes_of m)
         (run_falls (address_limit t.size) initial m.begin member_instrs (map located (changes_of m)) runs) has refl nonempty
         (inr ((before_next t initial m.end m.begin m.first m.later stands.later, λ same. absurd cc), (m.later, refl, among_later t initial m.end m.begin m.first m.later stands.later)))
-
-    -- at each address of it the CFA has a rule
-    pub member_cfa : (a : ℕ) → m.begin ≤ a → HasCfa ci member_instrs m.begin a
-    member_cfa a le k counts unset =
-        let row = has a le in
-        let same : row.2.k ≡ k = one_count m.begin member_instrs a row.2.k k row.2.counts counts in
-        let there = subst (λ (j : ℕ). HoldsAfter ci member_instrs j row.0) same row.2.holds in
-        last_in (λ (x : Rules). x.cfa ≡ cfa.Unset → ⊥) a (map located (changes_of m)) row.0 (stands.first.set, all_set t initial m.end m.begin m.first m.later stands.later) row.1 (there.cfa ∙ unset)
 
 -- ---- the CIE
 

@@ -37,13 +37,6 @@ rule_keeps t n r initial start i w old h = h
 
 -- ---- a move
 
-width_len : (order : Order) (size : Size) (a : ℕ) → length (fixed_bytes order (byte_count size) a) ≤ 8
-width_len order Four a = omega (arith, length-fixed order 4 a)
-width_len order Eight a = omega (arith, length-fixed order 8 a)
-
-advance_len : (order : Order) (delta : ℕ) → length (advance_bytes order delta) ≤ 5
-advance_len order delta = grind arith
-
 move_len : (t : Target) (at to : ℕ) → length (instr_bytes t (move at to)) ≤ 9
 unfolding instr_with
 move_len t at to = grind arith

@@ -14,10 +14,6 @@ up_most : (size : Size) (n : ℕ) → up size n ≤ n + 7
 up_most Four n = omega arith
 up_most Eight n = omega arith
 
-width_most : (size : Size) → byte_count size ≤ 8
-width_most Four = omega arith
-width_most Eight = omega arith
-
 fde_most : (t : Target) (gs : List layout.Group) (p : layout.Part) → length (entry_bytes t (layout.fde_of t gs p)) ≤ 31 + length p.program
 fde_most t gs p = search (rules, fde_length t (layout.place_of t 0 gs p.register) p.begin p.range p.instrs p.program)
 

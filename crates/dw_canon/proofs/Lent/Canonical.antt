@@ -40,12 +40,6 @@ members_exist t s b ok =
 
 -- ---- and are one list
 
-first_of : (x y : ℕ × Rules) (xs ys : List (ℕ × Rules)) → x ∷ xs ≡ y ∷ ys → x ≡ y
-first_of x y xs ys e = cc
-
-behind_of : (x y : ℕ × Rules) (xs ys : List (ℕ × Rules)) → x ∷ xs ≡ y ∷ ys → xs ≡ ys
-behind_of x y xs ys e = cc
-
 member_is : (m k : Member) → fde_of m ≡ fde_of k → changes_of m ≡ changes_of k → m ≡ k
 member_is m k same changes = search rules
 

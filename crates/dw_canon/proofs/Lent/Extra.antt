@@ -6,29 +6,8 @@ use Rattle.dw_canon.proofs.{Accepts.{begun, instrs_so, written_index}, Lent.Fiel
 
 -- ---- places
 
-filled_up : (size : Size) (n : ℕ) → (n + missing size n) % byte_count size ≡ 0
-filled_up Four n = omega arith
-filled_up Eight n = omega arith
-
 contents_length : (target : Target) (w : Written) → length (contents target w) ≡ length (fields_of target w) + (length (program_of w) + nops_of target w)
 contents_length target w = search (rules, length-append, length-replicate)
-
--- each entry, with its length, is a multiple of the address size
-pub entry_aligned : (target : Target) (w : Written) → length (entry_bytes target w) % byte_count target.size ≡ 0
-entry_aligned target w = search (rules, contents_length)
-
-both_aligned : (size : Size) (a b : ℕ) → a % byte_count size ≡ 0 → b % byte_count size ≡ 0 → (a + b) % byte_count size ≡ 0
-both_aligned Four a b h k = omega arith
-both_aligned Eight a b h k = omega arith
-
-place_is : (target : Target) (at : ℕ) (w : Written) → head_at (head_of target at w) ≡ at
-place_is target at (cie register instrs program) = refl
-place_is target at (fde c b n instrs program) = refl
-
--- so each stands at one
-pub places_aligned : (target : Target) (at : ℕ) (ws : List Written) → at % byte_count target.size ≡ 0 → AllByRecursion (λ (h : Head). head_at h % byte_count target.size ≡ 0) (heads_at target at ws)
-places_aligned target at [] h = tt
-places_aligned target at (w ∷ ws) h = grind (arith, places_aligned target (at + length (entry_bytes target w)) ws (both_aligned target.size at (length (entry_bytes target w)) h (entry_aligned target w)))
 
 -- ---- rows that programs start
 

@@ -11,13 +11,6 @@ use Rattle.dw_section.specs.Fields as table
 
 -- ---- lengths
 
-fields_long : (target : Target) (w : Written) → 4 ≤ length (fields_of target w)
-fields_long target (cie register instrs program) = omega (arith, length-append (cie_id target) (cie_spelling target register), length-fixed target.order 4 0xffffffff)
-fields_long target (fde cie_at begin range instrs program) = search rules
-
-pub contents_long : (target : Target) (w : Written) → 4 ≤ length (contents target w)
-contents_long target w = omega (arith, fields_long target w, length-append (fields_of target w) (filled (nops_of target w) (program_of w)))
-
 pub entry_length : (target : Target) (w : Written) → length (entry_bytes target w) ≡ 4 + length (contents target w)
 entry_length target w = search rules
 
@@ -43,20 +36,6 @@ stands_among target at (cie r instrs program ∷ ws) place register initial (inr
 stands_among target at (fde c b n instrs program ∷ ws) place register initial h = stands_among target (at + length (entry_bytes target (fde c b n instrs program))) ws place register initial h
 
 -- ---- the kind of an entry
-
-ones_front : (order : Order) (rest : List ℕ) → is_cie Dwarf32 (fixed_bytes order 4 0xffffffff ++ rest) ≡ kind.Cie
-ones_front Little rest = refl
-ones_front Big rest = refl
-
-if_false : (b : Bool) → b ≡ false → (if b then kind.Cie else kind.Fde) ≡ kind.Fde
-if_false b e = rw e refl
-
-all_four : (a b c d : ℕ) → (a < 255) ⊎ (d < 255) → list_all (λ x. x == 255) (a ∷ b ∷ c ∷ d ∷ []) ≡ false
-all_four a b c d h = search rules
-
-pointer_front : (order : Order) (n : ℕ) (rest : List ℕ) → n < 0x80000000 → is_cie Dwarf32 (fixed_bytes order 4 n ++ rest) ≡ kind.Fde
-pointer_front Little n rest lt = if_false _ (all_four (n % 256) (n / 256 ^ 1 % 256) (n / 256 ^ 2 % 256) (n / 256 ^ 3 % 256) (inr (omega arith)))
-pointer_front Big n rest lt = if_false _ (all_four (n / 256 ^ 3 % 256) (n / 256 ^ 2 % 256) (n / 256 ^ 1 % 256) (n % 256) (inl (omega arith)))
 
 abbrev pub piece_at : Target → ℕ → Written → Piece
 piece_at target at w = record { at = at; form = Dwarf32; kind = is_cie Dwarf32 (contents target w); contents = record { at = at + length (fixed_bytes target.order 4 (length (contents target w))); bytes = contents target w } }

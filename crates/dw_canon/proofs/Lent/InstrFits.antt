@@ -96,10 +96,6 @@ cie_cfa_to (cfa.Register r n) (cfa.Register q m) = grind arith
 cie_cfa_to old cfa.Unset = tt
 cie_cfa_to old new = (refl, tt)
 
-unspecified_only : (x : RegRule) → same_rule x rules.Unspecified ≡ true → same_rule rules.Unspecified x ≡ true
-unspecified_only rules.Unspecified e = refl
-unspecified_only x e = absurd cc
-
 cie_one : (initial : Rules) (r : ℕ) → AllByRecursion (λ i. IsTrue (in_cie i)) (rule_difference blank blank initial r)
 cie_one initial r = grind arith
 
