@@ -9,11 +9,7 @@ at_same : (k r : ℕ) → k ≡ r → is_at (nat_cmp k) r ≡ true
 at_same k r same = subst (λ (n : ℕ). is_at (nat_cmp k) n ≡ true) same (rw (le-ltb k k (omega arith), eq-eqb k k refl) refl)
 
 at_other : (k r : ℕ) → (k ≡ r → ⊥) → is_at (nat_cmp k) r ≡ false
-at_other k r ne = elim (told k r) [
-  | inl o ↦ rw (o.less) refl
-  | inr (inl same) ↦ absurd (ne same)
-  | inr (inr o) ↦ rw (o.greater) refl
-]
+at_other k r ne = grind arith
 
 -- ---- one CIE after another
 
@@ -32,8 +28,7 @@ pub record Placing (t : Target) (all rest : List (ℕ × Rules)) (places : List 
   pub same : (r : ℕ) → either_of (cie_place t written rest r) (place_in places r) ≡ cie_place t 0 all r
 
 pub placing_begins : (t : Target) (all : List (ℕ × Rules)) (places : List (ℕ × ℕ)) → RowsRise 0 all → places ≡ [] → Placing t all all places 0
-placing_begins t all places rise none =
-    record { low = 0; rise = rise; same = λ r. ap (λ (l : List (ℕ × ℕ)). either_of (cie_place t 0 all r) (place_in l r)) none ∙ first_alone (cie_place t 0 all r) }
+placing_begins t all places rise none = grind arith
 
 pub placing_ends : (t : Target) (all : List (ℕ × Rules)) (places : List (ℕ × ℕ)) (written : ℕ) → Placing t all [] places written → (r : ℕ) → place_in places r ≡ cie_place t 0 all r
 placing_ends t all places written h r = h.same r
