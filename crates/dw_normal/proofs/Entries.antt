@@ -4,7 +4,7 @@ use Rattle.dw_normal.proofs.Words.{length-append, take_more, take_all, take-appe
 use Rattle.dw_normal.proofs.Words.{parts_of, canon, cie_instrs, IsPart, Member, AreMembers, Written, contents, entry_bytes, laid_is, renders, initial_rows, cie_with, cies_bytes, fdes_bytes, place_in, cie_place, RowsRise, fde_with, Puts}
 use Rattle.dw_normal.proofs.Words.{taken_by, after, PutError, Memory}
 use Rattle.dw_canon.proofs.Lent.{Fields.entry_length, Readback.rendered_laid}
-use Rattle.dw_normal.proofs.{Grouped.no_member, Joined.{put_stops, goes_on, ends_there, counted, same_err}, Placed.as_many, Sited.{Placing, placing_begins, placing_more, placing_ends}, Summed.{canon_is, canon_length, fdes_append, front}}
+use Rattle.dw_normal.proofs.{Grouped.no_member, Joined.{put_stops, goes_on, ends_there, counted, same_err}, Placed.as_many, Sited.{Placing, placing_more}, Summed.{canon_is, canon_length, fdes_append, front}}
 
 -- ---- lengths
 
@@ -85,12 +85,6 @@ module _ {S : Type 0} {failures : S → ℕ} {taken : S → Option (List ℕ)} {
     (h : CiesPut failures taken t all rest places written old new) where
   pub cies_stop : Puts (cies_bytes t all) (Err (Memory written)) (failures old) (failures new) (taken old) (taken new)
   cies_stop = subst (λ (l : List ℕ). Puts l (Err (Memory written)) (failures old) (failures new) (taken old) (taken new)) (sym h.whole) (put_stops h.done (cies_bytes t rest) written _ _ _ _ h.puts)
-
-  pub cies_end : rest ≡ [] → Puts (cies_bytes t all) (Ok written) (failures old) (failures new) (taken old) (taken new)
-  cies_end none = search rules
-
-  pub cies_placed : rest ≡ [] → (r : ℕ) → place_in places r ≡ cie_place t 0 all r
-  cies_placed none = placing_ends t all places written (subst (λ (l : List (ℕ × Rules)). Placing t all l places written) none h.placing)
 
 -- ---- an FDE more
 

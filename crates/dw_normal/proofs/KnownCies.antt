@@ -178,10 +178,6 @@ on_both (Err e) P Q S to h k = tt
 
 -- ---- how a row that is shown stands to that of its CIE
 
-shown_so : (o : Option Rules) (row : Rules) (P : Rules → Type 0) → o ≡ Some row → IfSome o P → P (row_or_blank o)
-shown_so None row P e h = absurd cc
-shown_so (Some x) row P e h = h
-
 pub stands_behind : {E : Type 0} (s : Section) (next : Changing) (changed : Registers) (first : Rules) (r : Result (Option Behind) E) → next.section ≡ s → OnOk r (next.shown ≡ Some first)
     → IfOk r (λ (found : Option Behind). IfSome found (λ (b : Behind). (row : Rules) × CieLeaves s.target s.bytes b.cie_at row × IfSome next.shown (AreChanged changed row)))
     → IfOk r (λ (found : Option Behind). IfSome found (λ (b : Behind). IsTrue b.keeps → IfSome next.shown (λ (row : Rules). kept_by row next.to_come ≡ row))) → IfOk r (λ (found : Option Behind). IfSome found (ShownBehind next changed))

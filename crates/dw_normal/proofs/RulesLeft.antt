@@ -1,5 +1,5 @@
 -- What is left of a program, and what it is put behind.
-use Rattle.dw_normal.proofs.Words.{rules, ◌≡◌, ℕ, ◌<◌, List, [], ◌∷◌, ◌++◌, length, sym, ap, ◌∙◌, subst, arith, append_assoc, AllByRecursion, flat_map, append-nil, Target, Instr, Rules, either}
+use Rattle.dw_normal.proofs.Words.{◌≡◌, ℕ, ◌<◌, List, [], ◌∷◌, ◌++◌, length, sym, ap, ◌∙◌, subst, arith, append_assoc, AllByRecursion, flat_map, append-nil, Target, Instr, Rules, either}
 use Rattle.dw_normal.proofs.{Words.{difference, cfa_difference, rule_difference, InstrFits, instr_bytes, program_bytes, rules_from}, Passes.{program_more, both_halves}, RegistersBehind.from_first}
 
 -- what is put before a program's rest
@@ -26,7 +26,8 @@ module _ (t : Target) (shared old new : Rules) where
   bytes_divided = ap (program_bytes t) divided ∙ program_more t cfa rules
 
   pub put_behind : (out mid : List ℕ) → mid ≡ out ++ program_bytes t cfa → mid ++ program_bytes t rules ≡ out ++ program_bytes t (difference shared old new)
-  put_behind out mid is = cc
+  put_behind out mid is =
+      ap (λ (l : List ℕ). l ++ program_bytes t rules) is ∙ append_assoc out (program_bytes t cfa) (program_bytes t rules) ∙ ap (λ (l : List ℕ). out ++ l) (sym bytes_divided)
 
 -- ---- an instruction more
 
@@ -37,7 +38,10 @@ pub put_fits : {t : Target} {all rest more : List Instr} {i : Instr} {before now
 put_fits {t = t} h one = (subst (AllByRecursion (InstrFits t)) one h.fits).0
 
 pub put_next : {t : Target} {all rest more : List Instr} {i : Instr} {before now next : List ℕ} → PutBefore t all rest before now → rest ≡ i ∷ more → next ≡ now ++ instr_bytes t i → PutBefore t all more before next
-put_next {t = t} {more = more} {i = i} {now = now} h one is = search rules
+put_next {t = t} {more = more} {i = i} {now = now} h one is = record {
+  same = ap (λ (l : List ℕ). l ++ program_bytes t more) is ∙ append_assoc now (instr_bytes t i) (program_bytes t more) ∙ ap (λ (l : List Instr). now ++ program_bytes t l) (sym one) ∙ h.same;
+  fits = (subst (AllByRecursion (InstrFits t)) one h.fits).1;
+}
 
 pub put_ends : {t : Target} {all rest : List Instr} {before now : List ℕ} → PutBefore t all rest before now → rest ≡ [] → now ≡ before ++ program_bytes t all
 put_ends {t = t} {now = now} h none = sym (append-nil now) ∙ ap (λ (l : List Instr). now ++ program_bytes t l) (sym none) ∙ h.same

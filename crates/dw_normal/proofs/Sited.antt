@@ -17,21 +17,11 @@ abbrev pub either_of : Option ℕ → Option ℕ → Option ℕ
 either_of None other = other
 either_of (Some x) other = Some x
 
-first_alone : (o : Option ℕ) → either_of o None ≡ o
-first_alone None = refl
-first_alone (Some x) = refl
-
 -- a place is among those to come, or was kept
 pub record Placing (t : Target) (all rest : List (ℕ × Rules)) (places : List (ℕ × ℕ)) (written : ℕ) : Type 0 where
   pub low : ℕ
   pub rise : RowsRise low rest
   pub same : (r : ℕ) → either_of (cie_place t written rest r) (place_in places r) ≡ cie_place t 0 all r
-
-pub placing_begins : (t : Target) (all : List (ℕ × Rules)) (places : List (ℕ × ℕ)) → RowsRise 0 all → places ≡ [] → Placing t all all places 0
-placing_begins t all places rise none = grind arith
-
-pub placing_ends : (t : Target) (all : List (ℕ × Rules)) (places : List (ℕ × ℕ)) (written : ℕ) → Placing t all [] places written → (r : ℕ) → place_in places r ≡ cie_place t 0 all r
-placing_ends t all places written h r = h.same r
 
 not_among : (t : Target) (low at r : ℕ) (rows : List (ℕ × Rules)) → RowsRise low rows → r < low → cie_place t at rows r ≡ None
 not_among t low at r [] h lt = refl

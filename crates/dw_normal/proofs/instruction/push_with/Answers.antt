@@ -1,5 +1,4 @@
-use Rattle.dw_normal.proofs.Words.{rules}
-use Rattle.dw_normal.proofs.OneByte.{two_bytes}
+use Rattle.dw_normal.proofs.{OneByte.two_bytes, Words.rules}
 use Rattle.dw_normal.proofs.instruction.push_with.Goals as goal
 
 pub returns-then-value-lt128 : goal.returns-then-value-lt128

@@ -1,5 +1,4 @@
-use Rattle.dw_normal.proofs.Words.{rules}
-use Rattle.dw_normal.proofs.{Words.place_behind, RegistersBehind.{Next, none_differs, one_differs}, RulesLeft.{put_fits, put_next, put_ends, shorter}, program.push_rules.Goals.In-Some}
+use Rattle.dw_normal.proofs.{Words.{place_behind, rules}, RegistersBehind.{Next, none_differs, one_differs}, RulesLeft.{put_fits, put_next, put_ends, shorter}, program.push_rules.Goals.In-Some}
 use Rattle.dw_normal.proofs.program.push_rules.Goals as goal
 
 next : (c : In-Some) → Next c.args.shared.now c.args.before.now c.args.after.now (place_behind c.registers.last) c.in-Some.register
