@@ -1,5 +1,5 @@
 -- Sets of registers outside which two rows are the same: as they are listed, and as one is known by another.
-use Rattle.dw_normal.proofs.Words.{◌≡◌, ℕ, ◌<◌, Bool, true, false, List, Option, Some, None, refl, sym, ◌∙◌, subst, inl, inr, IfSome, BTreeMap, Rules, rule, Changing, row_of, shown_row, ◌||◌, Registers, SameBeside, has, CieLeaves, Section}
+use Rattle.dw_normal.proofs.Words.{◌≡◌, ℕ, ◌<◌, false, List, Option, Some, None, sym, subst, inl, inr, IfSome, BTreeMap, Rules, rule, Changing, row_of, shown_row, ◌||◌, Registers, SameBeside, has, CieLeaves, Section}
 use Rattle.dw_normal.proofs.Words.{rules, Behind, NotesSame, ShownBehind, AreSame, HoldsAt, CieSet, Known}
 
 -- ---- registers that are listed

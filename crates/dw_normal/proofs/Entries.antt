@@ -1,7 +1,7 @@
 -- The FDEs of a normal form, one after another.
 use Rattle.dw_normal.proofs.Words.{rules, ◌≡◌, ℕ, ◌+◌, ◌<◌, ◌≤◌, List, [], ◌∷◌, ◌++◌, length, map, take, drop, get_or, cond, Option, Some, Result, Ok, Err, refl, sym, ap, ◌∙◌, subst, arith, append_assoc, get_or-map, append-nil, length-map}
-use Rattle.dw_normal.proofs.Words.{length-append, take_more, take_all, take-append-drop, ◌^◌, is_at, AllByRecursion, nat_cmp, IsErrAnd, Appends-nil, AreBytes, Target, Rules, Accepted, AreFdes, Fde, all_get, InstrFits, part_of, groups_of}
-use Rattle.dw_normal.proofs.Words.{parts_of, canon, cie_instrs, IsPart, Member, AreMembers, Written, contents, entry_bytes, laid_is, renders, initial_rows, cie_with, cies_bytes, fdes_bytes, place_in, cie_place, RowsRise, fde_with, Puts}
+use Rattle.dw_normal.proofs.Words.{length-append, take_more, take_all, take-append-drop, ◌^◌, is_at, AllByRecursion, nat_cmp, IsErrAnd, AreBytes, Target, Rules, Accepted, AreFdes, Fde, all_get, InstrFits, part_of, groups_of}
+use Rattle.dw_normal.proofs.Words.{parts_of, canon, cie_instrs, IsPart, Member, AreMembers, Written, contents, entry_bytes, laid_is, renders, initial_rows, cie_with, cies_bytes, fdes_bytes, place_in, RowsRise, fde_with, Puts}
 use Rattle.dw_normal.proofs.Words.{taken_by, after, PutError, Memory}
 use Rattle.dw_canon.proofs.Lent.{Fields.entry_length, Readback.rendered_laid}
 use Rattle.dw_normal.proofs.{Grouped.no_member, Joined.{put_stops, goes_on, ends_there, counted, same_err}, Placed.as_many, Sited.{Placing, placing_more}, Summed.{canon_is, canon_length, fdes_append, front}}

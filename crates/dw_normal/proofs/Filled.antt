@@ -1,5 +1,5 @@
 -- What stands behind the length of an FDE, as it is built.
-use Rattle.dw_normal.proofs.Words.{rules, ◌≡◌, ℕ, ◌+◌, ◌-◌, List, ◌++◌, length, Result, Ok, Err, sym, ap, ◌∙◌, append_assoc, OnOk, replicate, length-append, Target, Rules, Fde, fde_instrs, initial_of, difference}
+use Rattle.dw_normal.proofs.Words.{rules, ◌≡◌, ℕ, ◌-◌, List, ◌++◌, length, Result, Ok, Err, append_assoc, OnOk, replicate, length-append, Target, Rules, fde_instrs, initial_of, difference}
 use Rattle.dw_normal.proofs.{Words.{later_changes, Member, program_bytes, fde, nop_count, filled, contents, missing, fde_field_bytes, IsBegun, later_bytes, shown_row, Begun, Size}, Passes.program_more}
 
 -- room, fields, a program behind them, and the nops

@@ -2,7 +2,7 @@
 use Rattle.std.specs.List.Sorted.{IsStrictlySortedBy}
 use Rattle.std.proofs.lemmas.Map.Keys.{sorted_head, sorted_tail}
 use Rattle.dw_normal.proofs.Words.{Less, Equal, Greater, eq-eqb, ◌≡◌, ◌⊎◌, ◌+◌, ℕ, suc, length, take, get_or, ◌<◌, ◌≤◌, Bool, true, false, List, [], ◌∷◌, ◌++◌, map, Option, Some, None, refl, sym, ap, ◌∙◌, subst, inl}
-use Rattle.dw_normal.proofs.Words.{inr, arith, nat_eq, nat_lt, insert_entry, is_at, AllByRecursion, keys_of, lookup, set_value, nat_cmp, cases_lt, lt-ltb, le-ltb, ne_eqb, cases_Bool, append-nil, take_more, Rules, blank}
+use Rattle.dw_normal.proofs.Words.{inr, arith, nat_eq, nat_lt, insert_entry, is_at, AllByRecursion, keys_of, lookup, set_value, nat_cmp, le-ltb, ne_eqb, cases_Bool, append-nil, take_more, Rules, blank}
 use Rattle.dw_normal.proofs.{Words.{return_registers, initial_of, with_register, with_registers, group, initial_row, kept_by, Member, initial_rows, begun_with, row_of, with_member}, Passes.{group_more, next_member}}
 
 -- ---- the order of two registers

@@ -1,5 +1,5 @@
 -- A number whose shortest spelling is one byte, and what is appended with it.
-use Rattle.dw_normal.proofs.Words.{rules, ◌≡◌, ℕ, ◌<◌, List, [], ◌∷◌, ◌++◌, refl, ap, ◌∙◌, lt-ltb, append_assoc, shortest_uleb}
+use Rattle.dw_normal.proofs.Words.{rules, ◌≡◌, ℕ, ◌<◌, List, [], ◌∷◌, ◌++◌, refl, lt-ltb, append_assoc, shortest_uleb}
 
 pub one_byte : (v : ℕ) → v < 128 → v ∷ [] ≡ shortest_uleb v
 unfolding shortest_uleb

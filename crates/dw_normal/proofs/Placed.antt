@@ -1,5 +1,5 @@
 -- What is so of an FDE of a table, and of the initial row of its group.
-use Rattle.dw_normal.proofs.Words.{◌≡◌, ℕ, zero, suc, ◌<◌, ◌≤◌, List, [], ◌∷◌, length, map, get_or, Option, Some, refl, sym, ap, ◌∙◌, subst, inl, inr, arith, IsSome, nat_eq, get_or-map, AllByRecursion, cases_Bool, eq-eqb, length-map}
+use Rattle.dw_normal.proofs.Words.{◌≡◌, ℕ, zero, suc, ◌<◌, ◌≤◌, List, [], ◌∷◌, length, map, get_or, Option, Some, refl, sym, ap, ◌∙◌, subst, arith, IsSome, nat_eq, get_or-map, AllByRecursion, cases_Bool, eq-eqb, length-map}
 use Rattle.dw_normal.proofs.Words.{AreBytes, address_limit, Target, Rules, Accepted, Fde, AreFdes, RowFits, all_get, return_registers, cie_instrs, initial_of, difference, ChangesStand, MemberStands, InstrFits, group, Member, fde_of}
 use Rattle.dw_normal.proofs.{Words.{AreMembers, difference_fits, cie_fits, fits, stand, group_fits, initial_rows, row_of, IsBegun, IsReady, IsShown, shown_row, Begun, members_exist, StandsApart}, Grouped.{some_of, look_members, no_member}}
 

@@ -1,5 +1,5 @@
 -- The registers of two rows from one on, and the first of them whose rule differs.
-use Rattle.dw_normal.proofs.Words.{◌≡◌, ℕ, suc, ◌<◌, ◌≤◌, true, false, List, [], ◌∷◌, map, None, refl, sym, ap, ◌∙◌, arith, inl, inr, nat_lt, flat_map, keys_of, cases_lt, lt-ltb, le-ltb, eq-eqb, ne_eqb, Rules, AreSpecified, rule, same_rule}
+use Rattle.dw_normal.proofs.Words.{◌≡◌, ℕ, suc, ◌<◌, ◌≤◌, true, List, [], ◌∷◌, map, None, refl, ap, arith, inl, inr, nat_lt, flat_map, keys_of, cases_lt, lt-ltb, le-ltb, eq-eqb, ne_eqb, Rules, AreSpecified, rule, same_rule}
 use Rattle.dw_normal.proofs.Words.{FirstDifference, DiffersFirst, differs_of, either, rule_to, rule_difference, with_register, with_registers, from_on, rules_from, RegRule, rule_tells}
 use Rattle.dw_canon.proofs.Lent.Differences.{In, either_or}
 

@@ -1,7 +1,7 @@
 -- The places of CIEs, kept one after another.
 use Rattle.std.proofs.lemmas.Bool.Decides.{eqb_tells}
 use Rattle.dw_normal.proofs.Words.{◌≡◌, ℕ, suc, ◌+◌, ◌<◌, ◌≤◌, Bool, true, false, cond, List, [], ◌∷◌, length, map, Option, Some, None, refl, sym, ap, ◌∙◌, subst, inl, inr, arith, eq-eqb, is_at, nat_cmp, le-ltb, length-append}
-use Rattle.dw_normal.proofs.{Words.{Target, Rules, group_of, return_registers, initial_of, GroupsRise, place_of, Member, entry_bytes, initial_rows, row_of, cie_with, cies_bytes, place_in, cie_place, RowsRise}, Grouped.told}
+use Rattle.dw_normal.proofs.{Words.{Target, Rules, group_of, return_registers, initial_of, GroupsRise, place_of, Member, entry_bytes, initial_rows, row_of, cie_with, cies_bytes, place_in, cie_place, RowsRise}}
 
 -- ---- the order of two registers
 

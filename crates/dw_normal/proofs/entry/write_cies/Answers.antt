@@ -1,4 +1,4 @@
-use Rattle.dw_normal.proofs.Words.{◌≡◌, ◌<◌, ◌-◌, ℕ, [], ◌∷◌, Some, sym, subst, rules, ◌^◌, Updates, nat_cmp}
+use Rattle.dw_normal.proofs.Words.{◌≡◌, ◌<◌, ◌-◌, ℕ, ◌∷◌, Some, sym, subst, rules, ◌^◌, Updates, nat_cmp}
 use Rattle.dw_normal.proofs.{Entries.{cies_start, cie_fits, cie_small, cie_counted, cies_fail, cies_more, cies_stop}, Joined.ok_of, entry.write_cies.Given.Over, entry.write_cies.Goals.In-Some}
 use Rattle.dw_normal.proofs.entry.write_cies.Goals as goal
 

@@ -1,5 +1,5 @@
-use Rattle.dw_normal.proofs.Words.{rules, AllocError, ◌≡◌, ℕ, List, ◌++◌, sym, ap, ◌∙◌, subst, AllByRecursion, append-nil, Rules, difference, InstrFits, program_bytes, row_or_blank, shown_row}
-use Rattle.dw_normal.proofs.{ChangesToCome.{Given, given, none_given}, Passes.{none_later, shown_before, some_before, step_up, step_fits, step_stand, step_written}, program.push_later.Goals.In-Some}
+use Rattle.dw_normal.proofs.Words.{rules, AllocError, ◌≡◌, ℕ, List, ◌++◌, sym, ap, ◌∙◌, subst, AllByRecursion, Rules, difference, InstrFits, program_bytes, row_or_blank, shown_row}
+use Rattle.dw_normal.proofs.{ChangesToCome.{Given, given}, Passes.{shown_before, some_before, step_up, step_fits, step_stand, step_written}, program.push_later.Goals.In-Some}
 use Rattle.dw_normal.proofs.program.push_later.Goals as goal
 
 next : (c : In-Some) → Given c.changes.changes c.advance.new.self c.in-Some.address

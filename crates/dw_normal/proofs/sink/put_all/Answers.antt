@@ -1,4 +1,4 @@
-use Rattle.dw_normal.proofs.{Words.{◌∙◌, length, ap, arith, length-drop, take_rest}, Taken.{took_more, took_all}}
+use Rattle.dw_normal.proofs.{Words.{length, arith, length-drop, take_rest}, Taken.{took_more, took_all}}
 use Rattle.dw_normal.proofs.sink.put_all.Goals as goal
 
 pub bytes-preserved : goal.bytes-preserved
