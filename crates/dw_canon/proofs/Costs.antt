@@ -1,9 +1,9 @@
 -- How many bytes lead from one row to another, where the bytes of the rules of both are known.
-use Rattle.dw_canon.proofs.Words.{◌≡◌, ℕ, ◌+◌, ◌<◌, ◌≤◌, true, false, List, [], ◌∷◌, ◌++◌, length, refl, inl, inr, arith, ℤ, neg_ℤ, unsigned_abs, nat_eq, nat_lt, is_negative, is_positive, flat_map, int_eq, cases_Bool, length-append, Target}
-use Rattle.dw_canon.proofs.Words.{shortest_uleb, shortest_sleb, Instr, DefCfa, DefCfaRegister, DefCfaOffset, DefCfaExpression, Set, Restore, CfaRule, RegRule, IsOffset, same_cfa, same_rule, Rules, rule, is_specified, CfaFits, RowFits}
+use Rattle.dw_canon.proofs.Words.{◌≡◌, ℕ, ◌+◌, ◌<◌, ◌≤◌, true, false, List, [], ◌∷◌, ◌++◌, length, refl, inl, inr, arith, ℤ, neg_ℤ, unsigned_abs, nat_eq, nat_lt, is_negative, flat_map, int_eq, cases_Bool, length-append, Target}
+use Rattle.dw_canon.proofs.Words.{shortest_uleb, shortest_sleb, Instr, DefCfa, DefCfaRegister, DefCfaOffset, DefCfaExpression, Set, Restore, CfaRule, RegRule, IsOffset, same_rule, Rules, rule, is_specified, CfaFits, RowFits}
 use Rattle.dw_canon.proofs.Words.{cfa_to, either, cfa_difference, rule_difference, difference, expression_bytes, instr_bytes, program_bytes, packed}
 use Rattle.dw_canon.specs.Spelling.{instr_bytes as instr_with}
-use Rattle.dw_canon.proofs.{Lent.Shared.specified_or, Sums.sum_of, Weights.{rule_len, cfa_len, register_len, abs_len, neg_len, packed_len}}
+use Rattle.dw_canon.proofs.{Sums.sum_of, Weights.{rule_len, cfa_len, register_len, abs_len, neg_len, packed_len}}
 use Rattle.dw_cfa.specs.declared.rule.CfaRule.TheVariants as cfa
 use Rattle.dw_cfa.specs.declared.rule.RegRule.TheVariants as rules
 
@@ -22,20 +22,11 @@ bytes_one t i n h = let none : List ℕ = [] in omega (arith, length-append (ins
 
 -- ---- a register
 
-same_packed : (a b c d r : ℕ) → length (packed a b r) ≡ length (packed c d r)
-same_packed a b c d r = elim (cases_Bool (nat_lt r 64)) [ inl e ↦ rw e refl | inr e ↦ rw e refl ]
-
 -- restore is no longer than a rule
 restore_len : (t : Target) (r : ℕ) (x : RegRule) → is_specified x ≡ true → length (packed 0xc0 0x06 r) ≤ rule_len t r x
 restore_len t r rules.Unspecified e = absurd cc
-restore_len t r (rules.Offset n) e = elim (cases_Bool (is_positive n)) [
-  | inl f ↦ rw f (omega (arith, packed_len 0xc0 0x06 r, length-append (shortest_uleb r) (shortest_sleb (neg_ℤ n))))
-  | inr f ↦ rw f (omega (arith, same_packed 0xc0 0x06 0x80 0x05 r, length-append (packed 0x80 0x05 r) (shortest_uleb (unsigned_abs n))))
-]
-restore_len t r (rules.ValOffset n) e = elim (cases_Bool (is_positive n)) [
-  | inl f ↦ rw f (omega (arith, packed_len 0xc0 0x06 r, length-append (shortest_uleb r) (shortest_sleb (neg_ℤ n))))
-  | inr f ↦ rw f (omega (arith, packed_len 0xc0 0x06 r, length-append (shortest_uleb r) (shortest_uleb (unsigned_abs n))))
-]
+restore_len t r (rules.Offset n) e = grind (arith, length-append)
+restore_len t r (rules.ValOffset n) e = grind (arith, length-append)
 restore_len t r (rules.Register q) e = omega (arith, packed_len 0xc0 0x06 r, length-append (shortest_uleb r) (shortest_uleb q))
 restore_len t r (rules.Expression x) e = omega (arith, packed_len 0xc0 0x06 r, length-append (shortest_uleb r) (expression_bytes t x))
 restore_len t r (rules.ValExpression x) e = omega (arith, packed_len 0xc0 0x06 r, length-append (shortest_uleb r) (expression_bytes t x))
@@ -43,22 +34,13 @@ restore_len t r x e = omega (arith, packed_len 0xc0 0x06 r)
 
 -- where one rule goes to another, and the other is none, only the first is long enough for it
 restore_either : (t : Target) (r n : ℕ) (a b : RegRule) → same_rule a b ≡ false → (b ≡ rules.Unspecified → rule_len t r a ≤ n) → rule_len t r b ≤ n → length (packed 0xc0 0x06 r) ≤ n
-restore_either t r n a b e h k = elim (specified_or b) [
-  | inl is ↦ omega (arith, restore_len t r b is)
-  | inr none ↦ elim (specified_or a) [
-    | inl is ↦ omega (arith, restore_len t r a is, h none)
-    | inr unset ↦ let same = rw (unset, none) at e in absurd cc
-  ]
-]
+restore_either t r n a b e h k = grind (arith, restore_len)
 
 -- ---- the CFA
 
 define_len : (t : Target) (r : ℕ) (n : ℤ) → r < 65536 → IsOffset n → length (instr_bytes t (DefCfa r n)) ≤ 14
 unfolding instr_with
-define_len t r n lt h = elim (cases_Bool (is_negative n)) [
-  | inl e ↦ rw e (omega (arith, register_len r lt, neg_len n h, length-append (shortest_uleb r) (shortest_sleb (neg_ℤ n))))
-  | inr e ↦ rw e (omega (arith, register_len r lt, abs_len n h, length-append (shortest_uleb r) (shortest_uleb (unsigned_abs n))))
-]
+define_len t r n lt h = grind (arith, cases_Bool, is_negative, register_len, neg_len, length-append, shortest_sleb, neg_ℤ, abs_len, unsigned_abs)
 
 register_to_len : (t : Target) (r : ℕ) → r < 65536 → length (instr_bytes t (DefCfaRegister r)) ≤ 14
 unfolding instr_with
@@ -85,10 +67,7 @@ cfa_to_len t (cfa.Expression x) (cfa.Expression e) h = bytes_one t (DefCfaExpres
 cfa_to_len t old cfa.Unset h = omega arith
 
 cfa_difference_len : (t : Target) (old new : CfaRule) (most : ℕ) → CfaFits t new → cfa_len t new ≤ most → length (program_bytes t (cfa_difference old new)) ≤ 14 + most
-cfa_difference_len t old new most h le = elim (cases_Bool (same_cfa old new)) [
-  | inl e ↦ rw e (omega arith)
-  | inr e ↦ rw e (omega (arith, cfa_to_len t old new h))
-]
+cfa_difference_len t old new most h le = grind (arith, cfa_to_len)
 
 -- ---- both
 

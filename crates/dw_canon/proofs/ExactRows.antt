@@ -1,6 +1,6 @@
 -- An FDE of a normal form starts as many rows as it has changes.
 use Rattle.dw_canon.proofs.Words.{◌≡◌, ℕ, ◌+◌, ◌<◌, ◌≤◌, List, [], ◌∷◌, ◌++◌, map, length, sym, ap, ◌∙◌, subst, arith, AllByRecursion, AreBytes, Target, Rules, row_starts, nops, row_starts_nops, Fde, Accepted, ChangesOf, one_change_list}
-use Rattle.dw_canon.proofs.Words.{one_programs, Group, Part, fde_in, laid, section_bytes, IsPartOf, IsRendered, Renders, part_of, initial_of, MemberStands, Member, changes_of, IsMember, programs_rules, row_exists, rules_covered}
+use Rattle.dw_canon.proofs.Words.{one_programs, Group, Part, fde_in, laid, section_bytes, IsPartOf, IsRendered, Renders, part_of, initial_of, MemberStands, Member, IsMember, programs_rules, row_exists, rules_covered}
 use Rattle.dw_canon.proofs.{Lent.MemberPlaces.group_fits, Lent.Readback.{bn, in_n, listed_part, okn, part_in, part_listed, part_there, reads_back}, Lent.Rendered.fde_is, Lent.Shared.MemberFits, ProgramLaws.member_program}
 
 -- ---- parts
@@ -14,11 +14,7 @@ pub record Exact (t : Target) (s : List ℕ) (p : Part) : Type 0 where
 pub all_exact : (t : Target) (s : List ℕ) (ms xs : List Member) → AllByRecursion (MemberFits t) ms → AllByRecursion (λ (m : Member). m.begin < m.end) xs → AllByRecursion (IsMember t s) xs
     → AllByRecursion (λ (m : Member). MemberStands t (initial_of ms m.register) m) xs → AllByRecursion (Exact t s) (map (part_of t ms) xs)
 all_exact t s ms [] fits some is stands = tt
-all_exact t s ms (m ∷ xs) fits some is stands =
-    let law = member_program t (initial_of ms m.register) m (group_fits t ms m.register fits) stands.0 in (
-      record { changes = changes_of m; source = subst (λ (f : Fde). ChangesOf t s f (changes_of m)) (sym (fde_is t ms m some.0)) is.0; starts = law.3 },
-      all_exact t s ms xs fits some.1 is.1 stands.1,
-    )
+all_exact t s ms (m ∷ xs) fits some is stands = grind (arith, member_program t (initial_of ms m.register) m (group_fits t ms m.register fits) stands.0, fde_is t ms m some.0, all_exact t s ms xs fits some.1 is.1 stands.1)
 
 -- ---- the FDE
 

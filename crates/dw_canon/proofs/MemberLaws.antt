@@ -1,7 +1,7 @@
 -- What holds of a member's program and of its CIE's, as instructions: they keep what programs have to, start as many rows as there
 -- are changes, and change at the member's addresses to its rows.
-use Rattle.dw_canon.proofs.Words.{◌≡◌, ℕ, zero, suc, ◌+◌, ◌<◌, ◌≤◌, Bool, true, false, cond, List, [], ◌∷◌, ◌++◌, length, map, replicate, Option, Some, None, refl, sym, ap, ◌∙◌, subst, inl, inr, arith, count_by, IsTrue, nat_le, cases_Bool}
-use Rattle.dw_canon.proofs.Words.{AllByRecursion, length-map, append-nil, Target, address_limit, Instr, Nop, CfaRule, RegRule, LocatedRow, cfa_after, rule_after, ProgramSpells, CieKept, FdeKept, in_cie, initial_cfa, initial_rule}
+use Rattle.dw_canon.proofs.Words.{◌≡◌, ℕ, zero, suc, ◌+◌, ◌<◌, ◌≤◌, Bool, true, false, cond, List, [], ◌∷◌, ◌++◌, length, map, replicate, Option, Some, None, refl, sym, ap, ◌∙◌, subst, inr, arith, count_by, IsTrue}
+use Rattle.dw_canon.proofs.Words.{rules, AllByRecursion, length-map, append-nil, Target, address_limit, Instr, Nop, CfaRule, RegRule, LocatedRow, cfa_after, rule_after, ProgramSpells, CieKept, FdeKept, in_cie, initial_cfa, initial_rule}
 use Rattle.dw_canon.proofs.Words.{HoldsAfter, onto, moves_location, row_starts, State, begun, after, Rules, AreSpecified, rule, blank, Placed, counts_exists, one_count, instrs_of, Gives, rows_at, never_falls, AreChanges, HasCfa, fde_instrs}
 use Rattle.dw_canon.proofs.Words.{cie_instrs, RowFits, ChangesStand, MemberStands, InstrFits, Member, changes_of, program_bytes, factors}
 use Rattle.std.proofs.lemmas.List.Sums.{sum_by-cons}
@@ -11,7 +11,7 @@ use Rattle.dw_cfa.proofs.Lent.{FaultLaws.begun_stands, Forward.{Follows, Holds, 
 use Rattle.dw_section.specs.Inner.Changes.{Among, Before}
 use Rattle.dw_section.proofs.Lent.ChangeLaws.{HasRow, all_found}
 use Rattle.dw_canon.proofs.Lent.{Differences.{Quiet, quiet_more, on, difference_quiet}, InstrFits.{all_more, blank_fits, nops_fit, member_fits, cie_fits, cie_allowed}}
-use Rattle.dw_canon.proofs.{Lent.Programs.{NoFaults, plain_rows, plain_gives, RunsTo, quiet_runs, nops_quiet, located, below_end, member_runs, row_before}, Spelled.program_spelled}
+use Rattle.dw_canon.proofs.{Lent.Programs.{plain_rows, plain_gives, RunsTo, quiet_runs, nops_quiet, located, below_end, member_runs, row_before}, Spelled.program_spelled}
 use Rattle.dw_cfa.specs.declared.rule.CfaRule.TheVariants as cfa
 
 -- ---- instructions as items, all at one place
@@ -26,9 +26,7 @@ items_back (i ∷ instrs) = ap (λ (l : List Instr). i ∷ l) (items_back instrs
 
 module _ (limit : ℕ) (initial : Rules) (begin : ℕ) (instrs : List Instr) (rows : List LocatedRow) (runs : RunsTo limit initial instrs (on initial begin) rows) where
   gives : Gives limit initial (items_of instrs) (on initial begin) rows
-  gives =
-      let all = plain_gives limit initial (items_of instrs) (on initial begin) (subst (λ (l : List Instr). NoFaults limit initial l (on initial begin)) (sym (items_back instrs)) runs.0) in
-      subst (Gives limit initial (items_of instrs) (on initial begin)) (ap (λ (l : List Instr). plain_rows initial l (on initial begin)) (items_back instrs) ∙ runs.1) all
+  gives = search (rules, plain_gives, items_back)
 
   pub run_kept : AreSpecified 0 initial.registers → begin ≤ limit → AllInLimit limit instrs → FdeKept limit begin initial.cfa instrs
   run_kept listed le all =
@@ -85,23 +83,6 @@ among_later t initial end at row [] h = refl
 among_later t initial end at row (change ∷ changes) h =
     inr ((before_next t initial end change.0 change.1 changes h.3, λ same. h.1 (let is : row ≡ change.1 = cc in is)), (changes, refl, among_later t initial end change.0 change.1 changes h.3))
 
--- ---- what holds of all rows holds of the one at an address
-
-found_in : (P : Rules → Type 0) (a : ℕ) (row : LocatedRow) (o : Option Rules) (x : Rules) → P row.row → ((y : Rules) → o ≡ Some y → P y) → or_here a row o ≡ Some x → P x
-found_in P a row (Some y) x h more e = let same : y ≡ x = cc in subst P same (more y refl)
-found_in P a row None x h more e = elim (cases_Bool (nat_le row.location a)) [
-  | inl le ↦ let f = rw le at e in let same : row.row ≡ x = cc in subst P same h
-  | inr gt ↦ let f = rw gt at e in absurd cc
-]
-
-last_in : (P : Rules → Type 0) (a : ℕ) (rows : List LocatedRow) (x : Rules) → AllByRecursion (λ (row : LocatedRow). P row.row) rows → last_at a rows ≡ Some x → P x
-last_in P a [] x h e = absurd cc
-last_in P a (row ∷ rows) x h e = found_in P a row (last_at a rows) x h.0 (λ y is. last_in P a rows y h.1 is) e
-
-all_set : (t : Target) (initial : Rules) (end at : ℕ) (row : Rules) (changes : List (ℕ × Rules)) → ChangesStand t initial end at row changes → AllByRecursion (λ (row : LocatedRow). row.row.cfa ≡ cfa.Unset → ⊥) (map located changes)
-all_set t initial end at row [] h = tt
-all_set t initial end at row (change ∷ changes) h = (h.2.set, all_set t initial end change.0 change.1 changes h.3)
-
 -- ---- the member
 
 module _ (t : Target) (initial : Rules) (fits : RowFits t initial) (m : Member) (stands : MemberStands t initial m) (n : ℕ) where
@@ -137,14 +118,6 @@ module _ (t : Target) (initial : Rules) (fits : RowFits t initial) (m : Member) 
         all_found ci member_instrs m.begin m.end (map located (changes_of m)) (changes_of m)
         (run_falls (address_limit t.size) initial m.begin member_instrs (map located (changes_of m)) runs) has refl nonempty
         (inr ((before_next t initial m.end m.begin m.first m.later stands.later, λ same. absurd cc), (m.later, refl, among_later t initial m.end m.begin m.first m.later stands.later)))
-
-    -- at each address of it the CFA has a rule
-    pub member_cfa : (a : ℕ) → m.begin ≤ a → HasCfa ci member_instrs m.begin a
-    member_cfa a le k counts unset =
-        let row = has a le in
-        let same : row.2.k ≡ k = one_count m.begin member_instrs a row.2.k k row.2.counts counts in
-        let there = subst (λ (j : ℕ). HoldsAfter ci member_instrs j row.0) same row.2.holds in
-        last_in (λ (x : Rules). x.cfa ≡ cfa.Unset → ⊥) a (map located (changes_of m)) row.0 (stands.first.set, all_set t initial m.end m.begin m.first m.later stands.later) row.1 (there.cfa ∙ unset)
 
 -- ---- the CIE
 

@@ -1,7 +1,7 @@
 -- What a member of a section takes in the normal form, and its group's CIE, against the programs of its FDE.
 use Rattle.dw_section.proofs.Lent.{OneLengths.one_lengths, Sections.here}
-use Rattle.dw_canon.proofs.Words.{ℕ, ◌+◌, ◌*◌, ◌<◌, ◌≤◌, List, ◌∷◌, length, inl, inr, arith, AllByRecursion, suc-mul, Target, AreBytes, Instr, Rules, blank, counts_exists, Accepted, HasLengths, RowFits, changes_programs, Held, held_all}
-use Rattle.dw_canon.proofs.{Words.{least_starts, cie_instrs, fde_instrs, difference, later_changes, RestsOn, initial_row, Member, IsMember, fde_of, changes_of, program_bytes, factors_of}, Costs.bytes_more, Lent.MemberPlaces.all_both}
+use Rattle.dw_canon.proofs.Words.{ℕ, ◌+◌, ◌*◌, ◌<◌, ◌≤◌, List, ◌∷◌, length, inl, inr, arith, AllByRecursion, Target, AreBytes, Instr, Rules, blank, counts_exists, Accepted, HasLengths, RowFits, changes_programs, Held, held_all}
+use Rattle.dw_canon.proofs.{Words.{rules, least_starts, cie_instrs, fde_instrs, RestsOn, initial_row, Member, IsMember, fde_of, changes_of, program_bytes, factors_of}, Costs.bytes_more, Lent.MemberPlaces.all_both}
 use Rattle.dw_canon.proofs.{Lent.Shared.{MemberFits, initial_fits, initial_or, initial_cfa_or}, Sums.sum_more, Weights.{rule_weight, cfa_weight, program_most}, Within.{all_len, IsWithin, holds_within, step_len, later_len}}
 
 -- the rows of a member are within what its programs give, and its changes are no more than they start rows
@@ -36,13 +36,7 @@ is_priced t s b ok m own initial is fits some lengths =
 module _ (t : Target) (m : Member) (own initial : ℕ) (h : IsPriced t m own initial) where
   -- the FDE's program
   pub fde_len : (row : Rules) → RestsOn row m.first → length (program_bytes t (fde_instrs row m)) ≤ length (changes_of m) * (23 + all_len t h.i h.j)
-  fde_len row rests = omega (
-    arith,
-    bytes_more t (difference row row m.first) (later_changes row m.begin m.first m.later),
-    step_len t h.i h.j row row m.first (λ r e. let none = rests r e in rw none (omega arith)) h.first,
-    later_len t h.i h.j row m.begin m.first m.later h.first h.later,
-    suc-mul (length m.later) (23 + all_len t h.i h.j),
-  )
+  fde_len row rests = search (rules, bytes_more, step_len, later_len)
 
   -- the program of the CIE of a group that begins with it
   pub cie_len : (ms : List Member) → AllByRecursion (MemberFits t) (m ∷ ms) → length (program_bytes t (cie_instrs (initial_row (m ∷ ms)))) ≤ 14 + all_len t h.i h.j

@@ -1,6 +1,6 @@
 -- The bytes of an instruction in the normal form spell it.
-use Rattle.dw_canon.proofs.Words.{◌≡◌, ◌⊎◌, ℕ, zero, suc, ◌+◌, ◌*◌, ◌<◌, ◌^◌, true, false, List, [], ◌∷◌, ◌++◌, length, refl, sym, inl, inr, arith, ℤ, pos, negsuc, unsigned_abs, nat_lt, FitsSigned, IsTrue, w64, AllByRecursion, cases_Bool}
-use Rattle.dw_canon.proofs.Words.{ltb-true, lt-ltb, le-ltb, Target, Size, Four, Eight, Register, Fixed, Address, fixed_bytes, is_specified, shortest_uleb, shortest_sleb, byte_count, address_limit, shortest_uleb-spells, shortest_sleb-spells}
+use Rattle.dw_canon.proofs.Words.{◌≡◌, ◌⊎◌, ℕ, zero, suc, ◌+◌, ◌*◌, ◌<◌, ◌^◌, true, false, List, [], ◌∷◌, ◌++◌, length, refl, sym, inl, inr, arith, ℤ, pos, negsuc, unsigned_abs, nat_lt, FitsSigned, IsTrue, w64, AllByRecursion}
+use Rattle.dw_canon.proofs.Words.{lt-ltb, le-ltb, Target, Size, Four, Eight, Register, Address, fixed_bytes, is_specified, shortest_uleb, shortest_sleb, byte_count, address_limit, shortest_uleb-spells, shortest_sleb-spells}
 use Rattle.dw_canon.proofs.Words.{least_block, Expression, Code, Both, least_block_exists, least_no_longer, block_of_least, Instr, SetLoc, Advance, DefCfa, DefCfaRegister, DefCfaOffset, DefCfaExpression, Set, Restore, RegRule, IsOffset}
 use Rattle.dw_canon.proofs.Words.{BlockSpells, InstrSpells, ProgramSpells, Plain, Factored, SignedFactored, AdvanceSpells, RuleSpells, IsSpelled, in_table, HasBlock, RuleFits, InstrFits, expression_bytes, rule_bytes, instr_bytes}
 use Rattle.dw_canon.proofs.Words.{program_bytes, advance_bytes, packed, factors, Alone}
@@ -65,31 +65,16 @@ module _ (t : Target) where
   -- ---- advances
 
   advance_is : (delta : ℕ) → delta < 2 ^ 32 → AdvanceSpells t delta (advance_bytes t.order delta)
-  advance_is delta lt = elim (cases_Bool (nat_lt delta 64)) [
-    | inl e ↦ rw e (inl (ltb-true delta 64 e, refl))
-    | inr e ↦ elim (cases_Bool (nat_lt delta 256)) [
-      | inl f ↦ rw (e, f) (inr (inl (code 0x02 (Fixed t.order 1 delta) (fixed_bytes t.order 1 delta) (record { bytes = refl; fits = omega (arith, ltb-true delta 256 f) }))))
-      | inr f ↦ elim (cases_Bool (nat_lt delta 65536)) [
-        | inl g ↦ rw (e, f, g) (inr (inr (inl (code 0x03 (Fixed t.order 2 delta) (fixed_bytes t.order 2 delta) (record { bytes = refl; fits = omega (arith, ltb-true delta 65536 g) })))))
-        | inr g ↦ rw (e, f, g) (inr (inr (inr (code 0x04 (Fixed t.order 4 delta) (fixed_bytes t.order 4 delta) (record { bytes = refl; fits = omega arith })))))
-      ]
-    ]
-  ]
+  advance_is delta lt = grind arith
 
   -- ---- rules
 
   packed_is : (low c r : ℕ) (P : List ℕ → Type 0) (rest : List ℕ) → r < 65536 → P rest
       → ((r < 64) × Code (low + r) P (packed low c r ++ rest)) ⊎ Code c (Both (Register r) P) (packed low c r ++ rest)
-  packed_is low c r P rest lt h = elim (cases_Bool (nat_lt r 64)) [
-    | inl e ↦ rw e (inl (ltb-true r 64 e, code (low + r) P rest h))
-    | inr e ↦ rw e (inr (code c (Both (Register r) P) (shortest_uleb r ++ rest) (both (Register r) P (shortest_uleb r) rest (register r lt) h)))
-  ]
+  packed_is low c r P rest lt h = grind (arith, register)
 
   packed_alone : (low c r : ℕ) → r < 65536 → ((r < 64) × Alone (low + r) (packed low c r)) ⊎ Code c (Register r) (packed low c r)
-  packed_alone low c r lt = elim (cases_Bool (nat_lt r 64)) [
-    | inl e ↦ rw e (inl (ltb-true r 64 e, refl))
-    | inr e ↦ rw e (inr (code c (Register r) (shortest_uleb r) (register r lt)))
-  ]
+  packed_alone low c r lt = grind (arith, register)
 
   with_register : (c r : ℕ) (P : List ℕ → Type 0) (rest : List ℕ) → r < 65536 → P rest → Code c (Both (Register r) P) (c ∷ (shortest_uleb r ++ rest))
   with_register c r P rest lt h = code c (Both (Register r) P) (shortest_uleb r ++ rest) (both (Register r) P (shortest_uleb r) rest (register r lt) h)

@@ -1,5 +1,5 @@
 -- Sums over lists, and over numbers that ascend.
-use Rattle.dw_canon.proofs.{Words.{◌≡◌, ℕ, suc, ◌+◌, ◌<◌, ◌≤◌, List, [], ◌∷◌, ◌++◌, refl, arith, inl, inr, nat_eq, if◌then◌else◌, eqb_tells}, AscendingRegisters.Rise}
+use Rattle.dw_canon.proofs.{Words.{rules, ◌≡◌, ℕ, suc, ◌+◌, ◌<◌, ◌≤◌, List, [], ◌∷◌, ◌++◌, refl, arith, inl, inr, nat_eq, if◌then◌else◌, eqb_tells}, AscendingRegisters.Rise}
 
 abbrev pub sum_of : {X : Type 0} → (X → ℕ) → List X → ℕ
 sum_of f [] = 0
@@ -24,10 +24,7 @@ if_own q weight r = if nat_eq q r then weight else 0
 
 none_own : (q weight low : ℕ) (rs : List ℕ) → q < low → Rise low rs → sum_of (if_own q weight) rs ≡ 0
 none_own q weight low [] lt up = refl
-none_own q weight low (r ∷ rs) lt up = elim (eqb_tells q r) [
-  | inl is ↦ absurd (omega (arith, is.1, up.0))
-  | inr not ↦ rw (not.0) (omega (arith, none_own q weight (suc r) rs (omega (arith, up.0)) up.1))
-]
+none_own q weight low (r ∷ rs) lt up = search (rules, none_own q weight (suc r) rs (omega (arith, up.0)) up.1)
 
 -- is counted once where they ascend
 pub once_own : (q weight low : ℕ) (rs : List ℕ) → Rise low rs → sum_of (if_own q weight) rs ≤ weight

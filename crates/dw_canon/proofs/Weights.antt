@@ -46,16 +46,10 @@ pub packed_len : (low c r : ℕ) → length (packed low c r) ≤ 1 + length (sho
 packed_len low c r = elim (cases_Bool (nat_lt r 64)) [ inl e ↦ rw e (omega arith) | inr e ↦ rw e (omega arith) ]
 
 offset_len : (t : Target) (r : ℕ) (n : ℤ) → IsOffset n → rule_len t r (rules.Offset n) ≤ 11 + length (shortest_uleb r)
-offset_len t r n h = elim (cases_Bool (is_positive n)) [
-  | inl e ↦ rw e (omega (arith, length-append (shortest_uleb r) (shortest_sleb (neg_ℤ n)), neg_len n h))
-  | inr e ↦ rw e (omega (arith, length-append (packed 0x80 0x05 r) (shortest_uleb (unsigned_abs n)), packed_len 0x80 0x05 r, abs_len n h))
-]
+offset_len t r n h = grind (arith, cases_Bool, is_positive, length-append, shortest_sleb, neg_ℤ, neg_len, packed, unsigned_abs, packed_len, abs_len)
 
 val_len : (t : Target) (r : ℕ) (n : ℤ) → IsOffset n → rule_len t r (rules.ValOffset n) ≤ 11 + length (shortest_uleb r)
-val_len t r n h = elim (cases_Bool (is_positive n)) [
-  | inl e ↦ rw e (omega (arith, length-append (shortest_uleb r) (shortest_sleb (neg_ℤ n)), neg_len n h))
-  | inr e ↦ rw e (omega (arith, length-append (shortest_uleb r) (shortest_uleb (unsigned_abs n)), abs_len n h))
-]
+val_len t r n h = grind (arith, cases_Bool, is_positive, length-append, shortest_sleb, neg_ℤ, neg_len, unsigned_abs, abs_len)
 
 -- ---- expressions
 
@@ -91,8 +85,7 @@ module _ (t : Target) (f : Factors) where
       omega (arith, val_len t r n h.operands.second.range, register_len r h.operands.first.1, behind 0x14 r _ b h, leb_some h.operands.back h.operands.second.spelled.shape)
   rule_most r (rules.ValOffset n) b (inr h) =
       omega (arith, val_len t r n h.operands.second.range, register_len r h.operands.first.1, behind 0x15 r _ b h, leb_some h.operands.back h.operands.second.spelled.shape)
-  rule_most r (rules.Register q) b h =
-      omega (arith, length-append (shortest_uleb r) (shortest_uleb q), register_len r h.operands.first.1, register_len q h.operands.second.1, behind 0x09 r _ b h, leb_some h.operands.back h.operands.second.0.shape)
+  rule_most r (rules.Register q) b h = grind (arith, length-append, register_len, leb_some)
   rule_most r (rules.Expression e) b h =
       omega (arith, length-append (shortest_uleb r) (expression_bytes t e), register_len r h.operands.first.1, behind 0x10 r _ b h, expression_len t e h.operands.back h.operands.second, block_some t e h.operands.back h.operands.second)
   rule_most r (rules.ValExpression e) b h =

@@ -4,7 +4,7 @@ use Rattle.dw_cfa.specs.declared.rule.CfaRule.TheVariants as cfa
 use Rattle.dw_cfa.specs.declared.rule.RegRule.TheVariants as rules
 use Rattle.dw_section.proofs.Lent.Fitting.{all_onto, back_keeps}
 use Rattle.dw_canon.specs.Spelling.{instr_bytes as instr_with}
-use Rattle.dw_canon.proofs.Words.{◌≡◌, ℕ, ◌+◌, ◌-◌, ◌*◌, ◌≤◌, ◌^◌, List, [], ◌∷◌, ◌++◌, length, sym, subst, inl, inr, arith, ℤ, nat_lt, AllByRecursion, keys_of, cases_Bool, eqb_tells, length-append, suc-mul, Order, Size, Four, Eight}
+use Rattle.dw_canon.proofs.Words.{◌≡◌, ℕ, ◌+◌, ◌*◌, ◌≤◌, List, [], ◌∷◌, ◌++◌, length, sym, subst, inl, inr, arith, ℤ, AllByRecursion, keys_of, eqb_tells, length-append, suc-mul, Order, Size, Four, Eight}
 use Rattle.dw_canon.proofs.Words.{Target, fixed_bytes, byte_count, length-fixed, Instr, DefCfa, DefCfaRegister, DefCfaOffset, DefCfaExpression, Set, Restore, CfaRule, RegRule, with_offset, cfa_change, rule_change, cfa_after, rule_after}
 use Rattle.dw_canon.proofs.{Words.{initial_cfa, initial_rule, HoldsAfter, onto, Rules, rule, RowFits, either, move, difference, later_changes, instr_bytes, program_bytes, advance_bytes}, AscendingRegisters.{Rise, with_all_rise, keys_rise}}
 use Rattle.dw_canon.proofs.{Costs.{RowWithin, bytes_more, difference_len}, Sums.{sum_of, sum_more, sum_none, once_own, sum_once}, Weights.{rule_len, cfa_len, rule_weight, own_weight, cfa_weight}}
@@ -31,37 +31,15 @@ cfa_keeps t n (DefCfaExpression e) w old h = w
 cfa_keeps t n i w old h = h
 
 rule_keeps : (t : Target) (n r : ℕ) (initial : RegRule) → rule_len t r initial ≤ n → (i : Instr) → own_weight t r i ≤ n → (old : RegRule) → rule_len t r old ≤ n → rule_len t r (rule_change r initial i old) ≤ n
-rule_keeps t n r initial start (Set q given) w old h = elim (eqb_tells q r) [
-  | inl is ↦ let v = rw (is.0) at w in rw (is.0) (subst (λ (x : ℕ). rule_len t x given ≤ n) is.1 v)
-  | inr not ↦ rw (not.0) h
-]
+rule_keeps t n r initial start (Set q given) w old h = grind arith
 rule_keeps t n r initial start (Restore q) w old h = elim (eqb_tells q r) [ inl is ↦ rw (is.0) start | inr not ↦ rw (not.0) h ]
 rule_keeps t n r initial start i w old h = h
 
 -- ---- a move
 
-width_len : (order : Order) (size : Size) (a : ℕ) → length (fixed_bytes order (byte_count size) a) ≤ 8
-width_len order Four a = omega (arith, length-fixed order 4 a)
-width_len order Eight a = omega (arith, length-fixed order 8 a)
-
-advance_len : (order : Order) (delta : ℕ) → length (advance_bytes order delta) ≤ 5
-advance_len order delta = elim (cases_Bool (nat_lt delta 64)) [
-  | inl e ↦ rw e (omega arith)
-  | inr e ↦ elim (cases_Bool (nat_lt delta 256)) [
-    | inl f ↦ rw (e, f) (omega (arith, length-fixed order 1 delta))
-    | inr f ↦ elim (cases_Bool (nat_lt delta 65536)) [
-      | inl g ↦ rw (e, f, g) (omega (arith, length-fixed order 2 delta))
-      | inr g ↦ rw (e, f, g) (omega (arith, length-fixed order 4 delta))
-    ]
-  ]
-]
-
 move_len : (t : Target) (at to : ℕ) → length (instr_bytes t (move at to)) ≤ 9
 unfolding instr_with
-move_len t at to = elim (cases_Bool (nat_lt (to - at) (2 ^ 32))) [
-  | inl e ↦ rw e (omega (arith, advance_len t.order (to - at)))
-  | inr e ↦ rw e (omega (arith, width_len t.order t.size to))
-]
+move_len t at to = grind arith
 
 -- ---- the rows of two programs
 

@@ -2,7 +2,7 @@
 pub use Rattle.std.specs.{Int.{byte_at, bytes_high_first, bytes_low_first, is_negative, is_positive}, List.{AllByRecursion, AllZip, cons_option, list_all}, Map.keys_of}
 pub use Rattle.std.proofs.Common.{Bool, FitsSigned, IsTrue, List, None, Option, Some, [], ap, append-nil, append_assoc, arith, cond, count_by, eq-eqb, eqb-true, false, filter, flat_map, if◌then◌else◌}
 pub use Rattle.std.proofs.Common.{inl, inr, int_eq, le-leb, le-ltb, length, length-append, lt-ltb, ltb-false, ltb-true, map, mul-le-mul, nat_eq, nat_le, nat_lt, ne_eqb, neg_ℤ, negsuc, pos}
-pub use Rattle.std.proofs.Common.{refl, replicate, subst, suc, suc-mul, sym, true, unsigned_abs, w64, zero, ℕ, ℤ, ◌%◌, ◌*◌, ◌++◌, ◌+◌, ◌-◌, ◌/◌, ◌<◌, ◌==◌, ◌^◌, ◌↔◌, ◌∙◌, ◌∷◌, ◌≡◌, ◌≤◌, ◌⊎◌}
+pub use Rattle.std.proofs.Common.{refl, replicate, rules, subst, suc, suc-mul, sym, true, unsigned_abs, w64, zero, ℕ, ℤ, ◌%◌, ◌*◌, ◌++◌, ◌+◌, ◌-◌, ◌/◌, ◌<◌, ◌==◌, ◌^◌, ◌↔◌, ◌∙◌, ◌∷◌, ◌≡◌, ◌≤◌, ◌⊎◌}
 pub use Rattle.std.proofs.lemmas.{Bool.{and_parts, cases_Bool, cases_lt, eqb-false}, Bool.Decides.{Decides-int_eq, eqb_tells}, List.{length-map, length-replicate}}
 unfoldable pub use Rattle.dw_num.specs.Shortest.{shortest_sleb, shortest_uleb}
 pub use Rattle.dw_num.specs.{Fixed.{Address, Fixed, fixed_bytes}, Input.AreBytes, Leb.{IsLeb, Register}, Span.Span, Target.{address_limit, byte_count}}

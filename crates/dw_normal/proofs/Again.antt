@@ -90,10 +90,7 @@ module _ (t : Target) (s : List ℕ) (b : AreBytes s) (ok : Accepted t s) (ms : 
 pub joined_is : (t : Target) (s : List ℕ) (rows : List (ℕ × Rules)) (joined : Option Joined) (row : Option CieRow) (register : ℕ) → (own : CieRow) × (row ≡ Some own) × (joined ≡ Some (record { row = own; register = register }))
     → HasJoined t s rows joined → (ms : List Member) → AreMembers t s ms → (d : Member) (k : ℕ) → k < length ms → IfSome row (OpensBehind t s (fde_of (get_or ms k d))) → (get_or ms k d).register ≡ register
     → with_member rows (get_or ms k d) ≡ rows
-joined_is t s rows joined row register x has ms are d k lt opens same =
-    let there = subst (HasJoined t s rows) x.2 has in
-    let own = subst (λ (o : Option CieRow). IfSome o (OpensBehind t s (fde_of (get_or ms k d)))) x.1 opens in
-    there ms are d k lt own same
+joined_is t s rows joined row register x has ms are d k lt opens same = grind arith
 
 pub then_joined : (t : Target) (s : List ℕ) → AreBytes s → Accepted t s → (place register : ℕ) (row : Option CieRow) (old new : List (ℕ × Rules)) → ((ms : List Member) → AreMembers t s ms → place < length ms)
     → ((ms : List Member) → AreMembers t s ms → (d : Member) → IfSome row (OpensBehind t s (fde_of (get_or ms place d)))) → ((ms : List Member) → AreMembers t s ms → old ≡ initial_rows (take place ms))

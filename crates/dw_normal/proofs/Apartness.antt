@@ -1,6 +1,6 @@
 -- Sets of registers outside which two rows are the same: as they are listed, and as one is known by another.
-use Rattle.dw_normal.proofs.Words.{◌≡◌, ℕ, ◌<◌, Bool, true, false, List, Option, Some, None, refl, sym, ◌∙◌, subst, inl, inr, IfSome, BTreeMap, Rules, rule, Changing, row_of, shown_row, ◌||◌, Registers, SameBeside, has, CieLeaves, Section}
-use Rattle.dw_normal.proofs.Words.{Behind, NotesSame, ShownBehind, AreSame, HoldsAt, CieSet, Known}
+use Rattle.dw_normal.proofs.Words.{◌≡◌, ℕ, ◌<◌, false, List, Option, Some, None, sym, subst, inl, inr, IfSome, BTreeMap, Rules, rule, Changing, row_of, shown_row, ◌||◌, Registers, SameBeside, has, CieLeaves, Section}
+use Rattle.dw_normal.proofs.Words.{rules, Behind, NotesSame, ShownBehind, AreSame, HoldsAt, CieSet, Known}
 
 -- ---- registers that are listed
 
@@ -10,13 +10,7 @@ SameBelow place set row other = (r : ℕ) → r < place → has set r ≡ false 
 
 -- a set with all registers of two others, outside one of which two rows are the same, and outside the other one of them and a third
 pub beside_both : (changed apart set : Registers) (shared row first : Rules) → ((r : ℕ) → has set r ≡ (has apart r || has changed r)) → SameBeside changed row first → SameBeside apart shared first → SameBeside set shared row
-beside_both changed apart set shared row first both own other r none =
-    let neither = no_of_either (has apart r) (has changed r) (sym (both r) ∙ none) in
-    other r neither.0 ∙ sym (own r neither.1)
-  where
-    no_of_either : (a b : Bool) → (a || b) ≡ false → (a ≡ false) × (b ≡ false)
-    no_of_either true b e = absurd cc
-    no_of_either false b e = (refl, e)
+beside_both changed apart set shared row first both own other r none = search rules
 
 -- ---- what is known of CIEs, where these are the rows of the groups
 

@@ -1,10 +1,10 @@
 -- The FDEs of a normal form, one after another.
-use Rattle.dw_normal.proofs.Words.{◌≡◌, ℕ, ◌+◌, ◌<◌, ◌≤◌, List, [], ◌∷◌, ◌++◌, length, map, take, drop, get_or, cond, Option, Some, Result, Ok, Err, refl, sym, ap, ◌∙◌, subst, arith, append_assoc, get_or-map, append-nil, length-map}
-use Rattle.dw_normal.proofs.Words.{length-append, take_more, take_all, take-append-drop, ◌^◌, is_at, AllByRecursion, nat_cmp, IsErrAnd, Appends-nil, AreBytes, Target, Rules, Accepted, AreFdes, Fde, all_get, InstrFits, part_of, groups_of}
-use Rattle.dw_normal.proofs.Words.{parts_of, canon, cie_instrs, IsPart, Member, AreMembers, Written, contents, entry_bytes, laid_is, renders, initial_rows, cie_with, cies_bytes, fdes_bytes, place_in, cie_place, RowsRise, fde_with, Puts}
+use Rattle.dw_normal.proofs.Words.{rules, ◌≡◌, ℕ, ◌+◌, ◌<◌, ◌≤◌, List, [], ◌∷◌, ◌++◌, length, map, take, drop, get_or, cond, Option, Some, Result, Ok, Err, refl, sym, ap, ◌∙◌, subst, arith, append_assoc, get_or-map, append-nil, length-map}
+use Rattle.dw_normal.proofs.Words.{length-append, take_more, take_all, take-append-drop, ◌^◌, is_at, AllByRecursion, nat_cmp, IsErrAnd, AreBytes, Target, Rules, Accepted, AreFdes, Fde, all_get, InstrFits, part_of, groups_of}
+use Rattle.dw_normal.proofs.Words.{parts_of, canon, cie_instrs, IsPart, Member, AreMembers, Written, contents, entry_bytes, laid_is, renders, initial_rows, cie_with, cies_bytes, fdes_bytes, place_in, RowsRise, fde_with, Puts}
 use Rattle.dw_normal.proofs.Words.{taken_by, after, PutError, Memory}
 use Rattle.dw_canon.proofs.Lent.{Fields.entry_length, Readback.rendered_laid}
-use Rattle.dw_normal.proofs.{Grouped.no_member, Joined.{put_stops, goes_on, ends_there, counted, same_err}, Placed.as_many, Sited.{Placing, placing_begins, placing_more, placing_ends}, Summed.{canon_is, canon_length, fdes_append, front}}
+use Rattle.dw_normal.proofs.{Grouped.no_member, Joined.{put_stops, goes_on, ends_there, counted, same_err}, Placed.as_many, Sited.{Placing, placing_more}, Summed.{canon_is, canon_length, fdes_append, front}}
 
 -- ---- lengths
 
@@ -19,9 +19,7 @@ fdes_then t ms k d lt =
 
 -- one of them is not longer than all
 pub one_long : (t : Target) (ms : List Member) (k : ℕ) (d : Member) → k < length ms → length (fdes_bytes t ms (take k ms)) + length (entry_bytes t (fde_with t ms (get_or ms k d))) ≤ length (fdes_bytes t ms ms)
-one_long t ms k d lt =
-    let more = ap length (fdes_then t ms k d lt) in
-    omega (arith, more, front t ms (k + 1) ms, length-append (fdes_bytes t ms (take k ms)) (entry_bytes t (fde_with t ms (get_or ms k d))))
+one_long t ms k d lt = grind (arith, length, fdes_then, front, length-append, fdes_bytes, take, entry_bytes, fde_with, get_or)
 
 -- ---- an FDE's fields can be spelled
 
@@ -46,9 +44,7 @@ pub record CiesPut {S : Type 0} (failures : S → ℕ) (taken : S → Option (Li
 
 pub cies_start : {S : Type 0} (failures : S → ℕ) (taken : S → Option (List ℕ)) (t : Target) {all rest : List (ℕ × Rules)} {places : List (ℕ × ℕ)} (old : S) → rest ≡ all → RowsRise 0 all → places ≡ []
     → AllByRecursion (λ (row : ℕ × Rules). AllByRecursion (InstrFits t) (cie_instrs row.1)) all → CiesPut failures taken t all rest places 0 old old
-cies_start failures taken t {all} {rest} {places} old is rise none fits =
-    subst (λ (l : List (ℕ × Rules)). CiesPut failures taken t all l places 0 old old) (sym is)
-    (record { done = []; puts = (refl, refl, Appends-nil (taken old)); whole = refl; fits = fits; placing = placing_begins t all places rise none })
+cies_start failures taken t {all} {rest} {places} old is rise none fits = search rules
 
 module _ {S : Type 0} {failures : S → ℕ} {taken : S → Option (List ℕ)} {t : Target} {all left rest : List (ℕ × Rules)} {row : ℕ × Rules} {places : List (ℕ × ℕ)} {written : ℕ} {old mid : S}
     (h : CiesPut failures taken t all left places written old mid) (more : left ≡ row ∷ rest) where
@@ -59,10 +55,7 @@ module _ {S : Type 0} {failures : S → ℕ} {taken : S → Option (List ℕ)} {
   cie_fits = here.fits.0
 
   pub cie_small : length (cies_bytes t all) ≤ 2147483647 → length (entry_bytes t (cie_with t row)) ≤ 2147483647
-  cie_small small =
-      let own = entry_bytes t (cie_with t row) in
-      let whole = ap length here.whole in
-      omega (arith, small, whole, length-append here.done (own ++ cies_bytes t rest), length-append own (cies_bytes t rest))
+  cie_small small = grind (arith, entry_bytes, cie_with, length, here, length-append, cies_bytes)
 
   module _ (put : Result ℕ PutError) (new : S) (now : Puts (entry_bytes t (cie_with t row)) put (failures mid) (failures new) (taken mid) (taken new)) where
     pub cie_counted : length (cies_bytes t all) ≤ 2147483647 → written + taken_by put < 2 ^ 64
@@ -92,14 +85,6 @@ module _ {S : Type 0} {failures : S → ℕ} {taken : S → Option (List ℕ)} {
     (h : CiesPut failures taken t all rest places written old new) where
   pub cies_stop : Puts (cies_bytes t all) (Err (Memory written)) (failures old) (failures new) (taken old) (taken new)
   cies_stop = subst (λ (l : List ℕ). Puts l (Err (Memory written)) (failures old) (failures new) (taken old) (taken new)) (sym h.whole) (put_stops h.done (cies_bytes t rest) written _ _ _ _ h.puts)
-
-  pub cies_end : rest ≡ [] → Puts (cies_bytes t all) (Ok written) (failures old) (failures new) (taken old) (taken new)
-  cies_end none =
-      let whole : h.done ≡ cies_bytes t all = sym (h.whole ∙ ap (λ (l : List (ℕ × Rules)). h.done ++ cies_bytes t l) none ∙ append-nil h.done) in
-      subst (λ (l : List ℕ). Puts l (Ok written) (failures old) (failures new) (taken old) (taken new)) whole h.puts
-
-  pub cies_placed : rest ≡ [] → (r : ℕ) → place_in places r ≡ cie_place t 0 all r
-  cies_placed none = placing_ends t all places written (subst (λ (l : List (ℕ × Rules)). Placing t all l places written) none h.placing)
 
 -- ---- an FDE more
 

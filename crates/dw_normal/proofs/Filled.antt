@@ -1,18 +1,11 @@
 -- What stands behind the length of an FDE, as it is built.
-use Rattle.dw_normal.proofs.Words.{◌≡◌, ℕ, ◌+◌, ◌-◌, List, ◌++◌, length, Result, Ok, Err, sym, ap, ◌∙◌, append_assoc, OnOk, replicate, length-append, Target, Rules, Fde, fde_instrs, initial_of, difference}
+use Rattle.dw_normal.proofs.Words.{rules, ◌≡◌, ℕ, ◌-◌, List, ◌++◌, length, Result, Ok, Err, append_assoc, OnOk, replicate, length-append, Target, Rules, fde_instrs, initial_of, difference}
 use Rattle.dw_normal.proofs.{Words.{later_changes, Member, program_bytes, fde, nop_count, filled, contents, missing, fde_field_bytes, IsBegun, later_bytes, shown_row, Begun, Size}, Passes.program_more}
 
 -- room, fields, a program behind them, and the nops
 filled_is : (size : Size) (room fields program out new : List ℕ) → length room ≡ 4 → out ≡ room ++ (fields ++ program) → new ≡ out ++ replicate (missing size (length out)) 0
     → new ≡ room ++ (fields ++ filled (nop_count size fields program) program)
-filled_is size room fields program out new four is nops =
-    let long : length out ≡ 4 + (length fields + length program) =
-    ap length is ∙ length-append room (fields ++ program) ∙ ap (λ (n : ℕ). n + length (fields ++ program)) four ∙ ap (λ (n : ℕ). 4 + n) (length-append fields program) in
-    let left = replicate (missing size (4 + (length fields + length program))) 0 in
-    nops ∙ ap (λ (l : List ℕ). l ++ replicate (missing size (length out)) 0) is
-    ∙ ap (λ (n : ℕ). (room ++ (fields ++ program)) ++ replicate (missing size n) 0) long
-    ∙ append_assoc room (fields ++ program) left
-    ∙ ap (λ (l : List ℕ). room ++ l) (append_assoc fields program left)
+filled_is size room fields program out new four is nops = search (rules, length, length-append, replicate, missing, append_assoc)
 
 same_all : (f : ℕ → ℕ → Rules → Rules → ℕ → List (ℕ × Rules) → List ℕ) (a b : ℕ) (c d : Rules) (e : ℕ) (g : List (ℕ × Rules)) (a' b' : ℕ) (c' d' : Rules) (e' : ℕ) (g' : List (ℕ × Rules))
     → a ≡ a' → b ≡ b' → c ≡ c' → d ≡ d' → e ≡ e' → g ≡ g' → f a b c d e g ≡ f a' b' c' d' e' g'
@@ -26,21 +19,7 @@ parts t cie_at begin range shared first from later =
 pub fde_filled : (t : Target) (ms : List Member) (m : Member) (b : Begun) (cie_at from : ℕ) (cleared fields first out new : List ℕ) → IsBegun ms m b → from ≡ b.fde.begin → length cleared ≡ 4
     → fields ≡ cleared ++ fde_field_bytes t cie_at b.fde.begin (b.fde.end - from) → first ≡ fields ++ program_bytes t (difference b.shared.now b.shared.now (shown_row b.changes)) → out ≡ first ++ later_bytes t b.shared.now from b.changes
     → new ≡ out ++ replicate (missing t.size (length out)) 0 → new ≡ cleared ++ contents t (fde cie_at m.begin (m.end - m.begin) (fde_instrs (initial_of ms m.register) m) (program_bytes t (fde_instrs (initial_of ms m.register) m)))
-fde_filled t ms m b cie_at from cleared fields first out new is at none f d l n =
-    let own = fde_field_bytes t cie_at b.fde.begin (b.fde.end - from) in
-    let begins = difference b.shared.now b.shared.now (shown_row b.changes) in
-    let goes = later_changes b.shared.now from (shown_row b.changes) b.changes.to_come in
-    let front : first ≡ cleared ++ (own ++ program_bytes t begins) = d ∙ ap (λ (k : List ℕ). k ++ program_bytes t begins) f ∙ append_assoc cleared own (program_bytes t begins) in
-    let all : out ≡ cleared ++ (own ++ program_bytes t (begins ++ goes)) =
-    l ∙ ap (λ (k : List ℕ). k ++ program_bytes t goes) front ∙ append_assoc cleared (own ++ program_bytes t begins) (program_bytes t goes)
-    ∙ ap (λ (k : List ℕ). cleared ++ k) (append_assoc own (program_bytes t begins) (program_bytes t goes) ∙ ap (λ (k : List ℕ). own ++ k) (sym (program_more t begins goes))) in
-    let begin : b.fde.begin ≡ m.begin = ap (λ (x : Fde). x.begin) is.fde in
-    let end : b.fde.end ≡ m.end = ap (λ (x : Fde). x.end) is.fde in
-    let start : from ≡ m.begin = at ∙ begin in
-    let range : b.fde.end - from ≡ m.end - m.begin = ap (λ (x : ℕ). x - from) end ∙ ap (λ (x : ℕ). m.end - x) start in
-    filled_is t.size cleared own (program_bytes t (begins ++ goes)) out new none all n
-    ∙ ap (λ (k : List ℕ). cleared ++ k)
-    (same_all (parts t cie_at) b.fde.begin (b.fde.end - from) b.shared.now (shown_row b.changes) from b.changes.to_come m.begin (m.end - m.begin) (initial_of ms m.register) m.first m.begin m.later begin range is.shared is.first start is.later)
+fde_filled t ms m b cie_at from cleared fields first out new is at none f d l n = search (rules, fde_field_bytes, fde, difference, shown_row, later_changes, program_bytes, append_assoc, program_more, filled_is, same_all, initial_of)
 
 pub on_ok : {A E : Type 0} (r : Result A E) (P Q : Type 0) → (P → Q) → OnOk r P → OnOk r Q
 on_ok (Ok x) P Q to h = to h

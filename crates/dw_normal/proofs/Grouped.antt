@@ -2,7 +2,7 @@
 use Rattle.std.specs.List.Sorted.{IsStrictlySortedBy}
 use Rattle.std.proofs.lemmas.Map.Keys.{sorted_head, sorted_tail}
 use Rattle.dw_normal.proofs.Words.{Less, Equal, Greater, eq-eqb, ◌≡◌, ◌⊎◌, ◌+◌, ℕ, suc, length, take, get_or, ◌<◌, ◌≤◌, Bool, true, false, List, [], ◌∷◌, ◌++◌, map, Option, Some, None, refl, sym, ap, ◌∙◌, subst, inl}
-use Rattle.dw_normal.proofs.Words.{inr, arith, nat_eq, nat_lt, insert_entry, is_at, AllByRecursion, keys_of, lookup, set_value, nat_cmp, cases_lt, lt-ltb, le-ltb, ne_eqb, cases_Bool, append-nil, take_more, Rules, blank}
+use Rattle.dw_normal.proofs.Words.{inr, arith, nat_eq, nat_lt, insert_entry, is_at, AllByRecursion, keys_of, lookup, set_value, nat_cmp, le-ltb, ne_eqb, cases_Bool, append-nil, take_more, Rules, blank}
 use Rattle.dw_normal.proofs.{Words.{return_registers, initial_of, with_register, with_registers, group, initial_row, kept_by, Member, initial_rows, begun_with, row_of, with_member}, Passes.{group_more, next_member}}
 
 -- ---- the order of two registers
@@ -16,11 +16,7 @@ pub record Lower (a b : ℕ) : Type 0 where
   pub greater : nat_cmp b a ≡ Greater
 
 lower : (a b : ℕ) → a < b → Lower a b
-lower a b lt =
-    let is = lt-ltb a b lt in
-    let back : nat_lt b a ≡ false = le-ltb b a (omega arith) in
-    let other : nat_eq b a ≡ false = ne_eqb b a (λ same. omega arith) in
-    record { lt = lt; is = is; back = back; other = other; less = rw is refl; greater = rw (back, other) refl }
+lower a b lt = grind arith
 
 self_lt : (a : ℕ) → nat_lt a a ≡ false
 self_lt a = le-ltb a a (omega arith)
@@ -29,10 +25,7 @@ self_eq : (a : ℕ) → nat_eq a a ≡ true
 self_eq a = eq-eqb a a refl
 
 pub told : (a b : ℕ) → Lower a b ⊎ ((a ≡ b) ⊎ Lower b a)
-told a b = elim (cases_lt a b) [
-  | inl lt ↦ inl (lower a b lt)
-  | inr ge ↦ elim (cases_lt b a) [ inl gt ↦ inr (inr (lower b a gt)) | inr le ↦ inr (inl (omega arith)) ]
-]
+told a b = grind arith
 
 -- ---- a row that is written over the one of its register
 
@@ -100,9 +93,7 @@ paired f rs = map {B = ℕ × Rules} (λ (r : ℕ). (r, f r)) rs
 module _ (f g : ℕ → Rules) (q : ℕ) (v : Rules) (here : g q ≡ v) (else : (r : ℕ) → (r ≡ q → ⊥) → g r ≡ f r) where
   above : (low : ℕ) (rs : List ℕ) → q < low → Rise low rs → paired f rs ≡ paired g rs
   above low [] lt h = refl
-  above low (r ∷ rs) lt h =
-      let same = else r (λ e. omega (arith, h.0)) in
-      ap (λ (x : Rules). (r, x) ∷ paired f rs) (sym same) ∙ ap (λ (l : List (ℕ × Rules)). (r, g r) ∷ l) (above (suc r) rs (omega (arith, h.0)) h.1)
+  above low (r ∷ rs) lt h = grind (arith, above (suc r) rs (omega (arith, h.0)) h.1)
 
   pub comes_in : (low : ℕ) (rs : List ℕ) → Rise low rs → insert_entry nat_cmp (paired f rs) q v ≡ paired g (with_register q rs)
   comes_in low [] h = ap (λ (x : Rules). (q, x) ∷ []) (sym here)
@@ -133,11 +124,7 @@ module _ (f : ℕ → Rules) (q : ℕ) where
   found false rest = rest
 
   head_look : (r : ℕ) (rest : List (ℕ × Rules)) → row_of ((r, f r) ∷ rest) q ≡ found (nat_eq r q) (row_of rest q)
-  head_look r rest = elim (told q r) [
-    | inl o ↦ rw (o.less, o.other) refl
-    | inr (inl same) ↦ subst (λ (n : ℕ). row_of ((n, f n) ∷ rest) q ≡ found (nat_eq n q) (row_of rest q)) same (rw (self_lt q, self_eq q) refl)
-    | inr (inr o) ↦ let ne : nat_eq r q ≡ false = ne_eqb r q (λ e. omega (arith, o.lt)) in rw (o.greater, ne) refl
-  ]
+  head_look r rest = grind arith
 
   both_orders : (a b : Bool) (rest : Option Rules) → found a (found b rest) ≡ found b (found a rest)
   both_orders true true rest = refl
@@ -176,9 +163,7 @@ module _ (f : ℕ → Rules) (q : ℕ) where
 
   look_before : (xs : List Member) (rs : List ℕ) → row_of (rows_at (with_registers (map (λ (m : Member). m.register) xs) rs)) q ≡ before (group q xs) (row_of (rows_at rs) q)
   look_before [] rs = refl
-  look_before (x ∷ xs) rs =
-      look_before xs (with_register x.register rs) ∙ ap (before (group q xs)) (look_one x.register rs)
-      ∙ elim (cases_Bool (nat_eq x.register q)) [ inl e ↦ rw e (before_some (group q xs)) | inr e ↦ rw e refl ]
+  look_before (x ∷ xs) rs = grind (arith, look_before xs (with_register x.register rs), with_register x.register rs, group q xs, look_one x.register rs, cases_Bool (nat_eq x.register q), nat_eq x.register q, before_some (group q xs))
 
   pub look_members : (xs : List Member) → row_of (rows_at (return_registers xs)) q ≡ some_of (f q) (group q xs)
   look_members xs = look_before xs [] ∙ before_none (group q xs)

@@ -31,23 +31,12 @@ puts_both xs ys c (Ok k) f g h o m n p q =
     let one = p.1 in
     let two = q.1 in
     (q.0 ∙ p.0, omega (arith, one, two, length-append xs ys), Appends-trans o m n xs ys p.2 q.2)
-puts_both xs ys c (Err (Write w)) f g h o m n p q =
-    let one = p.1 in
-    let two = q.1 in
-    let same = p.0 in
-    let more = q.0 in
-    (omega (arith, same, more), omega (arith, one, two, length-append xs ys), took_behind xs ys c w o m n one p.2 q.2)
-puts_both xs ys c (Err (Memory w)) f g h o m n p q =
-    let one = p.1 in
-    let two = q.1 in
-    (q.0 ∙ p.0, omega (arith, one, two, length-append xs ys), took_behind xs ys c w o m n one p.2 q.2)
+puts_both xs ys c (Err (Write w)) f g h o m n p q = grind (arith, length-append, took_behind)
+puts_both xs ys c (Err (Memory w)) f g h o m n p q = grind (arith, length-append, took_behind)
 
 -- memory runs out behind bytes
 pub put_stops : (xs ys : List ℕ) (c : ℕ) (f g : ℕ) (o n : Option (List ℕ)) → Puts xs (Ok c) f g o n → Puts (xs ++ ys) (Err (Memory c)) f g o n
-put_stops xs ys c f g o n h =
-    let one = h.1 in
-    let front : xs ≡ take c (xs ++ ys) = sym (ap (λ (k : ℕ). take k (xs ++ ys)) one ∙ take-append_seam xs ys) in
-    (h.0, omega (arith, one, length-append xs ys), subst (λ (l : List ℕ). Appends o n l) front h.2)
+put_stops xs ys c f g o n h = grind (arith, take, take-append_seam, length-append)
 
 -- ---- a step of a loop that puts bytes
 
@@ -60,17 +49,11 @@ module _ (done one rest all : List ℕ) (whole : all ≡ done ++ (one ++ rest)) 
   goes_on k e = subst (λ (x : Result ℕ PutError). Puts (done ++ one) x f h o n) e joined
 
   pub ends_there : (e : PutError) → r ≡ Err e → Puts all (Err e) f h o n
-  ends_there e was =
-      let front = subst (λ (x : Result ℕ PutError). Puts (done ++ one) x f h o n) was joined in
-      subst (λ (l : List ℕ). Puts l (Err e) f h o n) (append_assoc done one rest ∙ sym whole) (put_begins (done ++ one) rest e f h o n front)
+  ends_there e was = grind (arith, joined, append_assoc, put_begins)
 
   -- what is counted is no more than all bytes
   pub counted : c + taken_by put ≤ length all
-  counted =
-      let count = before.1 in
-      let most = most_taken one put g h m n now in
-      let long = ap length whole in
-      omega (arith, count, most, long, length-append done (one ++ rest), length-append one rest)
+  counted = grind (arith, most_taken, length, length-append)
 
 -- an error that `?` hands on
 pub same_err : (bytes : List ℕ) (r : Result ℕ PutError) (e : PutError) (f g : ℕ) (o n : Option (List ℕ)) → IsErrAnd r (λ (x : PutError). x ≡ e) → Puts bytes (Err e) f g o n → Puts bytes r f g o n

@@ -1,7 +1,7 @@
 -- What is known of CIEs stays so while the rows of the groups are narrowed.
 use Rattle.dw_normal.proofs.Words.{◌≡◌, ◌⊎◌, ℕ, true, false, cond, List, [], ◌∷◌, Option, Some, None, Result, Ok, Err, refl, sym, ap, ◌∙◌, subst, inl, inr, IsTrue, IfOk, IfSome, OnOk, cases_Bool, AllByRecursion, nat_cmp, insert_entry}
-use Rattle.dw_normal.proofs.Words.{is_at, BTreeMap, AreSpecified, Rules, rule, agreed, same_rule, Changing, kept_by, Member, begun_with, row_of, row_or_blank, shown_row, with_member, get, if◌then◌else◌, RegRule, is_kept, kept, is_agreed}
-use Rattle.dw_normal.proofs.Words.{rule_tells, Registers, AgreesBeside, SameBeside, is_specified, same_rows, Behind, AreChanged, CieLeaves, Section, CieSet, ShownBehind, Agree, AgreesAt, AreLess, Notes}
+use Rattle.dw_normal.proofs.Words.{is_at, BTreeMap, AreSpecified, Rules, rule, agreed, same_rule, Changing, kept_by, Member, row_of, shown_row, with_member, get, if◌then◌else◌, RegRule, is_kept, kept, is_agreed}
+use Rattle.dw_normal.proofs.Words.{rules, rule_tells, Registers, AgreesBeside, SameBeside, is_specified, same_rows, Behind, AreChanged, CieLeaves, Section, CieSet, ShownBehind, Agree, AgreesAt, AreLess, Notes}
 use Rattle.std.proofs.lemmas.Map.Entries.{lookup_tail}
 use Rattle.dw_cfa.specs.declared.rule.RegRule.TheVariants.{Unspecified}
 use Rattle.dw_cfa.proofs.Lent.Narrowed.{filter_keeps, filter_rule}
@@ -25,20 +25,10 @@ kept_ascends s row up = filter_keeps (is_kept row.registers) 0 s.registers up
 
 -- none is left of a register, or both rows have its rule
 agreed_or : (s first : Rules) → Ascends s → (r : ℕ) → (rule (agreed s first) r ≡ Unspecified) ⊎ ((rule (agreed s first) r ≡ rule s r) × (rule s r ≡ rule first r))
-agreed_or s first up r =
-    let is = filter_rule (is_agreed first.registers) 0 s.registers r up in
-    elim (cases_Bool (same_rule (rule s r) (rule first r))) [
-      | inl e ↦ inr (is ∙ rw e refl, (rule_tells (rule s r) (rule first r)).0 e)
-      | inr e ↦ inl (is ∙ rw e refl)
-    ]
+agreed_or s first up r = search (rules, filter_rule, is_agreed, cases_Bool, same_rule, rule, rule_tells)
 
 kept_or : (s row : Rules) → Ascends s → (r : ℕ) → (rule (kept s row) r ≡ Unspecified) ⊎ ((rule (kept s row) r ≡ rule s r) × (is_specified (rule row r) ≡ true))
-kept_or s row up r =
-    let is = filter_rule (is_kept row.registers) 0 s.registers r up in
-    elim (cases_Bool (is_specified (rule row r))) [
-      | inl e ↦ inr (is ∙ rw e refl, e)
-      | inr e ↦ inl (is ∙ rw e refl)
-    ]
+kept_or s row up r = search (rules, filter_rule, is_kept, cases_Bool, is_specified, rule)
 
 abbrev AllSpecify : ℕ → List (ℕ × Rules) → Type 0
 AllSpecify r later = AllByRecursion (λ (change : ℕ × Rules). is_specified (rule change.1 r) ≡ true) later
@@ -53,10 +43,7 @@ kept_by_cfa s (change ∷ later) = kept_by_cfa (kept s change.1) later
 
 kept_by_or : (s : Rules) (later : List (ℕ × Rules)) → Ascends s → (r : ℕ) → (rule (kept_by s later) r ≡ Unspecified) ⊎ ((rule (kept_by s later) r ≡ rule s r) × AllSpecify r later)
 kept_by_or s [] up r = inr (refl, tt)
-kept_by_or s (change ∷ later) up r = elim (kept_by_or (kept s change.1) later (kept_ascends s change.1 up) r) [
-  | inl none ↦ inl none
-  | inr more ↦ elim (kept_or s change.1 up r) [ inl none ↦ inl (more.0 ∙ none) | inr here ↦ inr (more.0 ∙ here.0, (here.1, more.1)) ]
-]
+kept_by_or s (change ∷ later) up r = search (rules, kept_by_or (kept s change.1) later (kept_ascends s change.1 up) r, kept s change.1, kept_ascends s change.1 up, kept_or s change.1 up r)
 
 kept_by_stays : (s : Rules) (later : List (ℕ × Rules)) → Ascends s → (r : ℕ) → AllSpecify r later → rule (kept_by s later) r ≡ rule s r
 kept_by_stays s [] up r all = refl
@@ -73,13 +60,7 @@ module _ (s first : Rules) (later : List (ℕ × Rules)) (up : Ascends s) (own :
   none_more r none = elim (kept_by_or both later (agreed_ascends s first up) r) [ inl gone ↦ gone ∙ sym none | inr here ↦ here.0 ]
 
   each_kept : (r : ℕ) → rule (kept_by both later) r ≡ rule both r
-  each_kept r = elim (agreed_or s first up r) [
-    | inl none ↦ none_more r none
-    | inr same ↦ elim (kept_by_or first later own r) [
-      | inl gone ↦ none_more r (same.0 ∙ same.1 ∙ sym (ap (λ (x : Rules). rule x r) keeps) ∙ gone)
-      | inr here ↦ kept_by_stays both later (agreed_ascends s first up) r here.1
-    ]
-  ]
+  each_kept r = search (rules, agreed_or, none_more, kept_by_or, rule, kept_by_stays, agreed_ascends)
 
   pub still_kept : kept_by both later ≡ both
   still_kept =
@@ -103,22 +84,13 @@ agreed_kept s first up =
 
 -- outside the registers that an FDE's first row has changed
 pub agreed_beside : (set : Registers) (s first row : Rules) → Ascends s → SameBeside set row first → AgreesBeside set (agreed s first) row
-agreed_beside set s first row up same r out = elim (agreed_or s first up r) [
-  | inl none ↦ inl none
-  | inr is ↦ inr (is.0 ∙ is.1 ∙ sym (same r out))
-]
+agreed_beside set s first row up same r out = search (rules, agreed_or)
 
 agreed_still : (set : Registers) (s first row : Rules) → Ascends s → AgreesBeside set s row → AgreesBeside set (agreed s first) row
-agreed_still set s first row up agrees r out = elim (agreed_or s first up r) [
-  | inl none ↦ inl none
-  | inr is ↦ elim (agrees r out) [ inl none ↦ inl (is.0 ∙ none) | inr e ↦ inr (is.0 ∙ e) ]
-]
+agreed_still set s first row up agrees r out = search (rules, agreed_or)
 
 kept_still : (set : Registers) (s row : Rules) (later : List (ℕ × Rules)) → Ascends s → AgreesBeside set s row → AgreesBeside set (kept_by s later) row
-kept_still set s row later up agrees r out = elim (kept_by_or s later up r) [
-  | inl none ↦ inl none
-  | inr is ↦ elim (agrees r out) [ inl none ↦ inl (is.0 ∙ none) | inr e ↦ inr (is.0 ∙ e) ]
-]
+kept_still set s row later up agrees r out = search (rules, kept_by_or)
 
 -- the same of what later changes leave of it
 pub shared_beside : (set : Registers) (s first row shared : Rules) (later : List (ℕ × Rules)) → Ascends s → shared ≡ agreed s first → AgreesBeside set shared row → AgreesBeside set (kept_by shared later) row
@@ -127,26 +99,15 @@ shared_beside set s first row shared later up is agrees = kept_still set shared 
 -- ---- what is noted of CIEs
 
 pub notes_more : (P Q : Registers → Type 0) → ((set : Registers) → P set → Q set) → (place register : ℕ) (old new : BTreeMap ℕ CieSet) → Notes P place register old new → Notes Q place register old new
-notes_more P Q to place register old new notes at = elim (notes at) [
-  | inl none ↦ inl none
-  | inr (inl same) ↦ inr (inl same)
-  | inr (inr own) ↦ inr (inr (own.0, (own.1.0, own.1.1, to own.1.0 own.1.2)))
-]
+notes_more P Q to place register old new notes at = search rules
 
 pub puts_notes : (P : Registers → Type 0) (place register : ℕ) (set : Registers) (old mid new : BTreeMap ℕ CieSet) → AreLess old mid → Puts place (record { register = register; set = set }) mid new → P set → Notes P place register old new
-puts_notes P place register set old mid new less puts h at = elim (puts at) [
-  | inl same ↦ elim (less at) [ inl none ↦ inl (same ∙ none) | inr stays ↦ inr (inl (same ∙ stays)) ]
-  | inr own ↦ inr (inr (own.0, (set, own.1, h)))
-]
+puts_notes P place register set old mid new less puts h at = search rules
 
 -- ---- a row that is written is not that of another register
 
 looked : (k q : ℕ) → (k ≡ q) ⊎ (is_at (nat_cmp q) k ≡ false)
-looked k q = elim (told q k) [
-  | inl o ↦ inr (rw (o.less) refl)
-  | inr (inl same) ↦ inl (sym same)
-  | inr (inr o) ↦ inr (rw (o.greater) refl)
-]
+looked k q = search rules
 
 found_other : (k q : ℕ) (v : Rules) (es : List (ℕ × Rules)) → is_at (nat_cmp q) k ≡ false → row_of (insert_entry nat_cmp es k v) q ≡ row_of es q
 found_other k q v [] other = lookup_tail (is_at (nat_cmp q)) (k, v) [] other
@@ -193,14 +154,7 @@ module _ (s : Section) (rows new : List (ℕ × Rules)) (k : ℕ) (x first w : R
   same_agree cies agree at = if_some (get nat_cmp cies at) (AgreesAt s rows at) (AgreesAt s new at) (stays_at at) (agree at)
 
   noted_at : (place : ℕ) (old cies : BTreeMap ℕ CieSet) → Agree s rows old → Notes (λ set. (row : Rules) → CieLeaves s.target s.bytes place row → AgreesBeside set w row) place k old cies → Agree s new cies
-  noted_at place old cies agree notes at = elim (notes at) [
-    | inl none ↦ subst (λ (o : Option CieSet). IfSome o (AgreesAt s new at)) (sym none) tt
-    | inr (inl same) ↦ subst (λ (o : Option CieSet). IfSome o (AgreesAt s new at)) (sym same) (same_agree old agree at)
-    | inr (inr own) ↦
-        let here : AgreesAt s new at (record { register = k; set = own.1.0 }) =
-        record { shared = w; stands = own_row; agrees = λ row leaves. own.1.2 row (subst (λ (n : ℕ). CieLeaves s.target s.bytes n row) own.0 leaves) } in
-        subst (λ (o : Option CieSet). IfSome o (AgreesAt s new at)) (sym own.1.1) here
-  ]
+  noted_at place old cies agree notes at = search (rules, same_agree, own_row)
 
   -- a CIE leaves one row, so of each row that it leaves the first one has what is outside a set
   pub noted_agree : ((at : ℕ) (y z : Rules) → CieLeaves s.target s.bytes at y → CieLeaves s.target s.bytes at z → y ≡ z) → (changes : Changing) → changes.section ≡ s → (b : Behind) (changed : Registers) → ShownBehind changes changed b
@@ -212,15 +166,11 @@ module _ (s : Section) (rows new : List (ℕ × Rules)) (k : ℕ) (x first w : R
       noted_at b.cie_at old cies agree (notes_more _ _ more b.cie_at k old cies notes)
 
 pub with_begun : (rows : List (ℕ × Rules)) (k : ℕ) (m : Member) (later : List (ℕ × Rules)) → k ≡ m.register → row_of rows k ≡ None → later ≡ m.later → insert_entry nat_cmp rows k (kept_by m.first later) ≡ with_member rows m
-with_begun rows k m later register none rest =
-    ap (insert_entry nat_cmp rows k) (ap (kept_by m.first) rest ∙ ap (λ (o : Option Rules). kept_by (begun_with o m.first) m.later) (sym none))
-    ∙ ap (λ (q : ℕ). insert_entry nat_cmp rows q (kept_by (begun_with (row_of rows q) m.first) m.later)) register
+with_begun rows k m later register none rest = cc
 
 pub with_narrowed : (rows new : List (ℕ × Rules)) (k : ℕ) (m : Member) (x w : Rules) (later : List (ℕ × Rules)) → k ≡ m.register → row_of rows k ≡ Some x → later ≡ m.later → new ≡ insert_entry nat_cmp rows k w
     → w ≡ kept_by (agreed x m.first) later → new ≡ with_member rows m
-with_narrowed rows new k m x w later register found rest made is =
-    made ∙ ap (insert_entry nat_cmp rows k) (is ∙ ap (kept_by (agreed x m.first)) rest ∙ ap (λ (o : Option Rules). kept_by (begun_with o m.first) m.later) (sym found))
-    ∙ ap (λ (q : ℕ). insert_entry nat_cmp rows q (kept_by (begun_with (row_of rows q) m.first) m.later)) register
+with_narrowed rows new k m x w later register found rest made is = cc
 
 pub on_both : {A E : Type 0} (r : Result A E) (P Q S : Type 0) → (P → Q → S) → OnOk r P → OnOk r Q → OnOk r S
 on_both (Ok x) P Q S to h k = to h k
@@ -228,18 +178,9 @@ on_both (Err e) P Q S to h k = tt
 
 -- ---- how a row that is shown stands to that of its CIE
 
-shown_so : (o : Option Rules) (row : Rules) (P : Rules → Type 0) → o ≡ Some row → IfSome o P → P (row_or_blank o)
-shown_so None row P e h = absurd cc
-shown_so (Some x) row P e h = h
-
 pub stands_behind : {E : Type 0} (s : Section) (next : Changing) (changed : Registers) (first : Rules) (r : Result (Option Behind) E) → next.section ≡ s → OnOk r (next.shown ≡ Some first)
     → IfOk r (λ (found : Option Behind). IfSome found (λ (b : Behind). (row : Rules) × CieLeaves s.target s.bytes b.cie_at row × IfSome next.shown (AreChanged changed row)))
     → IfOk r (λ (found : Option Behind). IfSome found (λ (b : Behind). IsTrue b.keeps → IfSome next.shown (λ (row : Rules). kept_by row next.to_come ≡ row))) → IfOk r (λ (found : Option Behind). IfSome found (ShownBehind next changed))
 stands_behind s next changed first (Err e) section shown beside keeps = tt
 stands_behind s next changed first (Ok None) section shown beside keeps = tt
-stands_behind s next changed first (Ok (Some b)) section shown beside keeps = record {
-  row = beside.0;
-  leaves = subst (λ (t : Section). CieLeaves t.target t.bytes b.cie_at beside.0) (sym section) beside.1;
-  beside = (shown_so next.shown first (AreChanged changed beside.0) shown beside.2).0;
-  keeps = λ yes. shown_so next.shown first (λ (row : Rules). kept_by row next.to_come ≡ row) shown (keeps yes);
-}
+stands_behind s next changed first (Ok (Some b)) section shown beside keeps = search rules

@@ -6,13 +6,7 @@ use Rattle.dw_normal.proofs.{Entries.{one_long, contents_less, part_at}, Placed.
 -- an FDE's contents behind room for their length, which can be spelled
 pub contents_low : (t : Target) (ms : List Member) (k : ℕ) (d : Member) → k < length ms → length (canon t ms) ≤ 2147483647
     → (l : List ℕ) → l ≡ fixed_bytes t.order 4 0 ++ contents t (fde_with t ms (get_or ms k d)) → (4 ≤ length l) × (length l < 2 ^ 32)
-contents_low t ms k d lt small l is =
-    let whole = canon_length t ms in
-    let one = one_long t ms k d lt in
-    let own = contents t (fde_with t ms (get_or ms k d)) in
-    let less = contents_less t (fde_with t ms (get_or ms k d)) 2147483647 (omega (arith, whole, one, small)) in
-    let long : length l ≡ 4 + length own = ap length is ∙ length-append (fixed_bytes t.order 4 0) own ∙ ap (λ (n : ℕ). n + length own) (length-fixed t.order 4 0) in
-    (omega (arith, long), omega (arith, long, less))
+contents_low t ms k d lt small l is = grind (arith, canon_length, one_long, contents, fde_with, get_or, contents_less, length, length-append, fixed_bytes, length-fixed)
 
 -- it was begun, and the CIEs before it have their places
 pub record Located (t : Target) (s : List ℕ) (ms : List Member) (k : ℕ) (d : Member) (begun : Begun) (rows : List (ℕ × Rules)) (places : List (ℕ × ℕ)) : Type 0 where
@@ -48,10 +42,7 @@ module _ {t : Target} {s : List ℕ} {ms : List Member} {k : ℕ} {d : Member} {
 
     -- which can be spelled
     pub place_fits : p < 2 ^ 32
-    place_fits =
-        let low = place_low t 0 rows register p there in
-        let same = ap (λ (l : List (ℕ × Rules)). length (cies_bytes t l)) h.rows_are in
-        omega (arith, low, same, canon_length t ms, h.small)
+    place_fits = grind (arith, place_low, there, length, cies_bytes, canon_length)
 
     pub place_own : p ≡ place_of t 0 (groups_of t ms) m.register
     place_own = sym (place_is t ms m.register p (ap (λ (l : List (ℕ × Rules)). cie_place t 0 l m.register) (sym h.rows_are) ∙ ap (cie_place t 0 rows) (sym own_register) ∙ there))

@@ -1,7 +1,7 @@
 -- One step more of the walks over members and changes.
 use Rattle.std.proofs.lemmas.Grind.{flat_map-append}
 use Rattle.dw_canon.proofs.Lent.Programs.{below_end}
-use Rattle.dw_normal.proofs.Words.{◌≡◌, ℕ, ◌+◌, ◌<◌, List, [], ◌∷◌, ◌++◌, length, Option, Some, None, refl, sym, ap, ◌∙◌, subst, inl, inr, nat_eq, AllByRecursion, cases_Bool, append_assoc}
+use Rattle.dw_normal.proofs.Words.{rules, ◌≡◌, ℕ, ◌+◌, ◌<◌, List, [], ◌∷◌, ◌++◌, length, Option, Some, None, refl, sym, ap, subst, nat_eq, AllByRecursion, cases_Bool, append_assoc}
 use Rattle.dw_normal.proofs.Words.{length-append, Target, Instr, Rules, move, difference, later_changes, group, shared_by, initial_row, kept_by, agreed, Member, Stand, later_bytes}
 use Rattle.dw_normal.proofs.{Words.{row_or_blank, shown_row, address_limit, Changing, before_then, ChangesStand, InstrFits, difference_fits, instr_bytes, program_bytes}, ChangesToCome.Given}
 
@@ -9,10 +9,7 @@ use Rattle.dw_normal.proofs.{Words.{row_or_blank, shown_row, address_limit, Chan
 
 pub group_more : (r : ℕ) (xs ys : List Member) → group r (xs ++ ys) ≡ group r xs ++ group r ys
 group_more r [] ys = refl
-group_more r (x ∷ xs) ys = elim (cases_Bool (nat_eq x.register r)) [
-  | inl e ↦ rw e (ap (λ (l : List Member). x ∷ l) (group_more r xs ys))
-  | inr e ↦ rw e (group_more r xs ys)
-]
+group_more r (x ∷ xs) ys = search (rules, cases_Bool (nat_eq x.register r), nat_eq x.register r, group_more r xs ys)
 
 shared_more : (s : Rules) (xs ys : List Member) → shared_by s (xs ++ ys) ≡ shared_by (shared_by s xs) ys
 shared_more s [] ys = refl
@@ -67,19 +64,11 @@ module _ {t : Target} {shared : Rules} {at : ℕ} {changes next : Changing} {to 
   step_stand = record { shown = g.shown; fits = stands.2.fits; later = stands.3 }
 
   step_bytes : later_bytes t shared at changes ≡ instr_bytes t (move at to) ++ (program_bytes t (difference shared row after) ++ later_bytes t shared to next)
-  step_bytes =
-      ap (λ (l : List (ℕ × Rules)). program_bytes t (later_changes shared at row l)) g.come
-      ∙ ap (λ (l : List ℕ). instr_bytes t (move at to) ++ l) (program_more t (difference shared row after) (later_changes shared to after next.to_come))
+  step_bytes = search (rules, program_bytes, later_changes, instr_bytes, move, program_more, difference)
 
   -- what a step writes is what is behind it no more
   pub step_written : (out new : List ℕ) → new ≡ (out ++ instr_bytes t (move at to)) ++ program_bytes t (difference shared row after) → new ++ later_bytes t shared to next ≡ out ++ later_bytes t shared at changes
-  step_written out new is =
-      ap (λ (l : List ℕ). l ++ later_bytes t shared to next) is
-      ∙ append_assoc (out ++ instr_bytes t (move at to)) (program_bytes t (difference shared row after)) (later_bytes t shared to next)
-      ∙ append_assoc out (instr_bytes t (move at to)) (program_bytes t (difference shared row after) ++ later_bytes t shared to next)
-      ∙ ap (λ (l : List ℕ). out ++ l) (sym step_bytes)
+  step_written out new is = search (rules, later_bytes, append_assoc, instr_bytes, move, program_bytes, difference, step_bytes)
 
   pub step_long : length (later_bytes t shared at changes) ≡ length (instr_bytes t (move at to)) + (length (program_bytes t (difference shared row after)) + length (later_bytes t shared to next))
-  step_long =
-      ap length step_bytes ∙ length-append (instr_bytes t (move at to)) (program_bytes t (difference shared row after) ++ later_bytes t shared to next)
-      ∙ ap (λ (n : ℕ). length (instr_bytes t (move at to)) + n) (length-append (program_bytes t (difference shared row after)) (later_bytes t shared to next))
+  step_long = search (rules, length, step_bytes, length-append, instr_bytes, move, program_bytes, difference, later_bytes)

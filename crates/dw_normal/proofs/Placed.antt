@@ -1,5 +1,5 @@
 -- What is so of an FDE of a table, and of the initial row of its group.
-use Rattle.dw_normal.proofs.Words.{◌≡◌, ℕ, zero, suc, ◌<◌, ◌≤◌, List, [], ◌∷◌, length, map, get_or, Option, Some, refl, sym, ap, ◌∙◌, subst, inl, inr, arith, IsSome, nat_eq, get_or-map, AllByRecursion, cases_Bool, eq-eqb, length-map}
+use Rattle.dw_normal.proofs.Words.{◌≡◌, ℕ, zero, suc, ◌<◌, ◌≤◌, List, [], ◌∷◌, length, map, get_or, Option, Some, refl, sym, ap, ◌∙◌, subst, arith, IsSome, nat_eq, get_or-map, AllByRecursion, cases_Bool, eq-eqb, length-map}
 use Rattle.dw_normal.proofs.Words.{AreBytes, address_limit, Target, Rules, Accepted, Fde, AreFdes, RowFits, all_get, return_registers, cie_instrs, initial_of, difference, ChangesStand, MemberStands, InstrFits, group, Member, fde_of}
 use Rattle.dw_normal.proofs.{Words.{AreMembers, difference_fits, cie_fits, fits, stand, group_fits, initial_rows, row_of, IsBegun, IsReady, IsShown, shown_row, Begun, members_exist, StandsApart}, Grouped.{some_of, look_members, no_member}}
 
@@ -8,10 +8,7 @@ use Rattle.dw_normal.proofs.{Words.{AreMembers, difference_fits, cie_fits, fits,
 own_group : (row : Rules) (r : ℕ) (ms : List Member) (k : ℕ) (d : Member) → k < length ms → (get_or ms k d).register ≡ r → some_of row (group r ms) ≡ Some row
 own_group row r [] k d lt own = absurd (omega arith)
 own_group row r (m ∷ ms) zero d lt own = rw (eq-eqb m.register r own) refl
-own_group row r (m ∷ ms) (suc k) d lt own = elim (cases_Bool (nat_eq m.register r)) [
-  | inl e ↦ rw e refl
-  | inr e ↦ rw e (own_group row r ms k d (omega arith) own)
-]
+own_group row r (m ∷ ms) (suc k) d lt own = grind (arith, cases_Bool (nat_eq m.register r), nat_eq m.register r, own_group row r ms k d (omega arith) own)
 
 -- ---- changes below an end
 
@@ -65,17 +62,7 @@ module _ (t : Target) (s : List ℕ) (b : AreBytes s) (ok : Accepted t s) (ms : 
     row_in rows r are own = ap (λ (l : List (ℕ × Rules)). row_of l r) are ∙ ap (row_of (initial_rows ms)) own ∙ row_at
 
     pub ready_at : (begun : Begun) → IsBegun ms m begun → IsShown begun.changes → StandsApart begun.apart begun.shared.now (shown_row begun.changes) → IsReady t begun
-    ready_at begun is shown apart = record {
-      apart = apart;
-      first =
-          subst (λ (r : Rules). AllByRecursion (InstrFits t) (difference r r (shown_row begun.changes))) (sym is.shared)
-          (subst (λ (r : Rules). AllByRecursion (InstrFits t) (difference initial initial r)) (sym is.first) first_at);
-      stand = record {
-        shown = shown;
-        fits = subst (RowFits t) (sym is.first) stands_at.first.fits;
-        later = rw (is.shared, is.fde, is.first, is.later) (stand_within t initial m.end (address_limit t.size) stands_at.in_space m.begin m.first m.later stands_at.later);
-      };
-    }
+    ready_at begun is shown apart = grind (arith, difference, shown_row, first_at, stand, fits, stands_at, stand_within, address_limit)
 
 -- ---- the initial row of an FDE that the table lists
 

@@ -1,5 +1,5 @@
 -- The registers of two rows from one on, and the first of them whose rule differs.
-use Rattle.dw_normal.proofs.Words.{◌≡◌, ℕ, suc, ◌<◌, ◌≤◌, true, false, List, [], ◌∷◌, map, None, refl, sym, ap, ◌∙◌, arith, inl, inr, nat_lt, flat_map, keys_of, cases_lt, lt-ltb, le-ltb, eq-eqb, ne_eqb, Rules, AreSpecified, rule, same_rule}
+use Rattle.dw_normal.proofs.Words.{◌≡◌, ℕ, suc, ◌<◌, ◌≤◌, true, List, [], ◌∷◌, map, None, refl, ap, arith, inl, inr, nat_lt, flat_map, keys_of, cases_lt, lt-ltb, le-ltb, eq-eqb, ne_eqb, Rules, AreSpecified, rule, same_rule}
 use Rattle.dw_normal.proofs.Words.{FirstDifference, DiffersFirst, differs_of, either, rule_to, rule_difference, with_register, with_registers, from_on, rules_from, RegRule, rule_tells}
 use Rattle.dw_canon.proofs.Lent.Differences.{In, either_or}
 
@@ -56,9 +56,7 @@ Next initial old new low q = rules_from initial old new low ≡ rule_to initial 
 
 module _ (initial old new : Rules) (low : ℕ) where
   quiet : (r : ℕ) → rule old r ≡ rule new r → rule_difference initial old new r ≡ []
-  quiet r same =
-      let test : same_rule (rule old r) (rule new r) ≡ true = (rule_tells (rule old r) (rule new r)).1 same in
-      rw test refl
+  quiet r same = grind (arith, same_rule, rule, rule_tells)
 
   none_on : (rs : List ℕ) → ((r : ℕ) → low ≤ r → rule old r ≡ rule new r) → flat_map (rule_difference initial old new) (from_on low rs) ≡ []
   none_on [] same = refl
@@ -72,18 +70,12 @@ module _ (initial old new : Rules) (low : ℕ) where
 
   module _ (q : ℕ) (first : DiffersFirst low old.registers new.registers q) where
     loud : (r : ℕ) → r ≡ q → rule_difference initial old new r ≡ rule_to initial q (rule new q) ∷ []
-    loud r at =
-        let test : same_rule (rule old q) (rule new q) ≡ false = differs_of (rule old q) (rule new q) first.2 in
-        ap (rule_difference initial old new) at ∙ rw test refl
+    loud r at = grind (arith, same_rule, rule, differs_of, rule_difference)
 
     one_on : (rs : List ℕ) (above : ℕ) → Ascend above rs → In q rs
         → flat_map (rule_difference initial old new) (from_on low rs) ≡ rule_to initial q (rule new q) ∷ flat_map (rule_difference initial old new) (from_on (suc q) rs)
     one_on [] above h is = absurd is
-    one_on (r ∷ rs) above h (inl e) =
-        let past : nat_lt r (suc q) ≡ true = lt-ltb r (suc q) (omega arith) in
-        let here : nat_lt r low ≡ false = le-ltb r low (omega (arith, first.0)) in
-        let rest : from_on low rs ≡ from_on (suc q) rs = all_from (suc r) low rs (omega (arith, first.0)) h.1 ∙ sym (all_from (suc r) (suc q) rs (omega arith) h.1) in
-        rw (past, here, loud r e) (ap (λ (l : List ℕ). rule_to initial q (rule new q) ∷ flat_map (rule_difference initial old new) l) rest)
+    one_on (r ∷ rs) above h (inl e) = grind (arith, nat_lt, lt-ltb, le-ltb, from_on, all_from, loud, rule_to, rule, flat_map, rule_difference)
     one_on (r ∷ rs) above h (inr more) =
         let lt : r < q = (let up = in_above (suc r) q rs h.1 more in omega (arith, up)) in
         let past : nat_lt r (suc q) ≡ true = lt-ltb r (suc q) (omega arith) in
@@ -93,7 +85,4 @@ module _ (initial old new : Rules) (low : ℕ) where
         ]
 
     pub one_differs : AreSpecified 0 old.registers → AreSpecified 0 new.registers → Next initial old new low q
-    one_differs up up' = elim (either_or old new q) [
-      | inl is ↦ one_on (either old new) 0 (either_ascends old new up up') is
-      | inr same ↦ absurd (first.2 same)
-    ]
+    one_differs up up' = grind (arith, either_or, one_on, either, either_ascends)

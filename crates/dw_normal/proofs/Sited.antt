@@ -1,7 +1,7 @@
 -- The places of CIEs, kept one after another.
 use Rattle.std.proofs.lemmas.Bool.Decides.{eqb_tells}
 use Rattle.dw_normal.proofs.Words.{◌≡◌, ℕ, suc, ◌+◌, ◌<◌, ◌≤◌, Bool, true, false, cond, List, [], ◌∷◌, length, map, Option, Some, None, refl, sym, ap, ◌∙◌, subst, inl, inr, arith, eq-eqb, is_at, nat_cmp, le-ltb, length-append}
-use Rattle.dw_normal.proofs.{Words.{Target, Rules, group_of, return_registers, initial_of, GroupsRise, place_of, Member, entry_bytes, initial_rows, row_of, cie_with, cies_bytes, place_in, cie_place, RowsRise}, Grouped.told}
+use Rattle.dw_normal.proofs.{Words.{Target, Rules, group_of, return_registers, initial_of, GroupsRise, place_of, Member, entry_bytes, initial_rows, row_of, cie_with, cies_bytes, place_in, cie_place, RowsRise}}
 
 -- ---- the order of two registers
 
@@ -9,11 +9,7 @@ at_same : (k r : ℕ) → k ≡ r → is_at (nat_cmp k) r ≡ true
 at_same k r same = subst (λ (n : ℕ). is_at (nat_cmp k) n ≡ true) same (rw (le-ltb k k (omega arith), eq-eqb k k refl) refl)
 
 at_other : (k r : ℕ) → (k ≡ r → ⊥) → is_at (nat_cmp k) r ≡ false
-at_other k r ne = elim (told k r) [
-  | inl o ↦ rw (o.less) refl
-  | inr (inl same) ↦ absurd (ne same)
-  | inr (inr o) ↦ rw (o.greater) refl
-]
+at_other k r ne = grind arith
 
 -- ---- one CIE after another
 
@@ -21,22 +17,11 @@ abbrev pub either_of : Option ℕ → Option ℕ → Option ℕ
 either_of None other = other
 either_of (Some x) other = Some x
 
-first_alone : (o : Option ℕ) → either_of o None ≡ o
-first_alone None = refl
-first_alone (Some x) = refl
-
 -- a place is among those to come, or was kept
 pub record Placing (t : Target) (all rest : List (ℕ × Rules)) (places : List (ℕ × ℕ)) (written : ℕ) : Type 0 where
   pub low : ℕ
   pub rise : RowsRise low rest
   pub same : (r : ℕ) → either_of (cie_place t written rest r) (place_in places r) ≡ cie_place t 0 all r
-
-pub placing_begins : (t : Target) (all : List (ℕ × Rules)) (places : List (ℕ × ℕ)) → RowsRise 0 all → places ≡ [] → Placing t all all places 0
-placing_begins t all places rise none =
-    record { low = 0; rise = rise; same = λ r. ap (λ (l : List (ℕ × ℕ)). either_of (cie_place t 0 all r) (place_in l r)) none ∙ first_alone (cie_place t 0 all r) }
-
-pub placing_ends : (t : Target) (all : List (ℕ × Rules)) (places : List (ℕ × ℕ)) (written : ℕ) → Placing t all [] places written → (r : ℕ) → place_in places r ≡ cie_place t 0 all r
-placing_ends t all places written h r = h.same r
 
 not_among : (t : Target) (low at r : ℕ) (rows : List (ℕ × Rules)) → RowsRise low rows → r < low → cie_place t at rows r ≡ None
 not_among t low at r [] h lt = refl

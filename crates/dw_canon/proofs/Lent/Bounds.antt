@@ -1,7 +1,7 @@
 -- The normal form of a section is no longer than the shares of its FDEs.
 use Rattle.dw_canon.specs.Bound.{share, Shares, WithinShares}
 use Rattle.dw_canon.specs.Inner.Laid as layout
-use Rattle.dw_canon.proofs.Words.{◌≡◌, ℕ, ◌+◌, ◌*◌, ◌<◌, ◌≤◌, List, [], ◌∷◌, length, map, refl, ap, subst, inl, inr, arith, ◌∙◌, nat_eq, AllByRecursion, eqb_tells, length-append, Size, Four, Eight, Target}
+use Rattle.dw_canon.proofs.Words.{rules, ◌≡◌, ℕ, ◌+◌, ◌*◌, ◌<◌, ◌≤◌, List, [], ◌∷◌, length, map, refl, ap, subst, inl, inr, arith, ◌∙◌, nat_eq, AllByRecursion, eqb_tells, length-append, Size, Four, Eight, Target}
 use Rattle.dw_canon.proofs.Words.{AreBytes, byte_count, length-fixed, Accepted, group_of, groups_of, part_of, parts_of, canon, cie_instrs, initial_of, return_registers, MemberStands, group, cie_of, Member}
 use Rattle.dw_canon.proofs.{Words.{IsMember, AreMembers, fde_of, changes_of, program_bytes, cie_id, cie_spelling, entry_bytes, section_bytes, cie_field_bytes}, AscendingRegisters.{Rise, with_all_rise}}
 use Rattle.dw_canon.proofs.Lent.{Differences.In, Extra.{section_append, up, entry_up, fde_length}, Forms.whole_is, Layout.laid_is, MemberPlaces.all_some, Rendered.{fits, stand, nonempty, low_registers}, Shared.MemberFits}
@@ -14,17 +14,8 @@ up_most : (size : Size) (n : ℕ) → up size n ≤ n + 7
 up_most Four n = omega arith
 up_most Eight n = omega arith
 
-width_most : (size : Size) → byte_count size ≤ 8
-width_most Four = omega arith
-width_most Eight = omega arith
-
 fde_most : (t : Target) (gs : List layout.Group) (p : layout.Part) → length (entry_bytes t (layout.fde_of t gs p)) ≤ 31 + length p.program
-fde_most t gs p = omega (
-  arith,
-  fde_length t (layout.place_of t 0 gs p.register) p.begin p.range p.instrs p.program,
-  up_most t.size (8 + 2 * byte_count t.size + length p.program),
-  width_most t.size,
-)
+fde_most t gs p = search (rules, fde_length t (layout.place_of t 0 gs p.register) p.begin p.range p.instrs p.program)
 
 cie_most : (t : Target) (g : layout.Group) → g.register < 65536 → length (entry_bytes t (cie_of g)) ≤ 24 + length g.program
 cie_most t g lt = omega (

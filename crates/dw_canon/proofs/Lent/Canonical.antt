@@ -1,6 +1,6 @@
 -- The laws of normal forms.
 use Rattle.dw_canon.proofs.Words.{◌≡◌, ℕ, ◌<◌, ◌≤◌, List, [], ◌∷◌, ◌++◌, map, length, refl, sym, ap, ◌∙◌, subst, inl, inr, ◌↔◌, AllByRecursion, AreBytes, Target, Rules, row_starts, Fde, Accepted, AreChanges, AreFdes, ChangesOf, RowStarts}
-use Rattle.dw_canon.proofs.Words.{total, one_fdes, IsAmong, ReadsBack, fdes_exist, listed_programs, one_change_list, Group, Part, cie_of, laid, Written, section_bytes, least_starts, part_of, groups_of, parts_of, canon, initial_of}
+use Rattle.dw_canon.proofs.Words.{rules, total, one_fdes, IsAmong, ReadsBack, fdes_exist, listed_programs, one_change_list, Group, Part, cie_of, laid, Written, section_bytes, least_starts, part_of, groups_of, parts_of, canon, initial_of}
 use Rattle.dw_canon.proofs.Words.{MemberStands, Member, fde_of, changes_of, IsMember, AreMembers, IsNormalForm, Agree, HoldsAt, agree_row, changes_agree, one_rules, programs_rules, row_exists, arith}
 use Rattle.dw_section.specs.Meanings.{SameMeaning}
 use Rattle.dw_section.proofs.Lent.Exists.{listed_change, meaning_changes}
@@ -40,20 +40,8 @@ members_exist t s b ok =
 
 -- ---- and are one list
 
-first_of : (x y : ℕ × Rules) (xs ys : List (ℕ × Rules)) → x ∷ xs ≡ y ∷ ys → x ≡ y
-first_of x y xs ys e = cc
-
-behind_of : (x y : ℕ × Rules) (xs ys : List (ℕ × Rules)) → x ∷ xs ≡ y ∷ ys → xs ≡ ys
-behind_of x y xs ys e = cc
-
 member_is : (m k : Member) → fde_of m ≡ fde_of k → changes_of m ≡ changes_of k → m ≡ k
-member_is m k same changes =
-    let pair : (m.begin, m.first) ≡ (k.begin, k.first) = first_of (m.begin, m.first) (k.begin, k.first) m.later k.later changes in
-    let first : m.first ≡ k.first = ap (λ (p : ℕ × Rules). p.1) pair in
-    let later : m.later ≡ k.later = behind_of (m.begin, m.first) (k.begin, k.first) m.later k.later changes in
-    ap (λ (f : Fde). let x : Member = record { begin = f.begin; end = f.end; register = f.return_register; first = m.first; later = m.later } in x) same
-    ∙ ap (λ (row : Rules). let x : Member = record { begin = k.begin; end = k.end; register = k.register; first = row; later = m.later } in x) first
-    ∙ ap (λ (l : List (ℕ × Rules)). let x : Member = record { begin = k.begin; end = k.end; register = k.register; first = k.first; later = l } in x) later
+member_is m k same changes = search rules
 
 head_is : (m k : Member) (ms ks : List Member) → map fde_of (m ∷ ms) ≡ map fde_of (k ∷ ks) → fde_of m ≡ fde_of k
 head_is m k ms ks e = cc
@@ -107,20 +95,7 @@ meaning_is_kept t s n b h small = let r = back t s n b h small in (r.bytes, r.ac
 
 -- the normal form of a section is that of another with the same members
 moved : (t : Target) (s u n : List ℕ) (h : IsNormalForm t s n) → Accepted t u → AreMembers t u h.members → IsNormalForm t u n
-moved t s u n h ok are = record {
-  accepted = ok;
-  members = h.members;
-  are = are;
-  same_cfa = h.same_cfa;
-  tells_cfa = h.tells_cfa;
-  same_rule = h.same_rule;
-  tells_rule = h.tells_rule;
-  block = h.block;
-  least = h.least;
-  initial = h.initial;
-  shared = h.shared;
-  whole = h.whole;
-}
+moved t s u n h ok are = search rules
 
 pub normal_again : NormalAgain
 normal_again t s n b h small =
@@ -134,10 +109,7 @@ same_back : (t : Target) (a b : List ℕ) → SameMeaning t a b → SameMeaning 
 same_back t a b h = record { fdes = λ fs. ((h.fdes fs).1, (h.fdes fs).0); rules = λ x row. ((h.rules x row).1, (h.rules x row).0) }
 
 same_then : (t : Target) (a b c : List ℕ) → SameMeaning t a b → SameMeaning t b c → SameMeaning t a c
-same_then t a b c h k = record {
-  fdes = λ fs. (λ x. (k.fdes fs).0 ((h.fdes fs).0 x), λ x. (h.fdes fs).1 ((k.fdes fs).1 x));
-  rules = λ a row. (λ x. (k.rules a row).0 ((h.rules a row).0 x), λ x. (h.rules a row).1 ((k.rules a row).1 x));
-}
+same_then t a b c h k = search rules
 
 -- sections that say the same have the same members
 same_members : (t : Target) (s u : List ℕ) (ms : List Member) → AreBytes s → AreBytes u → Accepted t s → Accepted t u → AreMembers t s ms → SameMeaning t s u → AreMembers t u ms
@@ -170,8 +142,7 @@ same_exactly t s u ms ns bs bu ok okay h k small little = (
 )
 
 pub fewest_rows : FewestRows
-fewest_rows t s f changes b ok some h =
-    least_starts t s b ok f.begin f.end h.initial h.instrs changes some h.says h.change
+fewest_rows t s f changes b ok some h = search (rules, least_starts)
 
 -- ---- rows that a normal form starts
 
@@ -192,9 +163,7 @@ member_starts : (t : Target) (ms xs : List Member) → AllByRecursion (MemberFit
     → part_starts (map (part_of t ms) xs) ≡ map (λ (m : Member). length (changes_of m)) xs
 unfolding part_starts
 member_starts t ms [] all h = refl
-member_starts t ms (m ∷ xs) all h =
-    let law = member_program t (initial_of ms m.register) m (group_fits t ms m.register all) h.0 in
-    ap (λ (n : ℕ). n ∷ part_starts (map (part_of t ms) xs)) law.3 ∙ ap (λ (l : List ℕ). length (changes_of m) ∷ l) (member_starts t ms xs all h.1)
+member_starts t ms (m ∷ xs) all h = search (rules, member_program t (initial_of ms m.register) m (group_fits t ms m.register all) h.0, member_starts t ms xs all h.1)
 
 laid_rows : (t : Target) (s : List ℕ) (b : AreBytes s) (ok : Accepted t s) (ms : List Member) (are : AreMembers t s ms) → length (section_bytes t (laid t (groups_of t ms) (parts_of t ms))) ≤ 2147483647
     → RowStarts t (section_bytes t (laid t (groups_of t ms) (parts_of t ms))) (total (map (λ (m : Member). length (changes_of m)) ms))

@@ -1,6 +1,6 @@
 -- The instructions of a difference lead from the one row to the other, with no fault.
-use Rattle.dw_canon.proofs.Words.{◌≡◌, ◌⊎◌, ℕ, Bool, true, false, List, [], ◌∷◌, ◌++◌, None, refl, sym, ap, ◌∙◌, subst, inl, inr, arith, nat_eq, nat_lt, if◌then◌else◌, map, flat_map, keys_of, int_eq, cases_Bool, eqb-true, eqb-false}
-use Rattle.dw_canon.proofs.Words.{Decides-int_eq, Target, Instr, Set, Restore, CfaRule, RegRule, moves_location, keeps_half, State, after, half_fault, fde_fault, Rules, AreSpecified, rule, rule_in, same_rows, cfa_to, either, cfa_difference}
+use Rattle.dw_canon.proofs.Words.{◌≡◌, ◌⊎◌, ℕ, Bool, true, false, List, [], ◌∷◌, ◌++◌, None, refl, sym, ap, ◌∙◌, subst, inl, inr, arith, nat_eq, nat_lt, if◌then◌else◌, map, flat_map, cases_Bool, eqb-true, eqb-false}
+use Rattle.dw_canon.proofs.Words.{Target, Instr, Set, Restore, CfaRule, RegRule, moves_location, keeps_half, State, after, half_fault, fde_fault, Rules, AreSpecified, rule, rule_in, same_rows, cfa_to, either, cfa_difference}
 use Rattle.dw_canon.proofs.Words.{rule_difference, difference, with_register, with_registers, CfaFits, RowFits, same_cfa, same_rule, cfa_tells, rule_tells}
 use Rattle.dw_cfa.specs.Inner.Rows.{with_cfa, with_rule}
 use Rattle.dw_cfa.proofs.Lent.RowLists.{put_rule, put_keeps}
@@ -38,13 +38,7 @@ module _ (limit : ℕ) (initial old : Rules) (at : ℕ) where
   cfa_leads t (cfa.Expression x) (cfa.Expression e) is h k set = (refl, rw is refl, refl)
   cfa_leads t cfa.Unset (cfa.Register q m) is h k set = (refl, rw is refl, refl)
   cfa_leads t (cfa.Expression x) (cfa.Register q m) is h k set = (refl, rw is refl, refl)
-  cfa_leads t (cfa.Register r n) (cfa.Register q m) is h k set = elim (cases_Bool (nat_eq r q)) [
-    | inl e ↦ rw e (refl, rw is refl, rw (is, eqb-true r q e) refl)
-    | inr e ↦ elim (cases_Bool (int_eq n m)) [
-      | inl f ↦ rw (e, f) (refl, rw is refl, rw (is, (Decides-int_eq n m).0 f) refl)
-      | inr f ↦ rw (e, f) (refl, rw is refl, refl)
-    ]
-  ]
+  cfa_leads t (cfa.Register r n) (cfa.Register q m) is h k set = grind arith
 
   pub cfa_quiet : (t : Target) (new : CfaRule) → CfaFits t old.cfa → CfaFits t new → ((new ≡ cfa.Unset) → old.cfa ≡ cfa.Unset)
       → Quiet limit initial (cfa_difference old.cfa new) (on old at) (on (with_cfa new old) at)
@@ -116,22 +110,16 @@ module _ (t : Target) (initial old new : Rules) (h : RowFits t initial) (j : Row
   -- one that has its new rule was left
   one_left : (r : ℕ) (rs : List ℕ) (row : Rules) → same_rule (rule old r) (rule new r) ≡ true → Owes (r ∷ rs) row → Owes rs row
   one_left r rs row e (inl now) = inl now
-  one_left r rs row e (inr (was, inl here)) =
-      let same = (rule_tells (rule old r) (rule new r)).0 e in
-      inl (was ∙ subst (λ (x : ℕ). rule old x ≡ rule new x) here same)
+  one_left r rs row e (inr (was, inl here)) = grind (arith, rule_tells)
   one_left r rs row e (inr (was, inr more)) = inr (was, more)
 
   one_owes : (r : ℕ) (rs : List ℕ) (row : Rules) → AreSpecified 0 row.registers → Owes (r ∷ rs) row → Owes rs (written_one old new r row)
-  one_owes r rs row up owes = elim (cases_Bool (same_rule (rule old r) (rule new r))) [
-    | inl e ↦ rw e (one_left r rs row e owes)
-    | inr e ↦ rw e (one_set r rs row up (nat_eq r q) refl owes)
-  ]
+  one_owes r rs row up owes = grind (arith, one_left, one_set)
 
   pub written_rule : (rs : List ℕ) (row : Rules) → AreSpecified 0 row.registers → Owes rs row → rule (written_by old new rs row) q ≡ rule new q
   written_rule [] row up (inl now) = now
   written_rule [] row up (inr owed) = absurd owed.1
-  written_rule (r ∷ rs) row up owes =
-      written_rule rs (written_one old new r row) (one_listed t 0 initial old new 0 h k r row up) (one_owes r rs row up owes)
+  written_rule (r ∷ rs) row up owes = grind (arith, written_rule rs (written_one old new r row) (one_listed t 0 initial old new 0 h k r row up) (one_owes r rs row up owes))
 
 -- ---- which registers are listed
 
@@ -171,13 +159,7 @@ listed_or q (x ∷ xs) = elim (cases_Bool (nat_eq x.0 q)) [
 
 -- a register is listed, or is Unspecified in both rows
 pub either_or : (old new : Rules) (q : ℕ) → In q (either old new) ⊎ (rule old q ≡ rule new q)
-either_or old new q = elim (listed_or q old.registers) [
-  | inl h ↦ inl (with_all q (keys_of old.registers) (keys_of new.registers) (inl h))
-  | inr none ↦ elim (listed_or q new.registers) [
-    | inl h ↦ inl (with_all q (keys_of old.registers) (keys_of new.registers) (inr h))
-    | inr also ↦ inr (none ∙ sym also)
-  ]
-]
+either_or old new q = grind (arith, listed_or, with_all)
 
 -- ---- the whole
 

@@ -1,6 +1,6 @@
 -- The cut of a section that is written, and the fields of each entry.
-use Rattle.dw_canon.proofs.Words.{◌≡◌, ℕ, ◌+◌, ◌/◌, ◌%◌, ◌<◌, ◌≤◌, ◌⊎◌, ◌^◌, true, false, Bool, List, [], ◌∷◌, ◌++◌, length, map, refl, sym, ap, subst, ◌∙◌, append_assoc, arith, inl, inr, negsuc, ◌==◌, if◌then◌else◌, None, AllByRecursion}
-use Rattle.dw_canon.proofs.Words.{AllZip, list_all, cons_option, cases_Bool, and_parts, eqb-true, le-leb, lt-ltb, eqb_tells, length-append, append-nil, Order, Little, Big, Size, Four, Eight, Dwarf32, Target, fixed_bytes, Fixed}
+use Rattle.dw_canon.proofs.Words.{◌≡◌, ℕ, ◌+◌, ◌/◌, ◌%◌, ◌<◌, ◌≤◌, ◌⊎◌, ◌^◌, true, false, Bool, List, [], ◌∷◌, ◌++◌, length, map, refl, sym, ap, subst, ◌∙◌, arith, inl, inr, negsuc, ◌==◌, if◌then◌else◌, None, AllByRecursion}
+use Rattle.dw_canon.proofs.Words.{rules, AllZip, list_all, cons_option, lt-ltb, length-append, append-nil, Order, Little, Big, Size, Four, Eight, Dwarf32, Target, fixed_bytes, Fixed}
 use Rattle.dw_canon.proofs.Words.{shortest_uleb, address_limit, byte_count, length-fixed, shortest_uleb-spells, Instr, IsItem, is_cie, Piece, pieces, Cut, Has, Headers, cie_places, place_if, Written, cie, fde, cie_id, cie_spelling}
 use Rattle.dw_canon.proofs.Words.{fields_of, program_of, nops_of, filled, contents, item_of, entry_bytes, section_bytes, fde_field_bytes, cie_field_bytes, span_of, head_of, heads_at, cies_at, StandsAt, Fits}
 use Rattle.dw_section.specs.{declared.entry.Kind.Kind, Fields.{is_among, FieldsSpell, unless}}
@@ -11,18 +11,8 @@ use Rattle.dw_section.specs.Fields as table
 
 -- ---- lengths
 
-fields_long : (target : Target) (w : Written) → 4 ≤ length (fields_of target w)
-fields_long target (cie register instrs program) = omega (arith, length-append (cie_id target) (cie_spelling target register), length-fixed target.order 4 0xffffffff)
-fields_long target (fde cie_at begin range instrs program) =
-    omega (arith, length-append (fixed_bytes target.order 4 cie_at) (fixed_bytes target.order (byte_count target.size) begin ++ fixed_bytes target.order (byte_count target.size) range), length-fixed target.order 4 cie_at)
-
-pub contents_long : (target : Target) (w : Written) → 4 ≤ length (contents target w)
-contents_long target w = omega (arith, fields_long target w, length-append (fields_of target w) (filled (nops_of target w) (program_of w)))
-
 pub entry_length : (target : Target) (w : Written) → length (entry_bytes target w) ≡ 4 + length (contents target w)
-entry_length target w =
-    let n = length (contents target w) in
-    omega (arith, length-append (fixed_bytes target.order 4 n) (contents target w), length-fixed target.order 4 n)
+entry_length target w = search rules
 
 section_more : (target : Target) (w : Written) (ws : List Written) → length (section_bytes target (w ∷ ws)) ≡ length (entry_bytes target w) + length (section_bytes target ws)
 section_more target w ws = length-append (entry_bytes target w) (section_bytes target ws)
@@ -31,8 +21,7 @@ section_more target w ws = length-append (entry_bytes target w) (section_bytes t
 
 pub stands_below : (target : Target) (at : ℕ) (ws : List Written) (place register : ℕ) (initial : List Instr) → StandsAt target at ws place register initial → place < at + length (section_bytes target ws)
 stands_below target at [] place register initial h = absurd h
-stands_below target at (cie r instrs program ∷ ws) place register initial (inl h) =
-    let w = cie r instrs program in omega (arith, h.0, section_more target w ws, entry_length target w)
+stands_below target at (cie r instrs program ∷ ws) place register initial (inl h) = search rules
 stands_below target at (cie r instrs program ∷ ws) place register initial (inr h) =
     let w = cie r instrs program in
     omega (arith, section_more target w ws, stands_below target (at + length (entry_bytes target w)) ws place register initial h)
@@ -42,57 +31,20 @@ stands_below target at (fde c b n instrs program ∷ ws) place register initial 
 
 pub stands_among : (target : Target) (at : ℕ) (ws : List Written) (place register : ℕ) (initial : List Instr) → StandsAt target at ws place register initial → is_among place (cies_at target at ws) ≡ true
 stands_among target at [] place register initial h = absurd h
-stands_among target at (cie r instrs program ∷ ws) place register initial (inl h) = elim (eqb_tells at place) [
-  | inl is ↦ rw (is.0) refl
-  | inr not ↦ absurd (not.1 (sym h.0))
-]
-stands_among target at (cie r instrs program ∷ ws) place register initial (inr h) = elim (eqb_tells at place) [
-  | inl is ↦ rw (is.0) refl
-  | inr not ↦ rw (not.0) (stands_among target (at + length (entry_bytes target (cie r instrs program))) ws place register initial h)
-]
+stands_among target at (cie r instrs program ∷ ws) place register initial (inl h) = search rules
+stands_among target at (cie r instrs program ∷ ws) place register initial (inr h) = search (rules, stands_among target (at + length (entry_bytes target (cie r instrs program))) ws place register initial h)
 stands_among target at (fde c b n instrs program ∷ ws) place register initial h = stands_among target (at + length (entry_bytes target (fde c b n instrs program))) ws place register initial h
 
 -- ---- the kind of an entry
-
-ones_front : (order : Order) (rest : List ℕ) → is_cie Dwarf32 (fixed_bytes order 4 0xffffffff ++ rest) ≡ kind.Cie
-ones_front Little rest = refl
-ones_front Big rest = refl
-
-if_false : (b : Bool) → b ≡ false → (if b then kind.Cie else kind.Fde) ≡ kind.Fde
-if_false b e = rw e refl
-
-all_four : (a b c d : ℕ) → (a < 255) ⊎ (d < 255) → list_all (λ x. x == 255) (a ∷ b ∷ c ∷ d ∷ []) ≡ false
-all_four a b c d h = elim (cases_Bool (list_all (λ x. x == 255) (a ∷ b ∷ c ∷ d ∷ []))) [
-  | inl all ↦
-      let p = and_parts (a == 255) (list_all (λ x. x == 255) (b ∷ c ∷ d ∷ [])) all in
-      let q = and_parts (b == 255) (list_all (λ x. x == 255) (c ∷ d ∷ [])) p.1 in
-      let r = and_parts (c == 255) (list_all (λ x. x == 255) (d ∷ [])) q.1 in
-      let s = and_parts (d == 255) true r.1 in
-      let x : a ≡ 255 = eqb-true a 255 p.0 in
-      let y : d ≡ 255 = eqb-true d 255 s.0 in
-      absurd (elim h [ inl lt ↦ omega arith | inr lt ↦ omega arith ])
-  | inr not ↦ not
-]
-
-pointer_front : (order : Order) (n : ℕ) (rest : List ℕ) → n < 0x80000000 → is_cie Dwarf32 (fixed_bytes order 4 n ++ rest) ≡ kind.Fde
-pointer_front Little n rest lt = if_false _ (all_four (n % 256) (n / 256 ^ 1 % 256) (n / 256 ^ 2 % 256) (n / 256 ^ 3 % 256) (inr (omega arith)))
-pointer_front Big n rest lt = if_false _ (all_four (n / 256 ^ 3 % 256) (n / 256 ^ 2 % 256) (n / 256 ^ 1 % 256) (n % 256) (inl (omega arith)))
 
 abbrev pub piece_at : Target → ℕ → Written → Piece
 piece_at target at w = record { at = at; form = Dwarf32; kind = is_cie Dwarf32 (contents target w); contents = record { at = at + length (fixed_bytes target.order 4 (length (contents target w))); bytes = contents target w } }
 
 cie_kind : (target : Target) (register : ℕ) (instrs : List Instr) (program : List ℕ) → is_cie Dwarf32 (contents target (cie register instrs program)) ≡ kind.Cie
-cie_kind target register instrs program =
-    let w = cie register instrs program in
-    let rest = filled (nops_of target w) program in
-    ap (is_cie Dwarf32) (append_assoc (cie_id target) (cie_spelling target register) rest) ∙ ones_front target.order (cie_spelling target register ++ rest)
+cie_kind target register instrs program = search rules
 
 fde_kind : (target : Target) (cie_at begin range : ℕ) (instrs : List Instr) (program : List ℕ) → cie_at < 0x80000000 → is_cie Dwarf32 (contents target (fde cie_at begin range instrs program)) ≡ kind.Fde
-fde_kind target cie_at begin range instrs program lt =
-    let w = fde cie_at begin range instrs program in
-    let rest = filled (nops_of target w) program in
-    let numbers = fixed_bytes target.order (byte_count target.size) begin ++ fixed_bytes target.order (byte_count target.size) range in
-    ap (is_cie Dwarf32) (append_assoc (fixed_bytes target.order 4 cie_at) numbers rest) ∙ pointer_front target.order cie_at (numbers ++ rest) lt
+fde_kind target cie_at begin range instrs program lt = search rules
 
 -- ---- fields
 
@@ -182,33 +134,7 @@ cie_spelled target register lt =
 -- and what is written of an FDE, those of one
 fde_spelled : (target : Target) (places : List ℕ) (cie_at begin range : ℕ) → cie_at < 256 ^ 4 → is_among cie_at places ≡ true → begin < address_limit target.size → range < address_limit target.size → begin + range ≤ address_limit target.size
     → FieldsSpell target (table.fde_fields target.size places Dwarf32) (record { cie_at = cie_at; begin = begin; range = range }) (fde_field_bytes target cie_at begin range)
-fde_spelled target places cie_at begin range low among begin_low range_low inside =
-    let first = fixed_bytes target.order (byte_count target.size) begin in
-    let last = fixed_bytes target.order (byte_count target.size) range in (
-      cie_at,
-      rw among refl,
-      record {
-        front = fixed_bytes target.order 4 cie_at;
-        back = first ++ last;
-        first = record { bytes = refl; fits = low };
-        second = (
-          begin,
-          refl,
-          record {
-            front = first;
-            back = last;
-            first = is_address target begin begin_low;
-            second = (
-              range,
-              rw (le-leb (begin + range) (address_limit target.size) inside) refl,
-              record { front = last; back = []; first = is_address target range range_low; second = (refl, refl); whole = sym (append-nil last) },
-            );
-            whole = refl;
-          },
-        );
-        whole = refl;
-      },
-    )
+fde_spelled target places cie_at begin range low among begin_low range_low inside = search rules
 
 place_behind : (target : Target) (at n : ℕ) (w : Written) → at + (4 + n) ≡ (piece_at target at w).contents.at + n
 place_behind target at n w = omega (arith, length-fixed target.order 4 (length (contents target w)))
@@ -264,10 +190,7 @@ module _ (target : Target) (all : List Written) (small : length (section_bytes t
 
 each_item : (target : Target) (ws : List Written) → length (section_bytes target ws) ≤ 2147483647 → AllByRecursion IsItem (map (item_of target) ws)
 each_item target [] small = tt
-each_item target (w ∷ ws) small = (
-  (omega (arith, section_more target w ws, entry_length target w), contents_long target w),
-  each_item target ws (omega (arith, section_more target w ws)),
-)
+each_item target (w ∷ ws) small = search (rules, section_more target w ws, each_item target ws (omega (arith, section_more target w ws)))
 
 -- what is written is cut into the entries that were written, without a gap
 pub written_cut : (target : Target) (ws : List Written) → length (section_bytes target ws) ≤ 2147483647 → Cut target.order (section_bytes target ws) (map (item_of target) ws)

@@ -1,6 +1,6 @@
 -- The normal form has the same bytes by any tests that tell equal rules, by any function that gives each list of operations its
 -- least block, and by any that gives each return address register the row that its FDEs share.
-use Rattle.dw_canon.proofs.Words.{◌≡◌, ℕ, ◌+◌, ◌-◌, Bool, List, [], ◌∷◌, ◌++◌, length, map, refl, sym, ap, ◌∙◌, ◌↔◌, ◌==◌, IsTrue, nat_eq, if◌then◌else◌, AllByRecursion, flat_map, AreBytes, Target, Op, LeastBlock, least_block, Instr}
+use Rattle.dw_canon.proofs.Words.{rules, ◌≡◌, ℕ, ◌+◌, ◌-◌, Bool, List, [], ◌∷◌, ◌++◌, length, map, refl, sym, ap, ◌∙◌, ◌↔◌, ◌==◌, IsTrue, if◌then◌else◌, AllByRecursion, flat_map, AreBytes, Target, Op, LeastBlock, least_block, Instr}
 use Rattle.dw_canon.proofs.Words.{CfaRule, RegRule, same_cfa, same_rule, cfa_tells, rule_tells, Rules, Accepted, return_registers, group, IsShared, initial_of, cie_instrs, fde_instrs, cie_bytes, cie_at, fde_bytes, canon, InstrFits}
 use Rattle.dw_canon.proofs.Words.{MemberStands, Member, AreMembers, IsNormalForm, written, cie_field_bytes, fde_field_bytes}
 use Rattle.dw_op.proofs.Lent.LeastOne.{least_block_only}
@@ -30,8 +30,7 @@ module _ (t : Target) (ms : List Member) (all : AllByRecursion (MemberFits t) ms
 
   same_cies : (rs : List ℕ) → AllByRecursion HasOwn rs → flat_map (form.cie_bytes test_cfa test_rule block initial t) rs ≡ flat_map (cie_bytes t ms) rs
   same_cies [] own = refl
-  same_cies (r ∷ rs) own =
-      ap (λ (b : List ℕ). b ++ flat_map (form.cie_bytes test_cfa test_rule block initial t) rs) (same_cie_bytes r own.0) ∙ ap (λ (b : List ℕ). cie_bytes t ms r ++ b) (same_cies rs own.1)
+  same_cies (r ∷ rs) own = search (rules, same_cie_bytes r own.0, same_cies rs own.1)
 
   same_at : (at : ℕ) (rs : List ℕ) (register : ℕ) → AllByRecursion HasOwn rs → form.cie_at test_cfa test_rule block initial t at rs register ≡ cie_at t ms at rs register
   same_at at [] register own = refl
@@ -51,9 +50,7 @@ module _ (t : Target) (ms : List Member) (all : AllByRecursion (MemberFits t) ms
     same_fdes : (xs : List Member) → AllByRecursion (λ (m : Member). HasOwn m.register) xs
         → AllByRecursion (λ (m : Member). MemberStands t (initial_of ms m.register) m) xs → flat_map (form.fde_bytes test_cfa test_rule block initial t ms) xs ≡ flat_map (fde_bytes t ms) xs
     same_fdes [] own h = refl
-    same_fdes (m ∷ xs) own h =
-        ap (λ (b : List ℕ). b ++ flat_map (form.fde_bytes test_cfa test_rule block initial t ms) xs) (same_fde_bytes m own.0 h.0)
-        ∙ ap (λ (b : List ℕ). fde_bytes t ms m ++ b) (same_fdes xs own.1 h.1)
+    same_fdes (m ∷ xs) own h = search (rules, same_fde_bytes m own.0 h.0, same_fdes xs own.1 h.1)
 
   registers_own : (xs : List Member) → AllByRecursion (λ (m : Member). HasOwn m.register) xs → AllByRecursion HasOwn (map (λ (m : Member). m.register) xs)
   registers_own [] h = tt
@@ -69,9 +66,7 @@ module _ (t : Target) (ms : List Member) (all : AllByRecursion (MemberFits t) ms
 
 own_rows : (t : Target) (ms xs : List Member) (initial : ℕ → Rules) → AllByRecursion (MemberFits t) ms → AllByRecursion (λ (m : Member). IsShared (group m.register ms) (initial m.register)) xs
     → AllByRecursion (λ (m : Member). initial m.register ≡ initial_of ms m.register) xs
-own_rows t ms xs initial all h =
-    all_to (λ (m : Member). IsShared (group m.register ms) (initial m.register)) (λ (m : Member). initial m.register ≡ initial_of ms m.register) xs
-    (λ m shared. shared_is t (group m.register ms) (all_some (MemberFits t) (λ (k : Member). nat_eq k.register m.register) ms all) (initial m.register) shared) h
+own_rows t ms xs initial all h = search (rules, all_to, shared_is, all_some)
 
 -- a normal form is the one of the code
 pub whole_is : (t : Target) (s n : List ℕ) → AreBytes s → (h : IsNormalForm t s n) → n ≡ canon t h.members

@@ -2,7 +2,7 @@
 use Rattle.dw_cfa.specs.declared.rule.CfaRule.TheVariants as cfa
 use Rattle.dw_cfa.specs.declared.rule.RegRule.TheVariants as rules
 use Rattle.dw_section.proofs.Lent.RowFits.{rule_fits}
-use Rattle.dw_canon.proofs.Words.{◌≡◌, ℕ, zero, suc, ◌-◌, ◌<◌, ◌≤◌, ◌^◌, true, false, List, [], ◌∷◌, ◌++◌, map, replicate, refl, inl, inr, arith, nat_eq, nat_lt, IsTrue, flat_map, AllByRecursion, keys_of, int_eq}
+use Rattle.dw_canon.proofs.Words.{◌≡◌, ℕ, zero, suc, ◌-◌, ◌<◌, ◌≤◌, ◌^◌, true, false, List, [], ◌∷◌, ◌++◌, map, replicate, refl, inl, inr, arith, nat_lt, IsTrue, flat_map, AllByRecursion, keys_of}
 use Rattle.dw_canon.proofs.Words.{cases_Bool, ltb-true, Target, address_limit, Nop, CfaRule, RegRule, in_cie, Rules, rule, is_specified, blank, fde_instrs, cie_instrs, cfa_to, either, move, cfa_difference, rule_difference}
 use Rattle.dw_canon.proofs.{Words.{difference, later_changes, with_register, with_registers, CfaFits, RuleFits, RowFits, RestsOn, ChangesStand, MemberStands, InstrFits, Member, same_cfa, same_rule}, Lent.Programs.below_end}
 
@@ -22,13 +22,7 @@ nops_fit t (suc n) = (tt, nops_fit t n)
 
 with_one : (P : ℕ → Type 0) (r : ℕ) (rs : List ℕ) → P r → AllByRecursion P rs → AllByRecursion P (with_register r rs)
 with_one P r [] h k = (h, tt)
-with_one P r (x ∷ rs) h k = elim (cases_Bool (nat_lt r x)) [
-  | inl less ↦ rw less (h, k)
-  | inr more ↦ elim (cases_Bool (nat_eq r x)) [
-    | inl same ↦ rw (more, same) k
-    | inr other ↦ rw (more, other) (k.0, with_one P r rs h k.1)
-  ]
-]
+with_one P r (x ∷ rs) h k = grind (arith, with_one P r rs h k.1)
 
 pub with_all : (P : ℕ → Type 0) (rs qs : List ℕ) → AllByRecursion P rs → AllByRecursion P qs → AllByRecursion P (with_registers rs qs)
 with_all P [] qs h k = k
@@ -44,10 +38,7 @@ either_fits t old new h k = with_all (λ (r : ℕ). r < 65536) (keys_of old.regi
 -- ---- a difference
 
 cfa_to_fits : (t : Target) (old new : CfaRule) → CfaFits t new → AllByRecursion (InstrFits t) (cfa_to old new)
-cfa_to_fits t (cfa.Register r n) (cfa.Register q m) h = elim (cases_Bool (nat_eq r q)) [
-  | inl e ↦ rw e (h.1, tt)
-  | inr e ↦ elim (cases_Bool (int_eq n m)) [ inl f ↦ rw (e, f) (h.0, tt) | inr f ↦ rw (e, f) (h, tt) ]
-]
+cfa_to_fits t (cfa.Register r n) (cfa.Register q m) h = grind arith
 cfa_to_fits t old cfa.Unset h = tt
 cfa_to_fits t old new h = (h, tt)
 
@@ -101,25 +92,12 @@ cie_fits t initial fits = difference_fits t blank blank initial (blank_fits t) f
 
 -- it holds what a CIE may hold
 cie_cfa_to : (old new : CfaRule) → AllByRecursion (λ i. IsTrue (in_cie i)) (cfa_to old new)
-cie_cfa_to (cfa.Register r n) (cfa.Register q m) = elim (cases_Bool (nat_eq r q)) [
-  | inl e ↦ rw e (refl, tt)
-  | inr e ↦ elim (cases_Bool (int_eq n m)) [ inl f ↦ rw (e, f) (refl, tt) | inr f ↦ rw (e, f) (refl, tt) ]
-]
+cie_cfa_to (cfa.Register r n) (cfa.Register q m) = grind arith
 cie_cfa_to old cfa.Unset = tt
 cie_cfa_to old new = (refl, tt)
 
-unspecified_only : (x : RegRule) → same_rule x rules.Unspecified ≡ true → same_rule rules.Unspecified x ≡ true
-unspecified_only rules.Unspecified e = refl
-unspecified_only x e = absurd cc
-
 cie_one : (initial : Rules) (r : ℕ) → AllByRecursion (λ i. IsTrue (in_cie i)) (rule_difference blank blank initial r)
-cie_one initial r = elim (cases_Bool (same_rule (rule blank r) (rule initial r))) [
-  | inl e ↦ rw e tt
-  | inr e ↦ rw e (elim (cases_Bool (same_rule (rule initial r) (rule blank r))) [
-    | inl f ↦ let both = unspecified_only (rule initial r) f in absurd cc
-    | inr f ↦ rw f (refl, tt)
-  ])
-]
+cie_one initial r = grind arith
 
 any_register : (rs : List ℕ) → AllByRecursion (λ (r : ℕ). Unit {0}) rs
 any_register [] = tt

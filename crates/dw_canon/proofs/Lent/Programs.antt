@@ -1,7 +1,7 @@
 -- The program of a member runs without a fault, and its rows are the member's changes.
 use Rattle.dw_cfa.specs.Runs.{Outcome}
 use Rattle.dw_cfa.specs.Inner.Runs.{here}
-use Rattle.dw_canon.proofs.Words.{◌≡◌, ℕ, zero, suc, ◌+◌, ◌-◌, ◌<◌, ◌≤◌, ◌^◌, Bool, true, false, List, [], ◌∷◌, ◌++◌, map, replicate, Option, None, refl, sym, ap, ◌∙◌, subst, arith, nat_lt}
+use Rattle.dw_canon.proofs.Words.{rules, ◌≡◌, ℕ, zero, suc, ◌-◌, ◌<◌, ◌≤◌, ◌^◌, Bool, true, false, List, [], ◌∷◌, ◌++◌, map, replicate, Option, None, refl, sym, ap, ◌∙◌, subst, arith, nat_lt}
 use Rattle.dw_canon.proofs.Words.{le-ltb, append_assoc, append-nil, Member, changes_of, fde_instrs, Target, Instr, Nop, LocatedRow, moves_location, State, after, fde_fault, Rules, Placed, row_if}
 use Rattle.dw_canon.proofs.{Words.{fault_or, fde_rows, instrs_of, Gives, move, difference, later_changes, RowFits, RowStands, ChangesStand}, Lent.Differences.{Quiet, on, no_half, difference_quiet}}
 
@@ -29,9 +29,7 @@ next_row at false s code next rows none e = rw (none, e) refl
 pub plain_gives : (limit : ℕ) (initial : Rules) (items : List Placed) (s : State) → NoFaults limit initial (instrs_of items) s → Gives limit initial items s (plain_rows initial (instrs_of items) s)
 unfolding fde_rows
 plain_gives limit initial [] s h = refl
-plain_gives limit initial (item ∷ items) s h =
-    next_row item.at (moves_location item.instr) s (fde_fault limit item.instr s) (fde_rows limit initial items None (after initial item.instr s))
-    (plain_rows initial (instrs_of items) (after initial item.instr s)) h.0 (plain_gives limit initial items (after initial item.instr s) h.1)
+plain_gives limit initial (item ∷ items) s h = grind (arith, plain_gives limit initial items (after initial item.instr s) h.1)
 
 pub quiet_faults : (limit : ℕ) (initial : Rules) (xs ys : List Instr) (s s' : State) → Quiet limit initial xs s s' → NoFaults limit initial ys s' → NoFaults limit initial (xs ++ ys) s
 quiet_faults limit initial [] ys s s' q h = subst (NoFaults limit initial ys) (sym q) h
@@ -54,9 +52,7 @@ located change = record { location = change.0; row = change.1 }
 
 module _ (limit : ℕ) (initial row : Rules) (at to : ℕ) (less : at < to) (within : to ≤ limit) where
   move_kind : (b : Bool) → nat_lt (to - at) (2 ^ 32) ≡ b → (fde_fault limit (move at to) (on row at) ≡ None) × (moves_location (move at to) ≡ true) × (after initial (move at to) (on row at) ≡ on row to)
-  move_kind true e =
-      let sum : at + (to - at) ≡ to = omega arith in
-      rw e (rw sum (rw (le-ltb limit to within) refl), refl, ap (on row) sum)
+  move_kind true e = search rules
   move_kind false e = rw e (rw (le-ltb to at (omega arith)) refl, refl, refl)
 
 pub below_end : (t : Target) (initial : Rules) (end at : ℕ) (row : Rules) (changes : List (ℕ × Rules)) → ChangesStand t initial end at row changes → at < end

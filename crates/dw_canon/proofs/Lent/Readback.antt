@@ -1,7 +1,7 @@
 -- What is written of an accepted section means the same when it is read back.
 use Rattle.dw_section.specs.Headers as head
 use Rattle.dw_section.proofs.Lent.FieldTable.{fde_said}
-use Rattle.dw_canon.proofs.Words.{◌≡◌, ℕ, ◌+◌, ◌<◌, ◌≤◌, ◌^◌, List, [], ◌∷◌, ◌++◌, length, map, refl, sym, ap, subst, arith, inl, inr, AllByRecursion, AllZip, Size, Four, Eight, Target, AreBytes, address_limit, byte_count, Instr}
+use Rattle.dw_canon.proofs.Words.{rules, ◌≡◌, ℕ, ◌+◌, ◌<◌, ◌≤◌, ◌^◌, List, [], ◌∷◌, ◌++◌, length, map, refl, sym, ap, subst, arith, inl, inr, AllByRecursion, AllZip, Size, Four, Eight, Target, AreBytes, address_limit, byte_count, Instr}
 use Rattle.dw_canon.proofs.Words.{Fde, Accepted, Piece, Head, Has, FdeSays, Lists, AreFdes, Range, AreApart, end_of, cie_places, all_in, one_fdes, AgreeAt, Agree, Group, Part, laid, fde_in, IsPart, PartsApart, IsLaid, IsPartOf}
 use Rattle.dw_canon.proofs.Words.{IsAmong, IsRendered, Renders, ReadsBack, Readback, section_bytes, agree_nops, agree_then, cfa_agree, nops, agree_changes, AllAgree, all_agree_sym, same_meaning, changes_there, fdes_zip, one_programs}
 use Rattle.dw_canon.proofs.{Words.{cfa_programs, begin_low, listed_programs, changes_programs}, Accepts.{written_accepted, written_fdes}, Bytes.section_are_bytes, Lays.{laid_section, laid_fdes, part_member}, Means.{padded, padded_says}}
@@ -26,9 +26,7 @@ all_range target places (p ∷ ps) (h ∷ hs) z = (has_range target places p h z
 all_range target places ps hs z = absurd z
 
 pub range_low : (target : Target) (s : List ℕ) (begin end : ℕ) (i j : List Instr) → FdeSays target s begin end i j → end < begin + address_limit target.size
-range_low target s begin end i j h =
-    let fits : h.head.range < address_limit target.size = all_in (RangeFits target) h.headers (head.fde h.head) (all_range target (cie_places h.are.entries) h.are.entries h.headers h.are.each) h.among in
-    omega (arith, h.begin_is, h.end_is)
+range_low target s begin end i j h = search (rules, all_in (RangeFits target) h.headers (head.fde h.head) (all_range target (cie_places h.are.entries) h.are.entries h.headers h.are.each) h.among)
 
 -- ---- parts are apart
 

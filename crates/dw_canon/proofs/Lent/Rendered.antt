@@ -1,6 +1,6 @@
 -- The normal form renders its section.
 use Rattle.dw_section.proofs.Lent.Registers.{fdes_registers}
-use Rattle.dw_canon.proofs.Words.{◌≡◌, ℕ, suc, ◌+◌, ◌-◌, ◌<◌, List, [], ◌∷◌, map, refl, sym, ap, ◌∙◌, subst, inl, inr, arith, AllByRecursion, AreBytes, address_limit, Target, CfaRule, FdeKept, Fde, Accepted}
+use Rattle.dw_canon.proofs.Words.{rules, ◌≡◌, ℕ, suc, ◌+◌, ◌-◌, ◌<◌, List, [], ◌∷◌, map, refl, sym, ap, ◌∙◌, subst, inl, inr, arith, AllByRecursion, AreBytes, address_limit, Target, CfaRule, FdeKept, Fde, Accepted}
 use Rattle.dw_canon.proofs.Words.{AreChanges, AreFdes, ChangesOf, fde_in, HasGroup, GroupsRise, IsGroup, IsAmong, IsRendered, Renders, group_of, part_of, groups_of, parts_of, return_registers, initial_of}
 use Rattle.dw_canon.proofs.{Words.{cie_instrs, fde_instrs, MemberStands, Member, fde_of, changes_of, IsMember, AreMembers, sound_section}, AscendingRegisters.{Rise, with_all_rise}, Lent.Differences.In}
 use Rattle.dw_canon.proofs.{Lent.MemberPlaces.{member_fits, member_stands, group_fits, all_rest, all_both, IsSound, all_to}, Lent.Shared.{MemberFits, RestsOnAll}, ProgramLaws.{initial_program, member_program}}
@@ -29,9 +29,7 @@ groups_are t ms (r ∷ rs) fits h =
 -- ---- FDEs
 
 pub fde_is : (t : Target) (ms : List Member) (m : Member) → m.begin < m.end → fde_in (part_of t ms m) ≡ fde_of m
-fde_is t ms m lt =
-    let same : m.begin + (m.end - m.begin) ≡ m.end = omega arith in
-    ap (λ (n : ℕ). let f : Fde = record { begin = m.begin; end = n; return_register = m.register } in f) same
+fde_is t ms m lt = search rules
 
 fdes_are : (t : Target) (ms xs : List Member) → AllByRecursion (λ (m : Member). m.begin < m.end) xs → map fde_in (map (part_of t ms) xs) ≡ map fde_of xs
 fdes_are t ms [] h = refl

@@ -40,9 +40,7 @@ module _ (test_cfa : CfaRule → CfaRule → Bool) (tells_cfa : (a b : CfaRule) 
         ∙ ap (λ (l : List Instr). move at change.0 ∷ (difference initial row change.1 ++ l)) (same_later change.0 change.1 changes)
 
     pub same_fde : (m : Member) → canon.fde_instrs test_cfa test_rule initial m ≡ fde_instrs initial m
-    same_fde m =
-        ap (λ (l : List Instr). l ++ form.later_changes test_cfa test_rule initial m.begin m.first m.later) (same_difference initial m.first)
-        ∙ ap (λ (l : List Instr). difference initial initial m.first ++ l) (same_later m.begin m.first m.later)
+    same_fde m = cc (same_difference initial m.first, same_later m.begin m.first m.later)
 
   pub same_cie : (initial : Rules) → canon.cie_instrs test_cfa test_rule initial ≡ cie_instrs initial
   same_cie initial = same_difference blank blank initial

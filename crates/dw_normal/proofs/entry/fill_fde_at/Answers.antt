@@ -1,4 +1,4 @@
-use Rattle.dw_normal.proofs.Words.{◌≡◌, ℕ, ◌+◌, ◌++◌, ◌-◌, ◌<◌, List, get_or, Option, refl, sym, ap, ◌∙◌, subst, IsSome, fixed_bytes, Target, address_limit, fde_instrs}
+use Rattle.dw_normal.proofs.Words.{rules, ◌≡◌, ℕ, ◌+◌, ◌++◌, ◌-◌, ◌<◌, List, get_or, Option, refl, sym, ap, ◌∙◌, subst, IsSome, fixed_bytes, Target, address_limit, fde_instrs}
 use Rattle.dw_normal.proofs.{Words.{initial_of, program_bytes, fde, contents, Member, AreMembers, members_exist, IsReady, fde_with}, Filled.on_ok, Grouped.no_member}
 use Rattle.dw_normal.proofs.{Located.{Located, has_place, place_fits, place_own, begin_fits, begins_below, range_fits}, Placed.below, entry.fill_fde_at.Goals.In_ok-begin_fde}
 use Rattle.dw_normal.proofs.entry.fill_fde_at.Goals as goal
@@ -8,16 +8,7 @@ abbrev LocatedIn : In_ok-begin_fde → List Member → Member → Type 0
 LocatedIn c ms d = Located c.args.table.now.target c.args.table.now.bytes ms c.args.fde.place d c.begin_fde.new.begun c.args.rows.now.entries c.args.places.now.entries
 
 located : (c : In_ok-begin_fde) (ms : List Member) → AreMembers c.args.table.now.target c.args.table.now.bytes ms → (d : Member) → LocatedIn c ms d
-located c ms are d = record {
-  bytes = c.accepted.ensures.bytes;
-  accepted = c.accepted.ensures.accepted;
-  are = are;
-  small = c.requires.small ms are;
-  lt = below c.args.fde.place are c.requires.place;
-  is = c.in_ok-begin_fde.ensures.is ms are d;
-  rows_are = c.requires.rows ms are;
-  kept = c.requires.places;
-}
+located c ms are d = search (rules, below c.args.fde.place are c.requires.place)
 
 -- which it has
 somewhere : (c : In_ok-begin_fde) → (ms : List Member) × LocatedIn c ms no_member

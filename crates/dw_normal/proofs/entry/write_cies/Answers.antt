@@ -1,14 +1,12 @@
-use Rattle.dw_normal.proofs.Words.{◌≡◌, ◌<◌, ◌-◌, ℕ, [], ◌∷◌, Some, sym, subst, rules, ◌^◌, Updates, nat_cmp}
-use Rattle.dw_normal.proofs.{Entries.{cies_start, cie_fits, cie_small, cie_counted, cies_fail, cies_more, cies_stop, cies_end, cies_placed}, Joined.ok_of, entry.write_cies.Given.Over, entry.write_cies.Goals.In-Some}
+use Rattle.dw_normal.proofs.Words.{◌≡◌, ◌<◌, ◌-◌, ℕ, ◌∷◌, Some, sym, subst, rules, ◌^◌, Updates, nat_cmp}
+use Rattle.dw_normal.proofs.{Entries.{cies_start, cie_fits, cie_small, cie_counted, cies_fail, cies_more, cies_stop}, Joined.ok_of, entry.write_cies.Given.Over, entry.write_cies.Goals.In-Some}
 use Rattle.dw_normal.proofs.entry.write_cies.Goals as goal
 
 more : (g : Over) (c : In-Some g) → c.rows.register-iterator ≡ (c.in-Some.register.now, c.in-Some.initial.now) ∷ c.next.new.self
 more g c = search rules
 
 pub rows-init : goal.rows-init
-rows-init g c =
-    let iterator : c.into_iter-register-iterator.result ≡ c.args.rows.now.entries = search rules in
-    cies_start g.S.Sink.failures g.S.Sink.taken c.args.target c.args.sink.now iterator c.requires.rise c.requires.none c.requires.fits
+rows-init g c = search (rules, cies_start)
 
 pub write_cie-requires : goal.write_cie-requires
 write_cie-requires g c =
@@ -36,11 +34,7 @@ returns-in_err-written-clause-puts g c =
     cies_fail c.rows.invariant one c.write_cie.result c.write_cie.new.sink c.write_cie.ensures c.after.ensures c.in_err-written.was c.from_residual.result c.from_residual.ensures.1
 
 pub returns-clause-puts : goal.returns-clause-puts
-returns-clause-puts g c =
-    let none : c.rows.register-iterator ≡ [] = search rules in
-    cies_end c.rows.invariant none
+returns-clause-puts g c = search rules
 
 pub returns-clause-places : goal.returns-clause-places
-returns-clause-places g c =
-    let none : c.rows.register-iterator ≡ [] = search rules in
-    cies_placed c.rows.invariant none
+returns-clause-places g c = search rules

@@ -1,5 +1,5 @@
-use Rattle.dw_normal.proofs.Words.{AllocError, ◌≡◌, ℕ, List, ◌++◌, sym, ap, ◌∙◌, subst, AllByRecursion, append-nil, Rules, difference, InstrFits, program_bytes, row_or_blank, shown_row}
-use Rattle.dw_normal.proofs.{ChangesToCome.{Given, given, none_given}, Passes.{none_later, shown_before, some_before, step_up, step_fits, step_stand, step_written}, program.push_later.Goals.In-Some}
+use Rattle.dw_normal.proofs.Words.{rules, AllocError, ◌≡◌, ℕ, List, ◌++◌, sym, ap, ◌∙◌, subst, AllByRecursion, Rules, difference, InstrFits, program_bytes, row_or_blank, shown_row}
+use Rattle.dw_normal.proofs.{ChangesToCome.{Given, given}, Passes.{shown_before, some_before, step_up, step_fits, step_stand, step_written}, program.push_later.Goals.In-Some}
 use Rattle.dw_normal.proofs.program.push_later.Goals as goal
 
 next : (c : In-Some) → Given c.changes.changes c.advance.new.self c.in-Some.address
@@ -34,6 +34,4 @@ changes-preserved c =
     )
 
 pub returns-clause-appends : goal.returns-clause-appends
-returns-clause-appends c =
-    let none = none_given AllocError c.changes.changes c.advance.new.self c.in_ok-address.field-0 c.in_ok-address.ensures.gives c.in_default.is in
-    sym (append-nil c.changes.out.items) ∙ ap (λ (l : List ℕ). c.changes.out.items ++ l) (sym (none_later c.args.target c.args.shared.now c.changes.at c.changes.changes none)) ∙ c.changes.invariant.1
+returns-clause-appends c = search rules

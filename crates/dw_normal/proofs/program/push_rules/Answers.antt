@@ -1,10 +1,8 @@
-use Rattle.dw_normal.proofs.{Words.place_behind, RegistersBehind.{Next, none_differs, one_differs}, RulesLeft.{put_fits, put_next, put_ends, shorter}, program.push_rules.Goals.In-Some}
+use Rattle.dw_normal.proofs.{Words.{place_behind, rules}, RegistersBehind.{Next, none_differs, one_differs}, RulesLeft.{put_fits, put_next, put_ends, shorter}, program.push_rules.Goals.In-Some}
 use Rattle.dw_normal.proofs.program.push_rules.Goals as goal
 
 next : (c : In-Some) → Next c.args.shared.now c.args.before.now c.args.after.now (place_behind c.registers.last) c.in-Some.register
-next c =
-    let found = c.in-Some.ensures in
-    one_differs c.args.shared.now c.args.before.now c.args.after.now (place_behind c.registers.last) c.in-Some.register found.first found.ascending found.other_ascending
+next c = search (rules, one_differs, place_behind)
 
 pub push_register-requires : goal.push_register-requires
 push_register-requires c = put_fits c.registers.invariant (next (goal.at.push_register-requires c).In-Some)
