@@ -1,13 +1,43 @@
 -- Places of what is written, and how many rows its programs start.
-use Rattle.dw_canon.proofs.Words.{◌≡◌, ℕ, ◌+◌, ◌*◌, ◌%◌, List, [], ◌∷◌, ◌++◌, length, refl, sym, ap, ◌∙◌, append_assoc, arith, inl, inr, AllByRecursion, AllZip, length-append, length-replicate, Dwarf32, Size, Four, Eight, Target}
-use Rattle.dw_canon.proofs.Words.{rules, byte_count, fixed_bytes, length-fixed, Instr, row_starts, Head, head_at, FdeSays, Starts, RowStarts, total, IsAmong, Written, cie, fde, fields_of, program_of, nops_of, contents, entry_bytes}
+use Rattle.dw_canon.proofs.Words.{◌≡◌, ℕ, ◌+◌, ◌*◌, ◌%◌, List, [], ◌∷◌, ◌++◌, length, refl, sym, ap, ◌∙◌, append_assoc, arith, inl, inr, replicate, AllByRecursion, AllZip, length-append, length-replicate, Dwarf32, Size, Four, Eight, Target}
+use Rattle.dw_canon.proofs.Words.{byte_count, fixed_bytes, length-fixed, Instr, row_starts, Head, head_at, FdeSays, Starts, RowStarts, total, IsAmong, Written, cie, fde, fields_of, program_of, nops_of, filled, contents, entry_bytes}
 use Rattle.dw_canon.proofs.Words.{section_bytes, missing, fde_field_bytes, span_of, head_of, heads_at, ranges_at, Fits, Runs, IsSection, nops, row_starts_nops}
 use Rattle.dw_canon.proofs.{Accepts.{begun, instrs_so, written_index}, Lent.Fields.{entry_length, written_headers}}
 
 -- ---- places
 
+filled_up : (size : Size) (n : ℕ) → (n + missing size n) % byte_count size ≡ 0
+filled_up Four n = omega arith
+filled_up Eight n = omega arith
+
 contents_length : (target : Target) (w : Written) → length (contents target w) ≡ length (fields_of target w) + (length (program_of w) + nops_of target w)
-contents_length target w = search (rules, length-append, length-replicate)
+contents_length target w = omega (
+  arith,
+  length-append (fields_of target w) (filled (nops_of target w) (program_of w)),
+  length-append (program_of w) (replicate (nops_of target w) 0),
+  length-replicate {A = ℕ} (nops_of target w) 0,
+)
+
+-- each entry, with its length, is a multiple of the address size
+pub entry_aligned : (target : Target) (w : Written) → length (entry_bytes target w) % byte_count target.size ≡ 0
+entry_aligned target w =
+    let n = 4 + (length (fields_of target w) + length (program_of w)) in
+    let e : length (entry_bytes target w) ≡ n + missing target.size n = omega (arith, entry_length target w, contents_length target w) in
+    ap (λ (m : ℕ). m % byte_count target.size) e ∙ filled_up target.size n
+
+both_aligned : (size : Size) (a b : ℕ) → a % byte_count size ≡ 0 → b % byte_count size ≡ 0 → (a + b) % byte_count size ≡ 0
+both_aligned Four a b h k = omega arith
+both_aligned Eight a b h k = omega arith
+
+place_is : (target : Target) (at : ℕ) (w : Written) → head_at (head_of target at w) ≡ at
+place_is target at (cie register instrs program) = refl
+place_is target at (fde c b n instrs program) = refl
+
+-- so each stands at one
+pub places_aligned : (target : Target) (at : ℕ) (ws : List Written) → at % byte_count target.size ≡ 0 → AllByRecursion (λ (h : Head). head_at h % byte_count target.size ≡ 0) (heads_at target at ws)
+places_aligned target at [] h = tt
+places_aligned target at (w ∷ ws) h =
+    (ap (λ (n : ℕ). n % byte_count target.size) (place_is target at w) ∙ h, places_aligned target (at + length (entry_bytes target w)) ws (both_aligned target.size at (length (entry_bytes target w)) h (entry_aligned target w)))
 
 -- ---- rows that programs start
 
@@ -40,7 +70,15 @@ module _ (target : Target) (ws : List Written) (is : IsSection target ws) where
       )
 
   pub written_starts : RowStarts target (section_bytes target ws) (total (starts_of ws))
-  written_starts = search (rules, written_headers, written_index, each_starts)
+  written_starts = record {
+    headers = heads_at target 0 ws;
+    are = written_headers target ws is.small is.fits;
+    index = ranges_at target 0 ws;
+    is_index = written_index target ws is;
+    counts = starts_of ws;
+    each = each_starts 0 ws is.fits is.runs (λ h i. i);
+    sum = refl;
+  }
 
 -- ---- how long it is
 
