@@ -10,13 +10,7 @@ use crate::header::Initial;
 use crate::listed_fde::{FoundFde, found_fde};
 use crate::table::Table;
 use dw_cfa::{Instr, Instructions};
-use dw_num::{Refusal, Target};
-
-fn starts_row(answer: &Result<Instr<'_>, Refusal>) -> bool
-    ensures { result ≡ starts_row answer.now }
-{
-    matches!(answer, Ok(Instr::SetLoc(_) | Instr::Advance(_)))
-}
+use dw_num::Target;
 
 // One more than the instructions that start a row.
 fn count_starts(instrs: &mut Instructions<'_>) -> u64
@@ -26,7 +20,7 @@ fn count_starts(instrs: &mut Instructions<'_>) -> u64
 {
     let mut starts: u64 = 1;
     'instrs: while let Some(answer) = instrs.next() {
-        if starts_row(&answer) {
+        if matches!(answer, Ok(Instr::SetLoc(_) | Instr::Advance(_))) {
             starts += 1;
         }
     }
