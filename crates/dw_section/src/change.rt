@@ -119,6 +119,7 @@ fn is_kept_at(steps: &RowWalk<'_>, register: u16) -> bool
 
 // Makes a set the registers whose rules are not those of the row that was kept, and says whether that specifies all that the row
 // that is lent specifies.
+#[tactic(auto, using(crate::proofs::BehindCie::all_kept))]
 fn list_differences(steps: &RowWalk<'_>, changed: &mut RegisterSet<'_>) -> Result<bool, AllocError>
     ensures beside { OnOk result (SameBeside changed.new steps.now.kept steps.now.steps.current) }
     ensures only { OnOk result ((r : ℕ) → has changed.new r ≡ true → rule steps.now.kept r ≡ rule steps.now.steps.current r → ⊥) }
@@ -145,6 +146,7 @@ pub struct Behind {
 }
 
 // Goes on to the first change, and lists how it stands to the row of the CIE at a place, where that was kept.
+#[tactic(auto, using(crate::proofs::BehindCie::stands_kept))]
 fn show_behind<'a>(
     steps: &mut RowWalk<'a>,
     changed: &mut RegisterSet<'a>,

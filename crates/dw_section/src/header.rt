@@ -137,6 +137,20 @@ pub(crate) fn read_entry<'a>(
     })
 }
 
+// A CIE as it is told.
+fn cie_header<'a>(form: Form, cie: Initial<'a>) -> Header<'a>
+    ensures { head_in result ≡ initial_in form cie.entry }
+{
+    Header::Cie {
+        at: cie.at,
+        form,
+        code_factor: cie.factors.code_factor,
+        data_factor: cie.factors.data_factor,
+        return_register: cie.return_register,
+        program: cie.program,
+    }
+}
+
 // The header of an entry whose fields hold if it is a CIE.
 #[tactic(auto, using(crate::proofs::Lent::HeaderLaws::fde_faulty))]
 #[inline(always)]
@@ -153,14 +167,7 @@ fn header_of<'a>(
 {
     match piece.kind {
         Kind::Cie => match read_initial(piece, target) {
-            Ok(cie) => Ok(Header::Cie {
-                at: cie.at,
-                form: piece.form,
-                code_factor: cie.factors.code_factor,
-                data_factor: cie.factors.data_factor,
-                return_register: cie.return_register,
-                program: cie.program,
-            }),
+            Ok(cie) => Ok(cie_header(piece.form, cie)),
             Err(refusal) => Err(refusal),
         },
         Kind::Fde => match read_entry(piece, places, found, target) {

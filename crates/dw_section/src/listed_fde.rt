@@ -39,10 +39,9 @@ pub(crate) fn go_to_rows<'a>(steps: &mut RowWalk<'a>, fde: &FoundFde<'a>, target
     ensures no_fault { steps.new.steps.outcome.fault ≡ None }
     ensures led { steps.new.led ≡ led_to target fde.now }
 {
-    let (cie, program) = (fde.cie_program, fde.program);
-    are_bytes(cie.bytes);
-    are_bytes(program.bytes);
-    steps.go_to(cie, program, fde.begin, fde.factors, target);
+    are_bytes(fde.cie_program.bytes);
+    are_bytes(fde.program.bytes);
+    steps.go_to(fde.cie_program, fde.program, fde.begin, fde.factors, target);
 }
 
 /// Goes to the rows of an FDE of a section, where the walk was led to the CIE at a place of it, if to any. No bytes are

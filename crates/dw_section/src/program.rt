@@ -12,7 +12,7 @@ ghost use Rattle.dw_section.specs.Inner.{Initials.{IsInitial, IsBehind, IsLong, 
 
 use crate::header::{FdeEntry, Initial};
 use dw_cfa::{CieMachine, Row, behind_laws};
-use dw_num::{ReadError, Target, are_bytes};
+use dw_num::{Program, ReadError, Target, are_bytes};
 use std::alloc::{AllocError, Global};
 
 // A CIE program of more bytes is run once, on a machine that is kept for it; others are run again.
@@ -89,17 +89,22 @@ pub(crate) fn initial_at<'c, 'a>(
 }
 
 // Runs an FDE's program, and says whether one of its addresses has no rule for the CFA.
-fn run_fde<'a>(machine: &mut CieMachine<'a>, fde: &FdeEntry<'a>) -> Result<bool, ReadError>
-    requires { fde.now.begin < address_limit machine.old.target.size }
-    ensures found { IfOk result (λ lacks. (instrs : List Instr) × (rows : List LocatedRow) × RulesBehind machine.old.factors machine.old.initial (input_of machine.old.target (span_of fde.now.program)) fde.now.begin instrs rows × MatchBool lacks (Lacks (fde.now.begin + fde.now.range) rows) (Lacks (fde.now.begin + fde.now.range) rows → ⊥)) }
-    ensures stuck { IfErr result (Refuses (FdeFault machine.old.factors machine.old.initial.cfa (input_of machine.old.target (span_of fde.now.program)) fde.now.begin)) }
+fn run_fde<'a>(
+    machine: &mut CieMachine<'a>,
+    program: Program<'a>,
+    begin: u64,
+    range: u64,
+) -> Result<bool, ReadError>
+    requires { begin < address_limit machine.old.target.size }
+    ensures found { IfOk result (λ lacks. (instrs : List Instr) × (rows : List LocatedRow) × RulesBehind machine.old.factors machine.old.initial (input_of machine.old.target (span_of program.entry)) begin instrs rows × MatchBool lacks (Lacks (begin + range) rows) (Lacks (begin + range) rows → ⊥)) }
+    ensures stuck { IfErr result (Refuses (FdeFault machine.old.factors machine.old.initial.cfa (input_of machine.old.target (span_of program.entry)) begin)) }
     ensures same { machine.new ≡ with_steps machine.old machine.new.steps }
 {
-    are_bytes(fde.program.bytes);
+    are_bytes(program.bytes);
     behind_laws();
     let _ = machine.initial().specified();
-    machine.begin(fde.program, fde.begin)?;
-    let lacks = machine.lacks_rule(u128::from(fde.begin) + u128::from(fde.range))?;
+    machine.begin(program, begin)?;
+    let lacks = machine.lacks_rule(u128::from(begin) + u128::from(range))?;
     Ok(lacks)
 }
 
@@ -225,7 +230,7 @@ fn run_long<'a>(
     ensures each { (hs : List Head) → AllByRecursion (IsLong target hs) long.old.items → AllByRecursion (IsLong target hs) long.new.items }
 {
     let kept = &mut long[index];
-    run_fde(&mut kept.machine, fde)
+    run_fde(&mut kept.machine, fde.program, fde.begin, fde.range)
 }
 
 /// Runs an FDE's program behind the program of the CIE at a place, and says whether one of its addresses has no rule for
@@ -247,5 +252,5 @@ pub(crate) fn run_behind<'a>(
         return run_long(&mut runner.long, index, fde, target);
     }
     follow(runner, initials, fde.cie_at, target)?;
-    run_fde(&mut runner.machine, fde)
+    run_fde(&mut runner.machine, fde.program, fde.begin, fde.range)
 }

@@ -3,7 +3,7 @@
 ghost use Rattle.std.specs.{Prelude.{◌≡◌, ◌+◌, ◌≤◌, ℕ, List, length, map}, List.{AllByRecursion, AllZip}};
 ghost use Rattle.dw_cfa.specs.Listing.{answers};
 ghost use Rattle.dw_section.specs.{Accepted.RulesHold, Headers.Head, Meaning.{RowStarts, Starts, total}, Ranges.{IsRanged, range_in}};
-ghost use Rattle.dw_section.specs.Inner.{Counted.{starts_row, moves_in, IsProgram, StartsOf}, Initials.AreInitials};
+ghost use Rattle.dw_section.specs.Inner.{Counted.{moves_in, IsProgram, StartsOf}, Initials.AreInitials};
 
 use crate::fde_range::Ranged;
 use crate::header::Initial;

@@ -5,8 +5,8 @@ ghost use Rattle.dw_num.specs.{Input.AreBytes, Refusals.Refuses, declared.error.
 ghost use Rattle.dw_num.specs.declared.{refusal.Refusal.{Refusal as TheRefusal}, target.Target.{Target as TheTarget}};
 ghost use Rattle.dw_num.specs.declared.error.ReadError.TheVariants as TheError;
 ghost use Rattle.dw_op.specs.Faults.{IsWithin};
-ghost use Rattle.dw_section.specs.{Accepted.{RulesFault, CheckFault, Accepted}, Counts.AreCounts, Cut.Piece, Laws.SomeCheck, Meaning.AreFdes};
-ghost use Rattle.dw_section.specs.{Pieces.Pieces, Ranges.IsTable, declared.lookup.Fde.{Fde as TheFde}, Inner.Table.{AreRanges, IsKept}};
+ghost use Rattle.dw_section.specs.{Accepted.{CheckFault, Accepted}, Counts.AreCounts, Cut.Piece, Laws.SomeCheck, Meaning.AreFdes};
+ghost use Rattle.dw_section.specs.{Pieces.Pieces, Ranges.IsTable, declared.lookup.Fde.{Fde as TheFde}};
 
 use crate::entry::EntryCounts;
 use crate::fde_range::{Ranged, first_overlap, put_in_order, run_fdes};

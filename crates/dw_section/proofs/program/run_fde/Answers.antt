@@ -4,17 +4,17 @@ use Rattle.dw_section.proofs.program.run_fde.Goals as goal
 pub returns-in_err-lacks-clause-stuck : goal.returns-in_err-lacks-clause-stuck
 returns-in_err-lacks-clause-stuck c =
     let old = c.args.machine.now in
-    let i = input_of old.target (span_of c.args.fde.now.program) in
+    let i = input_of old.target (span_of c.args.program) in
     let up = subst (λ (row : Rules). AreSpecified 0 row.registers) c.initial.ensures c.specified.ensures.ascending in
-    handed_on c.from_residual-in_err-lacks.result _ c.from_residual-in_err-lacks.ensures.1 (refuses_by c.in_err-lacks.field-0.0 _ (FdeFault old.factors old.initial.cfa i c.args.fde.now.begin)
-    (λ r h. (c.behind_laws.ensures.refused old.factors old.initial i c.args.fde.now.begin c.are_bytes.ensures up (omega (arith, c.requires)) c.begin.new.self.steps.outcome c.in_ok-begin.ensures.runs r).0 h) c.in_err-lacks.ensures.refused)
+    handed_on c.from_residual-in_err-lacks.result _ c.from_residual-in_err-lacks.ensures.1 (refuses_by c.in_err-lacks.field-0.0 _ (FdeFault old.factors old.initial.cfa i c.args.begin)
+    (λ r h. (c.behind_laws.ensures.refused old.factors old.initial i c.args.begin c.are_bytes.ensures up (omega (arith, c.requires)) c.begin.new.self.steps.outcome c.in_ok-begin.ensures.runs r).0 h) c.in_err-lacks.ensures.refused)
 
 pub returns-clause-found : goal.returns-clause-found
 returns-clause-found c =
     let old = c.args.machine.now in
-    let i = input_of old.target (span_of c.args.fde.now.program) in
+    let i = input_of old.target (span_of c.args.program) in
     let found = c.in_ok-lacks.ensures.found in
     let rows = c.begin.new.self.steps.outcome.rows in
     let up = subst (λ (row : Rules). AreSpecified 0 row.registers) c.initial.ensures c.specified.ensures.ascending in
-    let given = rules_behind old.factors old.initial i c.args.fde.now.begin c.begin.new.self.steps.outcome c.are_bytes.ensures up (omega (arith, c.requires)) c.in_ok-begin.ensures.runs found.0 in
+    let given = rules_behind old.factors old.initial i c.args.begin c.begin.new.self.steps.outcome c.are_bytes.ensures up (omega (arith, c.requires)) c.in_ok-begin.ensures.runs found.0 in
     (given.0, rows, given.1, rw (c.from.ensures, c.from-2.ensures) at found.1)

@@ -1,4 +1,4 @@
-use Rattle.dw_section.proofs.Words.{◌≡◌, ℕ, List, Option, Some, None, Result, Ok, Err, IfOk, MatchOption, true, sym, subst, ◌∙◌, Rules, NoneCovers, RulesAt, Section, Fde, LooksUp}
+use Rattle.dw_section.proofs.Words.{◌≡◌, ◌∙◌, sym, subst, RulesAt}
 use Rattle.dw_section.proofs.table.Table.row_at.Goals as goal
 
 pub returns-then-not-branch : goal.returns-then-not-branch
