@@ -104,8 +104,7 @@ fn judge<'a>(
 {
     let lacks = run_behind(runner, initials, fde, target)?;
     judged.lacking = or_place(judged.lacking, lacks, fde.at);
-    keep_range(&mut judged.list, fde, initials, found)?;
-    Ok(())
+    Ok(keep_range(&mut judged.list, fde, initials, found)?)
 }
 
 // The same of a piece that may be a CIE, of which nothing is to be found.

@@ -306,6 +306,7 @@ pub(crate) fn cies_of(alloc: Global, bytes: &[u8], target: Target) -> Result<Cie
     })
 }
 
+#[tactic(auto, using(crate::proofs::Counts::few_pieces))]
 fn all_headers(alloc: Global, bytes: &[u8], target: Target) -> Result<Vec<Header<'_>>, ReadError>
     ensures found { IfOk result (λ v. Headers target bytes.now (map head_in v.items)) }
     ensures first { IfErr result (Refuses (HeadersFault target bytes.now)) }

@@ -7,8 +7,8 @@ ghost use Rattle.dw_num.specs.declared.target.{Form.{Form as TheForm}, Target.{T
 ghost use Rattle.dw_cfa.specs.{CieMachine.with_steps, Coverage.Lacks, Faults.FdeFault, RulesBehind.RulesBehind};
 ghost use Rattle.dw_cfa.specs.declared.{execution.LocatedRow.LocatedRow, instr.Instr.Instr};
 ghost use Rattle.dw_section.specs.{Among.IsAmong, Fields.is_among, Headers.Head, Programs.{CieRuns, CieBroken, FdeRuns, FdeBroken}, Stage.FirstStuck};
-ghost use Rattle.dw_section.specs.{declared.header.Initial.{Initial as TheInitial}, declared.program.Long.{Long as TheLong}, Inner.Initials.{place_of, AreOf}};
-ghost use Rattle.dw_section.specs.Inner.{Initials.{IsInitial, IsBehind, IsLong, IsRunner, AreInitials, HasOrLacks}, PieceHeader.{entry_in, initial_in}, Places.Rises};
+ghost use Rattle.dw_section.specs.{declared.{header.Initial.{Initial as TheInitial}, program.Long.{Long as TheLong}}, Inner.Initials.{place_of, AreOf, IsLong}};
+ghost use Rattle.dw_section.specs.Inner.{Initials.{IsInitial, IsBehind, IsRunner, AreInitials, HasOrLacks}, PieceHeader.{entry_in, initial_in}, Places.Rises};
 
 use crate::header::{FdeEntry, Initial};
 use dw_cfa::{CieMachine, Row, behind_laws};

@@ -16,9 +16,6 @@ go_on-requires-clause-known c =
     let e = c.args.fde.now in
     subst (λ (l : Led). (rows : List LocatedRow) × Gives l.factors l.program (program_input e.program l.program.target) e.begin rows) (sym (same (goal.at.go_on-requires-clause-known c).Then-cie_at-fde)) c.requires.known
 
-pub go_on-requires-clause-begin : goal.go_on-requires-clause-begin
-go_on-requires-clause-begin c = rw (same (goal.at.go_on-requires-clause-begin c).Then-cie_at-fde) c.requires.in_space
-
 pub returns-in-Some-clause-steps : goal.returns-in-Some-clause-steps
 returns-in-Some-clause-steps c = λ rows give.
     let e = c.args.fde.now in let o = c.go_on.new.self.steps.outcome in
