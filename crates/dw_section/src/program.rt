@@ -104,8 +104,7 @@ fn run_fde<'a>(
     behind_laws();
     let _ = machine.initial().specified();
     machine.begin(program, begin)?;
-    let lacks = machine.lacks_rule(u128::from(begin) + u128::from(range))?;
-    Ok(lacks)
+    Ok(machine.lacks_rule(u128::from(begin) + u128::from(range))?)
 }
 
 // A machine behind a CIE's program, which ran before.
