@@ -46,7 +46,6 @@ fn row_behind(cie_at: u64, first: FirstRow) -> Option<CieRow>
 
 impl<'a> Table<'a> {
     /// How many bytes the programs of an FDE of the list of `fdes` have: its own, and that of its CIE.
-    #[tactic(auto, using(crate::proofs::Extents::found_lengths))]
     pub fn program_lengths(&self, fde: FdeRef) -> (usize, usize)
         requires { (fs : List TheFde) → AreFdes self.now.target self.now.bytes fs → fde.place < length fs }
         ensures { (fs : List TheFde) → AreFdes self.now.target self.now.bytes fs → (d : TheFde) → HasLengths self.now.target self.now.bytes (slice_index_or fs fde.place d) result.0 result.1 }

@@ -247,9 +247,10 @@ pub(crate) fn run_behind<'a>(
     ensures found { (hs : List Head) (form : TheForm) → AllByRecursion (IsInitial target hs) initials.now → IsRunner target hs runner.old → IfOk result (λ lacks. FdeRuns target hs (entry_in form fde.now) × HasOrLacks target hs (entry_in form fde.now) lacks × IsRunner target hs runner.new) }
     ensures stuck { (hs : List Head) (form : TheForm) → AllByRecursion (IsInitial target hs) initials.now → IsRunner target hs runner.old → IfErr result (Refuses (FdeBroken target hs (entry_in form fde.now))) }
 {
-    if let Some(index) = long_at(&runner.long, fde.cie_at) {
+    let (place, program, begin, range) = (fde.cie_at, fde.program, fde.begin, fde.range);
+    if let Some(index) = long_at(&runner.long, place) {
         return run_long(&mut runner.long, index, fde, target);
     }
-    follow(runner, initials, fde.cie_at, target)?;
-    run_fde(&mut runner.machine, fde.program, fde.begin, fde.range)
+    follow(runner, initials, place, target)?;
+    run_fde(&mut runner.machine, program, begin, range)
 }
