@@ -119,10 +119,8 @@ fn is_kept_at(steps: &RowWalk<'_>, register: u16) -> bool
 
 // Makes a set the registers whose rules are not those of the row that was kept, and says whether that specifies all that the row
 // that is lent specifies.
-fn list_differences<'a>(
-    steps: &RowWalk<'a>,
-    changed: &mut RegisterSet<'a>,
-) -> Result<bool, AllocError>
+#[tactic(auto, using(crate::proofs::BehindCie::all_kept))]
+fn list_differences(steps: &RowWalk<'_>, changed: &mut RegisterSet<'_>) -> Result<bool, AllocError>
     ensures beside { OnOk result (SameBeside changed.new steps.now.kept steps.now.steps.current) }
     ensures only { OnOk result ((r : ℕ) → has changed.new r ≡ true → rule steps.now.kept r ≡ rule steps.now.steps.current r → ⊥) }
     ensures keeps { IfOk result (λ keeps. keeps ≡ true → kept steps.now.steps.current steps.now.kept ≡ steps.now.steps.current) }
@@ -148,6 +146,7 @@ pub struct Behind {
 }
 
 // Goes on to the first change, and lists how it stands to the row of the CIE at a place, where that was kept.
+#[tactic(auto, using(crate::proofs::BehindCie::stands_kept))]
 fn show_behind<'a>(
     steps: &mut RowWalk<'a>,
     changed: &mut RegisterSet<'a>,
@@ -349,17 +348,6 @@ impl<'a> Changes<'a> {
         None
     }
 
-    // The row that is shown once more.
-    fn copied_row(&self) -> Result<Row<'a>, AllocError>
-        requires { (shows : Rules) × (self.now.shown ≡ Some shows) }
-        ensures { (shows : Rules) → self.now.shown ≡ Some shows → IfOk result (λ row. row ≡ shows) }
-    {
-        match self.row() {
-            Some(row) => row.copied(),
-            None => unreachable!(),
-        }
-    }
-
     /// The next change with its row (6.4.1), or none behind the last one. Want of memory is answered from then on.
     pub fn next(&mut self) -> Result<Option<(u128, Row<'a>)>, AllocError>
         ensures gives { GivesChange self.old result self.new }
@@ -370,7 +358,10 @@ impl<'a> Changes<'a> {
         let Some(address) = self.advance()? else {
             return Ok(None);
         };
-        match self.copied_row() {
+        let Some(row) = self.row() else {
+            unreachable!();
+        };
+        match row.copied() {
             Ok(row) => Ok(Some((address, row))),
             Err(error) => {
                 self.failed = true;

@@ -102,18 +102,9 @@ fn judge<'a>(
     ensures stuck { (hs : List Head) (form : TheForm) → AllByRecursion (IsInitial target hs) initials.now → IsRunner target hs runner.old → IfErr result (Refuses (FdeBroken target hs (entry_in form fde.now))) }
     ensures runner { (hs : List Head) → AllByRecursion (IsInitial target hs) initials.now → IsRunner target hs runner.old → OnOk result (IsRunner target hs runner.new) }
 {
-    let lacks = run_behind(
-        runner,
-        initials,
-        fde.cie_at,
-        fde.program,
-        fde.begin,
-        fde.range,
-        target,
-    )?;
+    let lacks = run_behind(runner, initials, fde, target)?;
     judged.lacking = or_place(judged.lacking, lacks, fde.at);
-    keep_range(&mut judged.list, fde, initials, found)?;
-    Ok(())
+    Ok(keep_range(&mut judged.list, fde, initials, found)?)
 }
 
 // The same of a piece that may be a CIE, of which nothing is to be found.

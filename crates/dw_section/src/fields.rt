@@ -25,13 +25,6 @@ pub(crate) struct FdeFields {
     pub(crate) range: u64,
 }
 
-// Whether there is such a version of a CIE.
-fn is_version(byte: u8) -> bool
-    ensures { result ≡ (byte == 1 || (byte == 3 || byte == 4)) }
-{
-    matches!(byte, 1 | 3 | 4)
-}
-
 #[inline(always)]
 fn want_byte(cursor: &mut Cursor<'_>, wanted: u8, code: Code) -> Result<(), Refusal>
     ensures { (rest : Fields TheCieFields) → Passes result (fields_at (field (fixed 1) (λ n. unless (n == wanted) code) (λ n. rest)) cursor.old) (λ v. fields_at rest cursor.new) }
@@ -51,7 +44,7 @@ fn read_version(cursor: &mut Cursor<'_>) -> Result<u8, Refusal>
 {
     let at = cursor.at();
     let version = cursor.byte()?;
-    if is_version(version) {
+    if matches!(version, 1 | 3 | 4) {
         Ok(version)
     } else {
         Err(Refusal {

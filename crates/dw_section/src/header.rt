@@ -151,20 +151,6 @@ fn cie_header<'a>(form: Form, cie: Initial<'a>) -> Header<'a>
     }
 }
 
-// An FDE as it is told.
-fn fde_header<'a>(form: Form, fde: FdeEntry<'a>) -> Header<'a>
-    ensures { head_in result ≡ entry_in form fde.entry }
-{
-    Header::Fde {
-        at: fde.at,
-        form,
-        cie_at: fde.cie_at,
-        begin: fde.begin,
-        range: fde.range,
-        program: fde.program,
-    }
-}
-
 // The header of an entry whose fields hold if it is a CIE.
 #[tactic(auto, using(crate::proofs::Lent::HeaderLaws::fde_faulty))]
 #[inline(always)]
@@ -185,7 +171,14 @@ fn header_of<'a>(
             Err(refusal) => Err(refusal),
         },
         Kind::Fde => match read_entry(piece, places, found, target) {
-            Ok(fde) => Ok(fde_header(piece.form, fde)),
+            Ok(fde) => Ok(Header::Fde {
+                at: fde.at,
+                form: piece.form,
+                cie_at: fde.cie_at,
+                begin: fde.begin,
+                range: fde.range,
+                program: fde.program,
+            }),
             Err(refusal) => Err(refusal),
         },
     }
@@ -295,11 +288,7 @@ fn read_headers<'a>(
 }
 
 /// Cuts a section, and reads the fields of its CIEs.
-pub(crate) fn cies_of<'a>(
-    alloc: Global,
-    bytes: &'a [u8],
-    target: Target,
-) -> Result<Cies<'a>, ReadError>
+pub(crate) fn cies_of(alloc: Global, bytes: &[u8], target: Target) -> Result<Cies<'_>, ReadError>
     ensures found { IfOk result (λ c. (ps : List Piece) × Pieces target bytes.now ps × AreCies target ps c.places.items c.initials.items) }
     ensures counts { IfOk result (λ c. (ps : List Piece) → Pieces target bytes.now ps → AreCounts ps c.counts) }
     ensures ascending { IfOk result (λ c. Rises 0 c.places.items) }
@@ -317,11 +306,8 @@ pub(crate) fn cies_of<'a>(
     })
 }
 
-fn all_headers<'a>(
-    alloc: Global,
-    bytes: &'a [u8],
-    target: Target,
-) -> Result<Vec<Header<'a>>, ReadError>
+#[tactic(auto, using(crate::proofs::Counts::few_pieces))]
+fn all_headers(alloc: Global, bytes: &[u8], target: Target) -> Result<Vec<Header<'_>>, ReadError>
     ensures found { IfOk result (λ v. Headers target bytes.now (map head_in v.items)) }
     ensures first { IfErr result (Refuses (HeadersFault target bytes.now)) }
 {

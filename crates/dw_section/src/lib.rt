@@ -17,7 +17,6 @@ mod lookup;
 mod narrow_row;
 mod opening;
 mod program;
-mod program_length;
 mod row_count;
 mod standing_fde;
 mod table;

@@ -39,24 +39,9 @@ pub(crate) fn go_to_rows<'a>(steps: &mut RowWalk<'a>, fde: &FoundFde<'a>, target
     ensures no_fault { steps.new.steps.outcome.fault ≡ None }
     ensures led { steps.new.led ≡ led_to target fde.now }
 {
-    let (cie, program) = (fde.cie_program, fde.program);
-    are_bytes(cie.bytes);
-    are_bytes(program.bytes);
-    steps.go_to(cie, program, fde.begin, fde.factors, target);
-}
-
-/// The same, where the walk was led to the CIE of this FDE before.
-pub(crate) fn go_on_rows<'a>(steps: &mut RowWalk<'a>, fde: &FoundFde<'a>, target: Target)
-    requires in_space { fde.now.begin < address_limit target.size }
-    requires known { (rows : List LocatedRow) × AreRowsOf target fde.now rows }
-    requires led { steps.old.led ≡ led_to target fde.now }
-    ensures steps { (rows : List LocatedRow) → AreRowsOf target fde.now rows → steps.new.steps ≡ stepping steps.old.steps.current (record { rows = rows; fault = None }) }
-    ensures no_fault { steps.new.steps.outcome.fault ≡ None }
-    ensures led { steps.new.led ≡ led_to target fde.now }
-{
     are_bytes(fde.cie_program.bytes);
     are_bytes(fde.program.bytes);
-    steps.go_on(fde.program, fde.begin);
+    steps.go_to(fde.cie_program, fde.program, fde.begin, fde.factors, target);
 }
 
 /// Goes to the rows of an FDE of a section, where the walk was led to the CIE at a place of it, if to any. No bytes are
@@ -75,7 +60,11 @@ pub(crate) fn lead<'a>(
     ensures led { steps.new.led ≡ led_to target fde.now }
 {
     match behind {
-        Some(cie_at) if cie_at == fde.cie_at => go_on_rows(steps, fde, target),
+        Some(cie_at) if cie_at == fde.cie_at => {
+            are_bytes(fde.cie_program.bytes);
+            are_bytes(fde.program.bytes);
+            steps.go_on(fde.program, fde.begin);
+        }
         _ => go_to_rows(steps, fde, target),
     }
 }

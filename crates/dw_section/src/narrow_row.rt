@@ -28,50 +28,12 @@ fn drop_altered<'a>(shared: &mut Row<'a>, changes: &Changes<'a>)
     }
 }
 
-// Drops from a row, which was narrowed by the row that is shown, the registers that one of the changes still to come leaves
-// Unspecified.
-#[tactic(auto, using(crate::proofs::Dropped::next_of, crate::proofs::Dropped::before_is, crate::proofs::Dropped::kept_again))]
-fn drop_further<'a>(shared: &mut Row<'a>, changes: &mut Changes<'a>) -> Result<(), AllocError>
-    requires { NarrowedBy shared.old changes.old.shown }
-    ensures row { OnOk result (shared.new ≡ kept_by shared.old changes.old.to_come) }
-    ensures behind { OnOk result (changes.new ≡ behind_all changes.old) }
-    ensures failed { OnErr result (changes.new.failed ≡ true) }
-    ensures stays { changes.old.failed ≡ true → changes.new.failed ≡ true }
-    ensures section { changes.new.section ≡ changes.old.section }
-{
-    'changes: while let Some(_) = changes.advance()? {
-        drop_altered(shared, changes);
-    }
-    Ok(())
-}
-
-// Drops from a row the registers that one of the changes still to come leaves Unspecified. No change drops one that the
-// CIE's program specifies, so most rows need no walk.
-#[tactic(auto, using(crate::proofs::Dropped::none_dropped, crate::proofs::Dropped::next_of, crate::proofs::Dropped::kept_again))]
-fn keep_all<'a>(shared: &mut Row<'a>, changes: &mut Changes<'a>) -> Result<(), AllocError>
-    ensures row { OnOk result (shared.new ≡ kept_by shared.old changes.old.to_come) }
-    ensures behind { OnOk result ((changes.new ≡ changes.old) ⊎ (changes.new ≡ behind_all changes.old)) }
-    ensures failed { OnErr result (changes.new.failed ≡ true) }
-    ensures stays { changes.old.failed ≡ true → changes.new.failed ≡ true }
-    ensures section { changes.new.section ≡ changes.old.section }
-{
-    if changes.keeps(shared) {
-        return Ok(());
-    }
-    let Some(_) = changes.advance()? else {
-        return Ok(());
-    };
-    let Some(row) = changes.row() else {
-        unreachable!();
-    };
-    shared.keep(row);
-    drop_further(shared, changes)
-}
-
 impl<'a> Changes<'a> {
     /// Goes on behind the last change, and drops from a row the registers that one of the changes still to come leaves
     /// Unspecified. Where the CIE's row shows that none does, it may stay where it is. Behind want of memory, which `advance`
     /// and `next` answer from then on, some of them are dropped.
+    // No change drops a register that the CIE's program specifies, so most rows need no walk.
+    #[tactic(auto, using(crate::proofs::Dropped::none_dropped, crate::proofs::Dropped::next_of, crate::proofs::Dropped::kept_again))]
     pub fn narrow(&mut self, row: &mut Row<'a>) -> Result<(), AllocError>
         ensures row { OnOk result (row.new ≡ kept_by row.old self.old.to_come) }
         ensures behind { OnOk result ((self.new ≡ self.old) ⊎ (self.new ≡ behind_all self.old)) }
@@ -79,11 +41,22 @@ impl<'a> Changes<'a> {
         ensures stays { self.old.failed ≡ true → self.new.failed ≡ true }
         ensures section { self.new.section ≡ self.old.section }
     {
-        keep_all(row, self)
+        if self.keeps(row) {
+            return Ok(());
+        }
+        let Some(_) = self.advance()? else {
+            return Ok(());
+        };
+        let Some(first) = self.row() else {
+            unreachable!();
+        };
+        row.keep(first);
+        self.narrow_further(row)
     }
 
     /// The same of a row that specifies no register that the change which is shown leaves Unspecified, always behind the last
     /// change. It looks at the registers that changes alter, and at no others of the row.
+    #[tactic(auto, using(crate::proofs::Dropped::next_of, crate::proofs::Dropped::before_is, crate::proofs::Dropped::kept_again))]
     pub fn narrow_further(&mut self, row: &mut Row<'a>) -> Result<(), AllocError>
         requires { (shown : Rules) × (self.old.shown ≡ Some shown) × (kept row.old shown ≡ row.old) }
         ensures row { OnOk result (row.new ≡ kept_by row.old self.old.to_come) }
@@ -92,6 +65,9 @@ impl<'a> Changes<'a> {
         ensures stays { self.old.failed ≡ true → self.new.failed ≡ true }
         ensures section { self.new.section ≡ self.old.section }
     {
-        drop_further(row, self)
+        'changes: while let Some(_) = self.advance()? {
+            drop_altered(row, self);
+        }
+        Ok(())
     }
 }

@@ -1,15 +1,12 @@
-//! How an FDE's program begins.
+//! How long the programs of an FDE are, and how its own begins.
 
 ghost use Rattle.std.specs.{Prelude.{◌≡◌, ◌<◌, List, length, slice_index_or, IfSome}, Option.IsSome};
-ghost use Rattle.dw_cfa.specs.{InstrSpells.ProgramSpells, Opening.first_row, declared.instr.Instr.Instr};
 ghost use Rattle.dw_section.specs.{Meaning.{AreFdes, HasLengths}, Opening.OpensBehind, declared.lookup.Fde.{Fde as TheFde}};
 ghost use Rattle.dw_section.specs.{declared.opening.CieRow.{CieRow as TheRow}, Inner.Opening.row_behind};
 
-use crate::listed_fde::FoundFde;
 use crate::lookup::FdeRef;
 use crate::table::Table;
 use dw_cfa::{FirstRow, first_row};
-use dw_num::Target;
 
 /// A row (6.4.1) that FDEs of one CIE begin with: the one that the program of the CIE (`initial_instructions`) leaves, or that
 /// with another offset of the CFA (6.4.2.2).
@@ -47,21 +44,16 @@ fn row_behind(cie_at: u64, first: FirstRow) -> Option<CieRow>
     Some(CieRow { cie_at, cfa_offset })
 }
 
-#[inline(always)]
-fn opening_in(found: FoundFde<'_>, target: Target) -> Opening
-    ensures own { result.own ≡ length found.entry.program.bytes.now }
-    ensures initial { result.initial ≡ length found.entry.cie_program.bytes.now }
-    ensures row { (instrs : List Instr) → ProgramSpells target found.entry.factors instrs found.entry.program.bytes.now → result.row ≡ row_behind found.entry.cie_at (first_row instrs) }
-{
-    let first = first_row(found.program, found.factors, target);
-    Opening {
-        own: found.program.bytes.len(),
-        initial: found.cie_program.bytes.len(),
-        row: row_behind(found.cie_at, first),
-    }
-}
-
 impl<'a> Table<'a> {
+    /// How many bytes the programs of an FDE of the list of `fdes` have: its own, and that of its CIE.
+    pub fn program_lengths(&self, fde: FdeRef) -> (usize, usize)
+        requires { (fs : List TheFde) → AreFdes self.now.target self.now.bytes fs → fde.place < length fs }
+        ensures { (fs : List TheFde) → AreFdes self.now.target self.now.bytes fs → (d : TheFde) → HasLengths self.now.target self.now.bytes (slice_index_or fs fde.place d) result.0 result.1 }
+    {
+        let found = self.found(fde);
+        (found.program.bytes.len(), found.cie_program.bytes.len())
+    }
+
     /// How long the program of an FDE of the list of `fdes` and that of its CIE are, and how its own begins: its fields are read
     /// once. Takes no memory.
     #[inline(always)]
@@ -72,6 +64,12 @@ impl<'a> Table<'a> {
         ensures only { (fs : List TheFde) → AreFdes self.now.target self.now.bytes fs → (d : TheFde) (row : TheRow) → OpensBehind self.now.target self.now.bytes (slice_index_or fs fde.place d) row → IsSome result.row }
     {
         self.accepted();
-        opening_in(self.found(fde), self.target)
+        let found = self.found(fde);
+        let first = first_row(found.program, found.factors, self.target);
+        Opening {
+            own: found.program.bytes.len(),
+            initial: found.cie_program.bytes.len(),
+            row: row_behind(found.cie_at, first),
+        }
     }
 }

@@ -6,11 +6,11 @@ ghost use Rattle.dw_num.specs.{Refusals.Refuses, Span.{span_of, input_of}, Targe
 ghost use Rattle.dw_num.specs.declared.target.{Form.{Form as TheForm}, Target.{Target as TheTarget}};
 ghost use Rattle.dw_cfa.specs.{CieMachine.with_steps, Coverage.Lacks, Faults.FdeFault, RulesBehind.RulesBehind};
 ghost use Rattle.dw_cfa.specs.declared.{execution.LocatedRow.LocatedRow, instr.Instr.Instr};
-ghost use Rattle.dw_section.specs.{Among.IsAmong, Fields.is_among, Headers.{Head, fde}, Programs.{CieRuns, CieBroken, FdeRuns, FdeBroken}, Stage.FirstStuck};
-ghost use Rattle.dw_section.specs.{declared.header.Initial.{Initial as TheInitial}, declared.program.Long.{Long as TheLong}, Inner.Initials.{place_of, AreOf}};
-ghost use Rattle.dw_section.specs.Inner.{Initials.{IsInitial, IsBehind, IsLong, IsRunner, AreInitials, HasOrLacks}, PieceHeader.initial_in, Places.Rises};
+ghost use Rattle.dw_section.specs.{Among.IsAmong, Fields.is_among, Headers.Head, Programs.{CieRuns, CieBroken, FdeRuns, FdeBroken}, Stage.FirstStuck};
+ghost use Rattle.dw_section.specs.{declared.{header.Initial.{Initial as TheInitial}, program.Long.{Long as TheLong}}, Inner.Initials.{place_of, AreOf, IsLong}};
+ghost use Rattle.dw_section.specs.Inner.{Initials.{IsInitial, IsBehind, IsRunner, AreInitials, HasOrLacks}, PieceHeader.{entry_in, initial_in}, Places.Rises};
 
-use crate::header::Initial;
+use crate::header::{FdeEntry, Initial};
 use dw_cfa::{CieMachine, Row, behind_laws};
 use dw_num::{Program, ReadError, Target, are_bytes};
 use std::alloc::{AllocError, Global};
@@ -104,8 +104,7 @@ fn run_fde<'a>(
     behind_laws();
     let _ = machine.initial().specified();
     machine.begin(program, begin)?;
-    let lacks = machine.lacks_rule(u128::from(begin) + u128::from(range))?;
-    Ok(lacks)
+    Ok(machine.lacks_rule(u128::from(begin) + u128::from(range))?)
 }
 
 // A machine behind a CIE's program, which ran before.
@@ -176,28 +175,6 @@ impl<'a> Runner<'a> {
     }
 }
 
-// Runs the program of the CIE at a place, which FDEs of another CIE than the one before need.
-fn go_behind<'a>(
-    runner: &mut Runner<'a>,
-    initials: &[Initial<'a>],
-    place: u64,
-    target: Target,
-) -> Result<(), AllocError>
-    requires ascending { Rises 0 (map place_of initials.now) }
-    requires among { is_among place (map place_of initials.now) ≡ true }
-    ensures { (hs : List Head) → AllByRecursion (IsInitial target hs) initials.now → IsRunner target hs runner.old → OnOk result ((runner.new.behind ≡ Some place) × IsRunner target hs runner.new) }
-{
-    let cie = initial_at(initials, place, 0);
-    are_bytes(cie.program.bytes);
-    match runner.machine.go_to(cie.program, cie.factors, target) {
-        Ok(()) => {
-            runner.behind = Some(place);
-            Ok(())
-        }
-        Err(_) => Err(AllocError),
-    }
-}
-
 // Puts the machine that goes from CIE to CIE behind the program of the one at a place.
 fn follow<'a>(
     runner: &mut Runner<'a>,
@@ -214,7 +191,15 @@ fn follow<'a>(
     {
         return Ok(());
     }
-    go_behind(runner, initials, place, target)
+    let cie = initial_at(initials, place, 0);
+    are_bytes(cie.program.bytes);
+    match runner.machine.go_to(cie.program, cie.factors, target) {
+        Ok(()) => {
+            runner.behind = Some(place);
+            Ok(())
+        }
+        Err(_) => Err(AllocError),
+    }
 }
 
 // Where the machine of the CIE at a place stands, if one is kept for it.
@@ -233,20 +218,18 @@ fn long_at(long: &[Long<'_>], place: u64) -> Option<usize>
 fn run_long<'a>(
     long: &mut Vec<Long<'a>>,
     index: usize,
-    program: Program<'a>,
-    begin: u64,
-    range: u64,
+    fde: &FdeEntry<'a>,
     target: Target,
 ) -> Result<bool, ReadError>
     requires in_list { index < length long.old.items }
-    requires begin { begin < address_limit target.size }
+    requires begin { fde.now.begin < address_limit target.size }
     requires each { (hs : List Head) × AllByRecursion (IsLong target hs) long.old.items }
-    ensures found { (hs : List Head) (at : ℕ) (form : TheForm) (place : ℕ) → ((d : TheLong) → (slice_index_or long.old.items index d).at ≡ place) → AllByRecursion (IsLong target hs) long.old.items → IfOk result (λ lacks. FdeRuns target hs (fde (record { at = at; form = form; cie_at = place; begin = begin; range = range; program = span_of program.entry })) × HasOrLacks target hs (fde (record { at = at; form = form; cie_at = place; begin = begin; range = range; program = span_of program.entry })) lacks) }
-    ensures stuck { (hs : List Head) (at : ℕ) (form : TheForm) (place : ℕ) → ((d : TheLong) → (slice_index_or long.old.items index d).at ≡ place) → AllByRecursion (IsLong target hs) long.old.items → IfErr result (Refuses (FdeBroken target hs (fde (record { at = at; form = form; cie_at = place; begin = begin; range = range; program = span_of program.entry })))) }
+    ensures found { (hs : List Head) (form : TheForm) → ((d : TheLong) → (slice_index_or long.old.items index d).at ≡ fde.now.cie_at) → AllByRecursion (IsLong target hs) long.old.items → IfOk result (λ lacks. FdeRuns target hs (entry_in form fde.now) × HasOrLacks target hs (entry_in form fde.now) lacks) }
+    ensures stuck { (hs : List Head) (form : TheForm) → ((d : TheLong) → (slice_index_or long.old.items index d).at ≡ fde.now.cie_at) → AllByRecursion (IsLong target hs) long.old.items → IfErr result (Refuses (FdeBroken target hs (entry_in form fde.now))) }
     ensures each { (hs : List Head) → AllByRecursion (IsLong target hs) long.old.items → AllByRecursion (IsLong target hs) long.new.items }
 {
     let kept = &mut long[index];
-    run_fde(&mut kept.machine, program, begin, range)
+    run_fde(&mut kept.machine, fde.program, fde.begin, fde.range)
 }
 
 /// Runs an FDE's program behind the program of the CIE at a place, and says whether one of its addresses has no rule for
@@ -254,21 +237,19 @@ fn run_long<'a>(
 pub(crate) fn run_behind<'a>(
     runner: &mut Runner<'a>,
     initials: &[Initial<'a>],
-    place: u64,
-    program: Program<'a>,
-    begin: u64,
-    range: u64,
+    fde: &FdeEntry<'a>,
     target: Target,
 ) -> Result<bool, ReadError>
     requires ascending { Rises 0 (map place_of initials.now) }
-    requires among { is_among place (map place_of initials.now) ≡ true }
-    requires begin { begin < address_limit target.size }
+    requires among { is_among fde.now.cie_at (map place_of initials.now) ≡ true }
+    requires begin { fde.now.begin < address_limit target.size }
     requires each { (hs : List Head) × AllByRecursion (IsInitial target hs) initials.now × IsRunner target hs runner.old }
-    ensures found { (hs : List Head) (at : ℕ) (form : TheForm) → AllByRecursion (IsInitial target hs) initials.now → IsRunner target hs runner.old → IfOk result (λ lacks. FdeRuns target hs (fde (record { at = at; form = form; cie_at = place; begin = begin; range = range; program = span_of program.entry })) × HasOrLacks target hs (fde (record { at = at; form = form; cie_at = place; begin = begin; range = range; program = span_of program.entry })) lacks × IsRunner target hs runner.new) }
-    ensures stuck { (hs : List Head) (at : ℕ) (form : TheForm) → AllByRecursion (IsInitial target hs) initials.now → IsRunner target hs runner.old → IfErr result (Refuses (FdeBroken target hs (fde (record { at = at; form = form; cie_at = place; begin = begin; range = range; program = span_of program.entry })))) }
+    ensures found { (hs : List Head) (form : TheForm) → AllByRecursion (IsInitial target hs) initials.now → IsRunner target hs runner.old → IfOk result (λ lacks. FdeRuns target hs (entry_in form fde.now) × HasOrLacks target hs (entry_in form fde.now) lacks × IsRunner target hs runner.new) }
+    ensures stuck { (hs : List Head) (form : TheForm) → AllByRecursion (IsInitial target hs) initials.now → IsRunner target hs runner.old → IfErr result (Refuses (FdeBroken target hs (entry_in form fde.now))) }
 {
+    let (place, program, begin, range) = (fde.cie_at, fde.program, fde.begin, fde.range);
     if let Some(index) = long_at(&runner.long, place) {
-        return run_long(&mut runner.long, index, program, begin, range, target);
+        return run_long(&mut runner.long, index, fde, target);
     }
     follow(runner, initials, place, target)?;
     run_fde(&mut runner.machine, program, begin, range)

@@ -3,20 +3,14 @@
 ghost use Rattle.std.specs.{Prelude.{◌≡◌, ◌+◌, ◌≤◌, ℕ, List, length, map}, List.{AllByRecursion, AllZip}};
 ghost use Rattle.dw_cfa.specs.Listing.{answers};
 ghost use Rattle.dw_section.specs.{Accepted.RulesHold, Headers.Head, Meaning.{RowStarts, Starts, total}, Ranges.{IsRanged, range_in}};
-ghost use Rattle.dw_section.specs.Inner.{Counted.{starts_row, moves_in, IsProgram, StartsOf}, Initials.AreInitials};
+ghost use Rattle.dw_section.specs.Inner.{Counted.{moves_in, IsProgram, StartsOf}, Initials.AreInitials};
 
 use crate::fde_range::Ranged;
 use crate::header::Initial;
 use crate::listed_fde::{FoundFde, found_fde};
 use crate::table::Table;
 use dw_cfa::{Instr, Instructions};
-use dw_num::{Refusal, Target};
-
-fn starts_row(answer: &Result<Instr<'_>, Refusal>) -> bool
-    ensures { result ≡ starts_row answer.now }
-{
-    matches!(answer, Ok(Instr::SetLoc(_) | Instr::Advance(_)))
-}
+use dw_num::Target;
 
 // One more than the instructions that start a row.
 fn count_starts(instrs: &mut Instructions<'_>) -> u64
@@ -26,7 +20,7 @@ fn count_starts(instrs: &mut Instructions<'_>) -> u64
 {
     let mut starts: u64 = 1;
     'instrs: while let Some(answer) = instrs.next() {
-        if starts_row(&answer) {
+        if matches!(answer, Ok(Instr::SetLoc(_) | Instr::Advance(_))) {
             starts += 1;
         }
     }

@@ -21,17 +21,12 @@ use crate::listed_fde::FoundFde;
 use crate::lookup::Fde;
 use dw_cfa::RowRoom;
 use dw_num::{Code, Cursor, ReadError, Refusal, Target, are_bytes};
-use std::error::Error;
-use std::fmt;
 use std::marker::Model;
+use thiserror::Error;
 
 /// The entry that stands at a place, or none, or what is wrong there.
 #[inline(always)]
-pub(crate) fn piece_at<'a>(
-    bytes: &'a [u8],
-    at: u64,
-    target: Target,
-) -> Result<Option<Placed<'a>>, Refusal>
+pub(crate) fn piece_at(bytes: &[u8], at: u64, target: Target) -> Result<Option<Placed<'_>>, Refusal>
     requires { length bytes.now ≤ 2147483647 }
     ensures found { IfOk result (λ o. IfSome o (λ p. (p.at ≡ at) × StandsIn target.order bytes.now (piece_in p))) }
     ensures within { IfErr result (IsWithin bytes.now) }
@@ -56,11 +51,7 @@ pub(crate) fn piece_at<'a>(
 
 /// The CIE that stands at a place, or none, or what is wrong there.
 #[inline(always)]
-pub(crate) fn cie_at<'a>(
-    bytes: &'a [u8],
-    at: u64,
-    target: Target,
-) -> Result<Option<Placed<'a>>, Refusal>
+pub(crate) fn cie_at(bytes: &[u8], at: u64, target: Target) -> Result<Option<Placed<'_>>, Refusal>
     requires { length bytes.now ≤ 2147483647 }
     ensures found { IfOk result (λ o. IfSome o (λ p. (p.at ≡ at) × (p.kind ≡ kind.Cie) × StandsIn target.order bytes.now (piece_in p))) }
     ensures within { IfErr result (IsWithin bytes.now) }
@@ -147,10 +138,7 @@ fn standing<'a>(bytes: &'a [u8], at: u64, target: Target) -> Result<Option<Found
     };
     match piece.kind {
         Kind::Cie => Ok(None),
-        Kind::Fde => match fde_in(bytes, &piece, target) {
-            Ok(fde) => Ok(Some(fde)),
-            Err(refusal) => Err(refusal),
-        },
+        Kind::Fde => Ok(Some(fde_in(bytes, &piece, target)?)),
     }
 }
 
@@ -162,11 +150,11 @@ fn begun(index: &[Ranged], address: u64) -> usize
     index.partition_point(|fde| fde.begin <= address)
 }
 
-// Whether an entry covers an address.
-fn covers(fde: &Ranged, address: u64) -> bool
-    ensures { MatchBool result (Covers address (fde_in fde.now)) (Covers address (fde_in fde.now) → ⊥) }
+// Whether an address is one of so many from a first one on.
+fn covers(begin: u64, range: u64, address: u64) -> bool
+    ensures { MatchBool result ((begin ≤ address) × (address < begin + range)) ((begin ≤ address) × (address < begin + range) → ⊥) }
 {
-    fde.begin <= address && address - fde.begin < fde.range
+    begin <= address && address - begin < range
 }
 
 /// Where the entry of an index stands that covers an address.
@@ -178,11 +166,11 @@ pub(crate) fn place_of(index: &[Ranged], address: u64) -> Option<usize>
     if begun == 0 {
         return None;
     }
-    if covers(&index[begun - 1], address) {
-        Some(begun - 1)
-    } else {
-        None
+    let last = index[begun - 1];
+    if covers(last.begin, last.range, address) {
+        return Some(begun - 1);
     }
+    None
 }
 
 // The entry of an index that covers an address.
@@ -191,35 +179,24 @@ fn entry_at(index: &[Ranged], address: u64) -> Option<Ranged>
     ensures among { IfSome result (λ e. IsEntry e index.now) }
     ensures none { result ≡ None → Uncovered index.now address }
 {
-    match place_of(index, address) {
-        Some(place) => Some(index[place]),
-        None => None,
-    }
+    let place = place_of(index, address)?;
+    Some(index[place])
 }
 
 /// Why a look-up in bytes by an index has no answer.
-#[derive(Clone, Copy, Debug, PartialEq, Eq)]
+#[derive(Clone, Copy, Debug, PartialEq, Eq, Error)]
 pub enum LookUpError {
     /// The index is not the one of these bytes: no FDE that covers the address stands where it says.
+    #[error("the index is not the one of these bytes")]
     BadIndex,
     /// What stands there is refused: a fault of the entry, of its CIE, or of their programs up to the row. Or there are more than
     /// 2,147,483,647 bytes: `SectionTooLarge` at 0.
+    #[error("{0}")]
     Refused(Refusal),
     /// A request for memory was refused.
+    #[error("out of memory")]
     OutOfMemory,
 }
-
-impl fmt::Display for LookUpError {
-    fn fmt<W: fmt::Write>(&self, f: &mut fmt::Formatter<W>) -> fmt::Result {
-        match self {
-            LookUpError::BadIndex => write!(f, "the index is not the one of these bytes"),
-            LookUpError::Refused(refusal) => write!(f, "{refusal}"),
-            LookUpError::OutOfMemory => write!(f, "out of memory"),
-        }
-    }
-}
-
-impl Error for LookUpError {}
 
 impl From<Refusal> for LookUpError {
     ghost from_gives = { λ r e. e ≡ LookUpError.Refused r };
@@ -243,9 +220,9 @@ impl From<ReadError> for LookUpError {
 /// An FDE that was found. A contract sees the FDE.
 #[derive(Drop)]
 pub struct StandingFde {
-    begin: u64,
-    range: u64,
-    return_register: u16,
+    pub(crate) begin: u64,
+    pub(crate) range: u64,
+    pub(crate) return_register: u16,
 }
 
 impl Model for StandingFde {
@@ -270,15 +247,6 @@ pub(crate) fn standing_fde(fde: &FoundFde<'_>) -> StandingFde
 }
 
 impl StandingFde {
-    /// Of no addresses, where none was found.
-    pub(crate) fn none() -> StandingFde {
-        StandingFde {
-            begin: 0,
-            range: 0,
-            return_register: 0,
-        }
-    }
-
     /// Its first address, the one past its last, and the return address register.
     pub fn fde(&self) -> Fde
         ensures { result ≡ self.now }
@@ -296,13 +264,6 @@ impl StandingFde {
     {
         self.range
     }
-}
-
-// Whether an FDE covers an address.
-fn reaches(fde: &FoundFde<'_>, address: u64) -> bool
-    ensures { MatchBool result (Covers address (fde_of fde.now)) (Covers address (fde_of fde.now) → ⊥) }
-{
-    fde.begin <= address && address - fde.begin < fde.range
 }
 
 // Runs the programs of an FDE that stands up to the row of an address.
@@ -348,15 +309,11 @@ fn row_of<'a>(
     let Some(fde) = standing(bytes, at, target)? else {
         return Err(LookUpError::BadIndex);
     };
-    if !reaches(&fde, address) {
+    if !covers(fde.begin, fde.range, address) {
         return Err(LookUpError::BadIndex);
     }
     run_fde(&fde, target, address, room)?;
-    Ok(StandingFde {
-        begin: fde.begin,
-        range: fde.range,
-        return_register: fde.return_register,
-    })
+    Ok(standing_fde(&fde))
 }
 
 /// The FDE that covers an address by an index of a section's nonempty FDEs, ascending by begin, whose rules there `room` lends

@@ -5,8 +5,8 @@ ghost use Rattle.dw_num.specs.{Input.AreBytes, Refusals.Refuses, declared.error.
 ghost use Rattle.dw_num.specs.declared.{refusal.Refusal.{Refusal as TheRefusal}, target.Target.{Target as TheTarget}};
 ghost use Rattle.dw_num.specs.declared.error.ReadError.TheVariants as TheError;
 ghost use Rattle.dw_op.specs.Faults.{IsWithin};
-ghost use Rattle.dw_section.specs.{Accepted.{RulesFault, CheckFault, Accepted}, Counts.AreCounts, Cut.Piece, Laws.SomeCheck, Meaning.AreFdes};
-ghost use Rattle.dw_section.specs.{Pieces.Pieces, Ranges.IsTable, declared.lookup.Fde.{Fde as TheFde}, Inner.Table.{AreRanges, IsKept}};
+ghost use Rattle.dw_section.specs.{Accepted.{CheckFault, Accepted}, Counts.AreCounts, Cut.Piece, Laws.SomeCheck, Meaning.AreFdes};
+ghost use Rattle.dw_section.specs.{Pieces.Pieces, Ranges.IsTable, declared.lookup.Fde.{Fde as TheFde}};
 
 use crate::entry::EntryCounts;
 use crate::fde_range::{Ranged, first_overlap, put_in_order, run_fdes};
@@ -83,18 +83,9 @@ fn refused(code: Code, at: u64) -> ReadError
     ReadError::Refused(Refusal { code, at })
 }
 
-// What is kept of a section.
-#[derive(Drop)]
-struct Sound<'a> {
-    counts: EntryCounts,
-    initials: Vec<Initial<'a>>,
-    list: Vec<Ranged>,
-}
-
-// The CIEs, and the nonempty FDEs in order of place, where all programs run and give the CFA a rule at each address.
-fn judged<'a>(alloc: Global, bytes: &'a [u8], target: Target) -> Result<Sound<'a>, ReadError>
-    ensures found { IfOk result (λ j. AreRanges target bytes.now j.list.items × IsKept target bytes.now j.counts j.initials.items) }
-    ensures first { IfErr result (Refuses (RulesFault target bytes.now)) }
+fn checked<'a>(alloc: Global, bytes: &'a [u8], target: Target) -> Result<Table<'a>, ReadError>
+    ensures found { IfOk result (λ table. (table ≡ record { target = target; bytes = bytes.now }) × Accepted target bytes.now) }
+    ensures first { IfErr result (Refuses (CheckFault target bytes.now)) }
 {
     let cies = cies_of(alloc, bytes, target)?;
     if let Err(broken) = run_cies(alloc, &cies.initials, target) {
@@ -102,21 +93,9 @@ fn judged<'a>(alloc: Global, bytes: &'a [u8], target: Target) -> Result<Sound<'a
         return Err(or_fields_fault(&mut cursor, target, &cies.places, broken));
     }
     let judged = run_fdes(alloc, bytes, target, &cies)?;
-    match judged.lacking {
-        Some(at) => Err(refused(Code::NoCfaRule, at)),
-        None => Ok(Sound {
-            counts: cies.counts,
-            initials: cies.initials,
-            list: judged.list,
-        }),
+    if let Some(at) = judged.lacking {
+        return Err(refused(Code::NoCfaRule, at));
     }
-}
-
-fn checked<'a>(alloc: Global, bytes: &'a [u8], target: Target) -> Result<Table<'a>, ReadError>
-    ensures found { IfOk result (λ table. (table ≡ record { target = target; bytes = bytes.now }) × Accepted target bytes.now) }
-    ensures first { IfErr result (Refuses (CheckFault target bytes.now)) }
-{
-    let judged = judged(alloc, bytes, target)?;
     let mut index = judged.list;
     put_in_order(&mut index)?;
     match first_overlap(&index) {
@@ -124,8 +103,8 @@ fn checked<'a>(alloc: Global, bytes: &'a [u8], target: Target) -> Result<Table<'
         None => Ok(Table {
             bytes,
             target,
-            counts: judged.counts,
-            initials: judged.initials,
+            counts: cies.counts,
+            initials: cies.initials,
             index,
         }),
     }

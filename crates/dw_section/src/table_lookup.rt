@@ -53,7 +53,11 @@ impl<'t, 'a> Lookups<'t, 'a> {
         Lookups {
             table,
             steps: RowWalk::new(alloc, table.target()),
-            fde: StandingFde::none(),
+            fde: StandingFde {
+                begin: 0,
+                range: 0,
+                return_register: 0,
+            },
             found: false,
         }
     }
@@ -96,15 +100,5 @@ impl<'t, 'a> Lookups<'t, 'a> {
             return Some(self.steps.row());
         }
         None
-    }
-
-    // The same row once more.
-    pub(crate) fn copied(&self) -> Result<Option<Row<'a>>, AllocError>
-        ensures { IfOk result (λ row. MatchOption row (self.now.row ≡ None) (λ row. self.now.row ≡ Some row)) }
-    {
-        match self.row() {
-            Some(row) => Ok(Some(row.copied()?)),
-            None => Ok(None),
-        }
     }
 }

@@ -2,15 +2,15 @@ use Rattle.dw_section.proofs.{Words.{Dwarf32, entry_in}, Stages.handed_on, Table
 use Rattle.dw_section.proofs.fde_range.judge.Goals as goal
 
 pub returns-in_err-lacks-clause-stuck : goal.returns-in_err-lacks-clause-stuck
-returns-in_err-lacks-clause-stuck c = λ hs form all runner. handed_on c.from_residual.result _ c.from_residual.ensures.1 (c.in_err-lacks.ensures.stuck hs c.args.fde.now.at form all runner)
+returns-in_err-lacks-clause-stuck c = λ hs form all runner. handed_on c.from_residual.result _ c.from_residual.ensures.1 (c.in_err-lacks.ensures.stuck hs form all runner)
 
 pub returns-clause-found : goal.returns-clause-found
 returns-clause-found c = λ hs front form all runner among w.
     let e = c.args.fde.now in
-    let ran = c.in_ok-lacks.ensures.found hs e.at form all runner in
+    let ran = c.in_ok-lacks.ensures.found hs form all runner in
     let kept = c.in_ok-keep_range.ensures in
     rw c.or_place-judged.ensures
     (judged_more c.args.target hs front (entry_in form e) c.args.judged.now.lacking c.in_ok-lacks.lacks c.args.judged.now.list.items c.keep_range.new.list.items w ran.0 ran.1 (kept.found form) (kept.each c.args.target hs form all among w.each))
 
 pub returns-clause-runner : goal.returns-clause-runner
-returns-clause-runner c = λ hs all runner. (c.in_ok-lacks.ensures.found hs c.args.fde.now.at Dwarf32 all runner).2
+returns-clause-runner c = λ hs all runner. (c.in_ok-lacks.ensures.found hs Dwarf32 all runner).2

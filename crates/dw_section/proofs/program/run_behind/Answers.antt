@@ -2,29 +2,31 @@ use Rattle.dw_section.proofs.{Words.{Option, ℕ, sym, subst, IfOk-weaker, IfErr
 use Rattle.dw_section.proofs.program.run_behind.Goals as goal
 
 pub returns-in-Some-clause-found : goal.returns-in-Some-clause-found
-returns-in-Some-clause-found c = λ hs at form all runner.
+returns-in-Some-clause-found c = λ hs form all runner.
     let kept = rw c.deref.ensures.value at c.in-Some.ensures in
-    IfOk-weaker c.run_long.result _ _ (λ lacks ran. (ran.0, ran.1, (runner.0, c.run_long.ensures.each hs runner.1))) (c.run_long.ensures.found hs at form c.args.place kept.1 runner.1)
+    IfOk-weaker c.run_long.result _ _ (λ lacks ran. (ran.0, ran.1, (runner.0, c.run_long.ensures.each hs runner.1))) (c.run_long.ensures.found hs form kept.1 runner.1)
 
 pub returns-in-Some-clause-stuck : goal.returns-in-Some-clause-stuck
-returns-in-Some-clause-stuck c = λ hs at form all runner.
+returns-in-Some-clause-stuck c = λ hs form all runner.
     let kept = rw c.deref.ensures.value at c.in-Some.ensures in
-    c.run_long.ensures.stuck hs at form c.args.place kept.1 runner.1
+    c.run_long.ensures.stuck hs form kept.1 runner.1
 
 pub returns-clause-found : goal.returns-clause-found
-returns-clause-found c = λ hs at form all runner.
+returns-clause-found c = λ hs form all runner.
     let a = c.args in
+    let e = a.fde.now in
     let m = c.follow.new.runner.machine in
     let n = c.run_fde.new.machine in
     let follows = c.in_ok-follow.ensures hs all runner in
     let here = subst (λ (b : Option ℕ). IsBehind a.target hs b m) follows.0 follows.1.0 in
-    let stays = subst (λ (b : Option ℕ). IsBehind a.target hs b n) (sym follows.0) (behind_stays a.target hs a.place m n c.run_fde.ensures.same here) in
-    IfOk-weaker c.run_fde.result _ _ (λ lacks ran. let y = behind_found a.target hs m (record { at = at; form = form; cie_at = a.place; begin = a.begin; range = a.range; program = span_of a.program }) here lacks ran in (y.0, y.1, (stays, follows.1.1))) c.run_fde.ensures.found
+    let stays = subst (λ (b : Option ℕ). IsBehind a.target hs b n) (sym follows.0) (behind_stays a.target hs a.fde.now.cie_at m n c.run_fde.ensures.same here) in
+    IfOk-weaker c.run_fde.result _ _ (λ lacks ran. let y = behind_found a.target hs m (record { at = e.at; form = form; cie_at = e.cie_at; begin = e.begin; range = e.range; program = span_of e.program }) here lacks ran in (y.0, y.1, (stays, follows.1.1))) c.run_fde.ensures.found
 
 pub returns-clause-stuck : goal.returns-clause-stuck
-returns-clause-stuck c = λ hs at form all runner.
+returns-clause-stuck c = λ hs form all runner.
     let a = c.args in
+    let e = a.fde.now in
     let m = c.follow.new.runner.machine in
     let follows = c.in_ok-follow.ensures hs all runner in
     let here = subst (λ (b : Option ℕ). IsBehind a.target hs b m) follows.0 follows.1.0 in
-    IfErr-weaker c.run_fde.result _ _ (λ e y. refuses_by e _ _ (λ r h. behind_broken a.target hs m (record { at = at; form = form; cie_at = a.place; begin = a.begin; range = a.range; program = span_of a.program }) here r h) y) c.run_fde.ensures.stuck
+    IfErr-weaker c.run_fde.result _ _ (λ error y. refuses_by error _ _ (λ r h. behind_broken a.target hs m (record { at = e.at; form = form; cie_at = e.cie_at; begin = e.begin; range = e.range; program = span_of e.program }) here r h) y) c.run_fde.ensures.stuck

@@ -8,18 +8,20 @@ behind : (target : Target) (hs : List Head) (long : List Long) (i : ℕ) (x : Lo
 behind target hs long i x place is lt found all = subst (λ (n : ℕ). IsBehind target hs (Some n) x.machine) (ap (λ (l : Long). l.at) is ∙ found x) (all_at (IsLong target hs) long i x is lt all)
 
 pub returns-clause-found : goal.returns-clause-found
-returns-clause-found c = λ hs at form place found all.
+returns-clause-found c = λ hs form found all.
     let a = c.args in
+    let e = a.fde.now in
     let x = c.index_mut-kept.result.now in
-    let here = behind a.target hs a.long.now.items a.index x place c.index_mut-kept.ensures.value c.requires.in_list found all in
-    IfOk-weaker c.run_fde.result _ _ (λ lacks y. behind_found a.target hs x.machine (record { at = at; form = form; cie_at = place; begin = a.begin; range = a.range; program = span_of a.program }) here lacks y) c.run_fde.ensures.found
+    let here = behind a.target hs a.long.now.items a.index x a.fde.now.cie_at c.index_mut-kept.ensures.value c.requires.in_list found all in
+    IfOk-weaker c.run_fde.result _ _ (λ lacks y. behind_found a.target hs x.machine (record { at = e.at; form = form; cie_at = e.cie_at; begin = e.begin; range = e.range; program = span_of e.program }) here lacks y) c.run_fde.ensures.found
 
 pub returns-clause-stuck : goal.returns-clause-stuck
-returns-clause-stuck c = λ hs at form place found all.
+returns-clause-stuck c = λ hs form found all.
     let a = c.args in
+    let e = a.fde.now in
     let x = c.index_mut-kept.result.now in
-    let here = behind a.target hs a.long.now.items a.index x place c.index_mut-kept.ensures.value c.requires.in_list found all in
-    IfErr-weaker c.run_fde.result _ _ (λ e y. refuses_by e _ _ (λ r h. behind_broken a.target hs x.machine (record { at = at; form = form; cie_at = place; begin = a.begin; range = a.range; program = span_of a.program }) here r h) y) c.run_fde.ensures.stuck
+    let here = behind a.target hs a.long.now.items a.index x a.fde.now.cie_at c.index_mut-kept.ensures.value c.requires.in_list found all in
+    IfErr-weaker c.run_fde.result _ _ (λ error y. refuses_by error _ _ (λ r h. behind_broken a.target hs x.machine (record { at = e.at; form = form; cie_at = e.cie_at; begin = e.begin; range = e.range; program = span_of e.program }) here r h) y) c.run_fde.ensures.stuck
 
 pub returns-clause-each : goal.returns-clause-each
 returns-clause-each c = λ hs all.

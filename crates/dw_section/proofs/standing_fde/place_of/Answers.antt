@@ -4,8 +4,8 @@ use Rattle.dw_section.proofs.standing_fde.place_of.Goals as goal
 pub returns-then-begun-eq0-clause-none : goal.returns-then-begun-eq0-clause-none
 returns-then-begun-eq0-clause-none c = λ is up apart. none_above c.args.address c.args.index.now (λ k d lt. (c.begun-begun.ensures.divides up).1 k d (omega (arith, c.if-begun-eq0.true)) lt)
 
-pub returns-else-covers-clause-none : goal.returns-else-covers-clause-none
-returns-else-covers-clause-none c = λ is up apart.
+pub returns-clause-none : goal.returns-clause-none
+returns-clause-none c = λ is up apart.
     let xs = c.args.index.now in
     let i = c.begun-begun.result - 1 in
     let some = c.if-begun-eq0.false in

@@ -11,24 +11,24 @@ returns-in_default-clause-own c = λ hs a register hold returns at le lt.
     let some = rw c.in_default.is at (c.in_ok-fde.ensures.only (subst (StandsAt c.args.target c.args.bytes.now) at (stands_listed c.args.target c.args.bytes.now hs a register hold.0.0.0 returns))) in
     absurd cc
 
-pub returns-then-not-reaches-clause-bad : goal.returns-then-not-reaches-clause-bad
-returns-then-not-reaches-clause-bad c = λ is own named stands place le lt.
+pub returns-then-not-covers-clause-bad : goal.returns-then-not-covers-clause-bad
+returns-then-not-covers-clause-bad c = λ is own named stands place le lt.
     let found = rw c.in-Some.is at c.in_ok-fde.ensures.found in
     let e = c.in-Some.fde in
     let one = (one_stands c.args.target c.args.bytes.now own (found_head found.1.0 e) named (found_cie found.1.1 e.cie_at e.return_register e) stands found.1.2 (place ∙ sym found.0)).0 in
     let begins = ap (λ (x : FdeHead). x.begin) one in
-    absurd (c.if-not-reaches.ensures (omega (arith, begins, le), omega (arith, begins, ap (λ (x : FdeHead). x.range) one, lt)))
+    absurd (c.if-not-covers.ensures (omega (arith, begins, le), omega (arith, begins, ap (λ (x : FdeHead). x.range) one, lt)))
 
-pub returns-then-not-reaches-clause-own : goal.returns-then-not-reaches-clause-own
-returns-then-not-reaches-clause-own c = λ hs a register hold returns at le lt.
+pub returns-then-not-covers-clause-own : goal.returns-then-not-covers-clause-own
+returns-then-not-covers-clause-own c = λ hs a register hold returns at le lt.
     let found = rw c.in-Some.is at c.in_ok-fde.ensures.found in
     let same = listed_stands c.args.target c.args.bytes.now hs a register c.in-Some.fde hold.0.0.0 returns found.1 (found.0 ∙ sym at) in
-    absurd (c.if-not-reaches.ensures (omega (arith, same.begin, le), omega (arith, same.begin, same.range, lt)))
+    absurd (c.if-not-covers.ensures (omega (arith, same.begin, le), omega (arith, same.begin, same.range, lt)))
 
 pub run_fde-requires-clause-in_space : goal.run_fde-requires-clause-in_space
 run_fde-requires-clause-in_space c =
     let found = rw c.in-Some.is at c.in_ok-fde.ensures.found in
-    let covers = c.if-not-reaches.ensures in
+    let covers = c.if-not-covers.ensures in
     omega (arith, covers.0, covers.1, stands_in_space c.args.target c.args.bytes.now c.in-Some.fde found.1)
 
 pub returns-in_err-run_fde-clause-own : goal.returns-in_err-run_fde-clause-own
@@ -46,7 +46,7 @@ returns-clause-found c =
     let found = rw c.in-Some.is at c.in_ok-fde.ensures.found in
     let e = c.in-Some.fde in
     let stands = found.1 in
-    record {
+    rw c.standing_fde.ensures (record {
       own = found_head stands.0 e;
       named = found_cie stands.1 e.cie_at e.return_register e;
       stands = stands.2;
@@ -54,12 +54,12 @@ returns-clause-found c =
       begin = refl;
       end = refl;
       return_register = refl;
-      covers = c.if-not-reaches.ensures;
+      covers = c.if-not-covers.ensures;
       outcome = c.run_fde.ensures.runs.0;
       runs = c.run_fde.ensures.runs.1;
       row = c.in_ok-run_fde.ensures.found c.run_fde.ensures.runs.0 c.run_fde.ensures.runs.1;
       unfaulted = c.in_ok-run_fde.ensures.unfaulted;
-    }
+    })
 
 pub returns-clause-own : goal.returns-clause-own
 returns-clause-own c = λ hs a register hold returns at le lt.
@@ -67,6 +67,6 @@ returns-clause-own c = λ hs a register hold returns at le lt.
     let e = c.in-Some.fde in
     let same = listed_stands c.args.target c.args.bytes.now hs a register e hold.0.0.0 returns found.1 (found.0 ∙ sym at) in
     let runs = runs_so c.args.target c.args.bytes.now hs hold e same.found c.are_bytes.ensures in
-    let row = runs.rules c.args.address c.if-not-reaches.ensures.0 c.if-not-reaches.ensures.1 in
+    let row = runs.rules c.args.address c.if-not-covers.ensures.0 c.if-not-covers.ensures.1 in
     let one = some_is row.0 c.run_fde.new.room (sym row.1 ∙ c.in_ok-run_fde.ensures.found (record { rows = runs.rows; fault = None }) (inr runs.give)) in
-    (same_fde e.begin e.range e.return_register a.begin a.range register same.begin same.range same.register_is, subst (RulesAt c.args.target c.args.bytes.now c.args.address) one row.2)
+    (c.standing_fde.ensures ∙ same_fde e.begin e.range e.return_register a.begin a.range register same.begin same.range same.register_is, subst (RulesAt c.args.target c.args.bytes.now c.args.address) one row.2)

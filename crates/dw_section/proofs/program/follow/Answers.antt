@@ -1,5 +1,5 @@
 use Rattle.dw_section.proofs.Words.{refl, span_of, input_of, leaves_one}
-use Rattle.dw_section.proofs.program.go_behind.Goals as goal
+use Rattle.dw_section.proofs.program.follow.Goals as goal
 
 pub returns-in-Ok : goal.returns-in-Ok
 returns-in-Ok c = λ hs all runner.
