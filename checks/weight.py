@@ -16,18 +16,18 @@ import sys
 
 # Lines of sources, and of proofs.
 BUDGET = {
-    "dw_num": (1040, 1677),
-    "dw_op": (2495, 4545),
-    "dw_eval": (1675, 1503),
-    "dw_cfa": (5784, 6090),
-    "dw_section": (3330, 5872),
-    "dw_canon": (55, 4104),
-    "dw_normal": (2964, 3480),
-    "dw_unwind": (1748, 2490),
-    "dw_words": (994, 1299),
-    "dw_command": (2417, 2217),
-    "dwframe": (278, 0),
-    "dw_library": (2245, 846),
+    "dw_num": (987, 1285),
+    "dw_op": (2173, 4233),
+    "dw_eval": (1623, 1463),
+    "dw_cfa": (5774, 5553),
+    "dw_section": (3000, 5794),
+    "dw_canon": (53, 3601),
+    "dw_normal": (2897, 3193),
+    "dw_unwind": (1659, 2430),
+    "dw_words": (976, 1163),
+    "dw_command": (2360, 2150),
+    "dwframe": (277, 0),
+    "dw_library": (1945, 797),
 }
 COLUMNS = ["sources", "functions", "public", "specs", "inner", "proofs", "longest"]
 FUNCTION = re.compile(r'^\s*(pub(?:\([a-z]+\))? )?(?:extern "C" )?fn ', re.M)
