@@ -6,9 +6,9 @@ ghost use Rattle.dw_library.specs.{Answers.target_of, CallerFrame.held_in, Evalu
 
 use crate::answer::{BAD_ARGUMENT, OK, OUT_OF_MEMORY, Refused, not_refused, refuse, target_of};
 use crate::caller::{Fault, Held, NO_FAULT, NO_VALUE, fault_of_kind};
-use crate::registers::given_registers;
+use crate::registers::give_all;
 use crate::windows::Windows;
-use dw_eval::{Env, EvalError, evaluate};
+use dw_eval::{Env, EvalError, Registers, evaluate};
 use dw_num::ReadError;
 use dw_op::{OpList, Profile, decode};
 use dw_unwind::Column;
@@ -60,7 +60,8 @@ fn value_of(
 ) -> Result<u64, EvalError>
     ensures { (result ≡ Err OutOfMemory) ⊎ ValueOf list.now.target list.now.ops context.now (held_in held.now) result }
 {
-    let Ok(registers) = given_registers(alloc, held.registers) else {
+    let mut registers = Registers::new(alloc);
+    let Ok(()) = give_all(&mut registers, held.registers) else {
         return Err(EvalError::OutOfMemory);
     };
     let mut memory = Windows {

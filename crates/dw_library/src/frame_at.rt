@@ -11,10 +11,10 @@ use crate::answer::{
 use crate::caller::{
     Fault, Frame, Held, NO_FAULT, NO_FRAME, Stop, policy_of, put_frame, status_of, told_fault,
 };
-use crate::registers::{Register, given_registers};
+use crate::registers::{Register, give_all};
 use crate::windows::Windows;
 use dw_cfa::RowRoom;
-use dw_eval::Policy;
+use dw_eval::{Policy, Registers};
 use dw_num::{ReadError, Target};
 use dw_section::{Ranged, check};
 use dw_unwind::{Frame as CallerFrame, FrameRoom, UnwindAtError, UnwindError, unwind_at};
@@ -34,7 +34,8 @@ fn frame_at<'r>(
     ensures any { MatchResult result (λ f. IsFrameAt target default bytes.now index.now stop.now (held_in held.now) (Ok f)) (Why target default bytes.now index.now stop.now (held_in held.now)) }
     ensures own { IsTable target bytes.now index.now → MatchResult result (λ f. IsFrame target default bytes.now stop.now (held_in held.now) (Ok f)) (WhyOwn target default bytes.now stop.now (held_in held.now)) }
 {
-    let Ok(registers) = given_registers(alloc, held.registers) else {
+    let mut registers = Registers::new(alloc);
+    let Ok(()) = give_all(&mut registers, held.registers) else {
         return Err(UnwindAtError::Unwind(UnwindError::OutOfMemory));
     };
     let mut memory = Windows {

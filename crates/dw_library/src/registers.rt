@@ -1,12 +1,12 @@
 //! Registers that a caller lends, and those that it is told.
 
-ghost use Rattle.std.specs.Prelude.{◌≡◌, ℕ, IfOk, OnOk, map};
+ghost use Rattle.std.specs.Prelude.{◌≡◌, ℕ, [], OnOk, map};
 ghost use Rattle.dw_eval.specs.Registers.{held};
 ghost use Rattle.dw_library.specs.Registers.{first_of, value_in, given_in, told_register, AreTold};
 
 use crate::answer::{OK, TOO_SHORT};
 use dw_eval::Registers;
-use std::alloc::{AllocError, Global};
+use std::alloc::AllocError;
 
 /// A register: its number, whether its value is known (0 where it is not), and the value.
 #[repr(C)]
@@ -32,17 +32,17 @@ fn give(registers: &mut Registers, register: Register) -> Result<(), AllocError>
     registers.set(register.number, register.value)
 }
 
-/// Registers that hold these values. If a register is given twice, its first known value is used.
-pub(crate) fn given_registers(alloc: Global, given: &[Register]) -> Result<Registers, AllocError>
-    ensures { IfOk result (λ registers. (r : ℕ) → held registers r ≡ given_in given.now r) }
+/// Lets registers that hold nothing hold these values. If a register is given twice, its first known value is used.
+pub(crate) fn give_all(registers: &mut Registers, given: &[Register]) -> Result<(), AllocError>
+    requires { registers.old ≡ [] }
+    ensures { OnOk result ((r : ℕ) → held registers.new r ≡ given_in given.now r) }
 {
-    let mut registers = Registers::new(alloc);
     let mut left = given.len();
     'given: while left > 0 {
         left -= 1;
-        give(&mut registers, given[left])?;
+        give(registers, given[left])?;
     }
-    Ok(registers)
+    Ok(())
 }
 
 fn told_register(entry: (u16, Option<u64>)) -> Register
