@@ -7,5 +7,5 @@ carried f (inr b) = inr (f b)
 
 pub returns : goal.returns
 returns c =
-    carried (λ is. record { values = c.in-Ok.registers; are = c.in-Ok.ensures; is = is })
+    carried (λ is. record { values = c.give_all.new.registers; are = c.in-Ok.ensures; is = is })
     (rw (c.target.ensures, c.known_if.ensures, c.known_if-2.ensures, c.known_if-3.ensures, c.known_if-start.ensures) at (c.evaluate.ensures.answered refl))
