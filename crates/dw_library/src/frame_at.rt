@@ -34,6 +34,7 @@ fn frame_at<'r>(
     ensures any { MatchResult result (λ f. IsFrameAt target default bytes.now index.now stop.now (held_in held.now) (Ok f)) (Why target default bytes.now index.now stop.now (held_in held.now)) }
     ensures own { IsTable target bytes.now index.now → MatchResult result (λ f. IsFrame target default bytes.now stop.now (held_in held.now) (Ok f)) (WhyOwn target default bytes.now stop.now (held_in held.now)) }
 {
+    let mut row_room = RowRoom::new(alloc);
     let mut registers = Registers::new(alloc);
     let Ok(()) = give_all(&mut registers, held.registers) else {
         return Err(UnwindAtError::Unwind(UnwindError::OutOfMemory));
@@ -42,7 +43,6 @@ fn frame_at<'r>(
         windows: held.windows,
         bytes: held.memory,
     };
-    let mut row_room = RowRoom::new(alloc);
     let (pc, steps) = (stop.pc, stop.steps);
     unwind_at(
         alloc,
@@ -80,6 +80,8 @@ pub extern "C" fn dwframe_unwind_at(
     // By any other it tells the frame by the FDE that stands where the index leads, or why there is none.
     ensures any { let told : Told = record { status = result; registers = out.new; frame = frame.new; refusal = refused.new; fault = fault.new } in IsAnyUnwound (target_of section.now.address_size section.now.byte_order) (policy_of stop.now.unset) section.now.bytes.now index.now stop.now (held_in held.now) out.old told }
 {
+    // Made first: it is moved else.
+    let mut room = FrameRoom::new(alloc);
     *frame = NO_FRAME;
     *refused = not_refused();
     *fault = NO_FAULT;
@@ -89,7 +91,6 @@ pub extern "C" fn dwframe_unwind_at(
     let Some(default) = policy_of(stop.unset) else {
         return BAD_ARGUMENT;
     };
-    let mut room = FrameRoom::new(alloc);
     match frame_at(
         alloc,
         section.bytes,
