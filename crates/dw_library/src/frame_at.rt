@@ -1,9 +1,12 @@
 //! The frame of the caller, by an index that the caller keeps, or by one that is made.
 
-ghost use Rattle.std.specs.Prelude.{Ok, MatchResult};
+ghost use Rattle.std.specs.Prelude.{◌≡◌, ◌⊎◌, Ok, Err, MatchResult};
 ghost use Rattle.dw_section.specs.Ranges.{IsTable};
 ghost use Rattle.dw_library.specs.{Answers.target_of, CallerFrame.{IsFrame, IsUnwound, Told, held_in, policy_of}};
-ghost use Rattle.dw_library.specs.{FrameAt.{IsAnyUnwound, IsFrameAt, IsOwnUnwound}, Inner.FrameAt.{Why, WhyOwn}};
+ghost use Rattle.dw_library.specs.{FrameAt.{IsAnyUnwound, IsFrameAt, IsOwnUnwound}, Windows.byte_among, Inner.FrameAt.{IsOwn, Why, WhyOwn}};
+ghost use Rattle.dw_unwind.specs.{Unwound.{Unwound, stopped}, UnwoundAt.UnwoundAt};
+ghost use Rattle.dw_unwind.specs.declared.by_index.UnwindAtError.TheVariants as TheUnwindAtError;
+ghost use Rattle.dw_unwind.specs.declared.frame.UnwindError.TheVariants as TheUnwindError;
 
 use crate::answer::{
     BAD_ARGUMENT, BAD_INDEX, OUT_OF_MEMORY, Refused, Section, not_refused, refuse, target_of,
@@ -20,6 +23,28 @@ use dw_section::{Ranged, check};
 use dw_unwind::{Frame as CallerFrame, FrameRoom, UnwindAtError, UnwindError, unwind_at};
 use std::alloc::Global;
 
+// The frame over registers and memory, or why there is none.
+fn frame_in<'r>(
+    alloc: Global,
+    bytes: &[u8],
+    target: Target,
+    index: &[Ranged],
+    stop: &Stop,
+    default: Policy,
+    registers: &Registers,
+    memory: &mut Windows<'_>,
+    frame_room: &'r mut FrameRoom,
+) -> Result<CallerFrame<'r>, UnwindAtError>
+    ensures any { (result ≡ Err (TheUnwindAtError.Unwind TheUnwindError.OutOfMemory)) ⊎ UnwoundAt target bytes.now index.now stop.now.pc (stopped target registers.now (byte_among memory.old.bytes.now memory.old.windows.now)) default stop.now.steps result }
+    ensures own { IsTable target bytes.now index.now → IsOwn (Unwound target bytes.now stop.now.pc (stopped target registers.now (byte_among memory.old.bytes.now memory.old.windows.now)) default stop.now.steps) result }
+{
+    let mut room = RowRoom::new(alloc);
+    let (pc, steps) = (stop.pc, stop.steps);
+    unwind_at(
+        alloc, bytes, target, index, pc, &mut room, frame_room, registers, memory, default, steps,
+    )
+}
+
 // The frame of what a machine held, or why there is none.
 fn frame_at<'r>(
     alloc: Global,
@@ -34,7 +59,6 @@ fn frame_at<'r>(
     ensures any { MatchResult result (λ f. IsFrameAt target default bytes.now index.now stop.now (held_in held.now) (Ok f)) (Why target default bytes.now index.now stop.now (held_in held.now)) }
     ensures own { IsTable target bytes.now index.now → MatchResult result (λ f. IsFrame target default bytes.now stop.now (held_in held.now) (Ok f)) (WhyOwn target default bytes.now stop.now (held_in held.now)) }
 {
-    let mut row_room = RowRoom::new(alloc);
     let mut registers = Registers::new(alloc);
     let Ok(()) = give_all(&mut registers, held.registers) else {
         return Err(UnwindAtError::Unwind(UnwindError::OutOfMemory));
@@ -43,19 +67,16 @@ fn frame_at<'r>(
         windows: held.windows,
         bytes: held.memory,
     };
-    let (pc, steps) = (stop.pc, stop.steps);
-    unwind_at(
+    frame_in(
         alloc,
         bytes,
         target,
         index,
-        pc,
-        &mut row_room,
-        room,
+        stop,
+        default,
         &registers,
         &mut memory,
-        default,
-        steps,
+        room,
     )
 }
 
