@@ -1,12 +1,13 @@
 //! The frame of the caller, by an index that the caller keeps, or by one that is made.
 
-ghost use Rattle.std.specs.Prelude.{◌≡◌, ◌⊎◌, Ok, Err, MatchResult};
+ghost use Rattle.std.specs.Prelude.{◌≡◌, ◌⊎◌, map, Ok, Err, MatchResult, OnErr};
 ghost use Rattle.dw_section.specs.Ranges.{IsTable};
-ghost use Rattle.dw_library.specs.{Answers.target_of, CallerFrame.{IsFrame, IsUnwound, Told, held_in, policy_of}};
-ghost use Rattle.dw_library.specs.{FrameAt.{IsAnyUnwound, IsFrameAt, IsOwnUnwound}, Windows.byte_among, Inner.FrameAt.{IsOwn, Why, WhyOwn}};
-ghost use Rattle.dw_unwind.specs.{Unwound.{Unwound, stopped}, UnwoundAt.UnwoundAt};
+ghost use Rattle.dw_unwind.specs.{Unwound.{Unwound, stopped}, UnwoundAt.UnwoundAt, declared.frame.Frame.{Frame as TheCallerFrame}};
 ghost use Rattle.dw_unwind.specs.declared.by_index.UnwindAtError.TheVariants as TheUnwindAtError;
 ghost use Rattle.dw_unwind.specs.declared.frame.UnwindError.TheVariants as TheUnwindError;
+ghost use Rattle.dw_library.specs.{Answers.target_of, CallerFrame.{IsFrame, IsUnwound, Told, held_in, policy_of, told_frame}};
+ghost use Rattle.dw_library.specs.{FrameAt.{IsAnyUnwound, IsFrameAt, IsOwnUnwound}, Registers.{told_register, AreTold}};
+ghost use Rattle.dw_library.specs.{Windows.byte_among, Inner.FrameAt.{IsOwn, Why, WhyOwn}};
 
 use crate::answer::{
     BAD_ARGUMENT, BAD_INDEX, OUT_OF_MEMORY, Refused, Section, not_refused, refuse, target_of,
@@ -23,7 +24,7 @@ use dw_section::{Ranged, check};
 use dw_unwind::{Frame as CallerFrame, FrameRoom, UnwindAtError, UnwindError, unwind_at};
 use std::alloc::Global;
 
-// The frame over registers and memory, or why there is none.
+// The frame over registers and memory, or why there is none. The room is made first, in a function of its own: it is moved else.
 fn frame_in<'r>(
     alloc: Global,
     bytes: &[u8],
@@ -80,6 +81,29 @@ fn frame_at<'r>(
     )
 }
 
+// Writes the frame, or answers why there is none. The room is made first here too.
+fn unwound_at(
+    alloc: Global,
+    bytes: &[u8],
+    target: Target,
+    index: &[Ranged],
+    stop: &Stop,
+    default: Policy,
+    held: &Held<'_>,
+    out: &mut [Register],
+    frame: &mut Frame,
+) -> Result<u32, UnwindAtError>
+    ensures any { MatchResult result (λ status. (f : TheCallerFrame) × IsFrameAt target default bytes.now index.now stop.now (held_in held.now) (Ok f) × (frame.new ≡ told_frame f) × AreTold (map told_register f.registers) out.old status out.new) (Why target default bytes.now index.now stop.now (held_in held.now)) }
+    ensures own { IsTable target bytes.now index.now → MatchResult result (λ status. (f : TheCallerFrame) × IsFrame target default bytes.now stop.now (held_in held.now) (Ok f) × (frame.new ≡ told_frame f) × AreTold (map told_register f.registers) out.old status out.new) (WhyOwn target default bytes.now stop.now (held_in held.now)) }
+    ensures kept { OnErr result ((frame.new ≡ frame.old) × (out.new ≡ out.old)) }
+{
+    let mut room = FrameRoom::new(alloc);
+    match frame_at(alloc, bytes, target, index, stop, default, held, &mut room) {
+        Ok(found) => Ok(put_frame(&found, out, frame)),
+        Err(error) => Err(error),
+    }
+}
+
 /// The caller's frame as `dwframe_unwind` tells it, by an index of the section, which is not judged again: the FDE that stands
 /// at the place of the entry that covers the address is read and judged anew, so an index of other bytes is answered by what they
 /// say there, or by a status. Where a byte or a register is missing, `fault` tells which one was wanted first, so a caller can give
@@ -101,8 +125,6 @@ pub extern "C" fn dwframe_unwind_at(
     // By any other it tells the frame by the FDE that stands where the index leads, or why there is none.
     ensures any { let told : Told = record { status = result; registers = out.new; frame = frame.new; refusal = refused.new; fault = fault.new } in IsAnyUnwound (target_of section.now.address_size section.now.byte_order) (policy_of stop.now.unset) section.now.bytes.now index.now stop.now (held_in held.now) out.old told }
 {
-    // Made first: it is moved else.
-    let mut room = FrameRoom::new(alloc);
     *frame = NO_FRAME;
     *refused = not_refused();
     *fault = NO_FAULT;
@@ -112,7 +134,7 @@ pub extern "C" fn dwframe_unwind_at(
     let Some(default) = policy_of(stop.unset) else {
         return BAD_ARGUMENT;
     };
-    match frame_at(
+    match unwound_at(
         alloc,
         section.bytes,
         target,
@@ -120,9 +142,10 @@ pub extern "C" fn dwframe_unwind_at(
         stop,
         default,
         held,
-        &mut room,
+        out,
+        frame,
     ) {
-        Ok(found) => put_frame(&found, out, frame),
+        Ok(status) => status,
         Err(UnwindAtError::BadIndex) => BAD_INDEX,
         Err(UnwindAtError::Refused(refusal)) => refuse(refused, 1, refusal),
         Err(UnwindAtError::Unwind(error)) => {
