@@ -93,7 +93,7 @@ impl<'r, 'a> Specified<'r, 'a> {
         Some((register, rule))
     }
 
-    /// The next register with its offset, where its rule is `Offset`. A rule takes 32 bytes, which are moved for each register else.
+    /// The next register with its offset, where it is below 128 and its rule an `Offset` of 16 bits; else none, and it stays.
     #[inline(always)]
     pub fn next_offset(&mut self) -> Option<(u16, i64)>
         ensures { MatchOption result (self.new ≡ self.old) (λ found. self.old ≡ (found.0, Offset found.1) ∷ self.new) }
