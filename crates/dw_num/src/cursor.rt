@@ -4,7 +4,7 @@ ghost use Rattle.std.specs.Prelude.{◌≡◌, ℕ, ℤ, ◌+◌, ◌<◌, ◌�
 ghost use Rattle.dw_num.specs.{Fixed.{Address, Fixed, IsWidth, SpellsLength, fixed_number}, Front.{Reads, fixed_at, take_at, register_at}};
 ghost use Rattle.dw_num.specs.{Front.{uleb_at, sleb_at, address_at, unit_length_at}, Input.{AreBytes, Takes, behind}, Leb.{Register, Sleb, Uleb}};
 
-use crate::leb::{SlebScan, UlebScan, scan_sleb, scan_uleb};
+use crate::leb::{SlebScan, UlebScan, scan_sleb, scan_uleb, short_sleb, short_uleb};
 use crate::refusal::{Code, Refusal};
 use crate::target::{Form, Order, Size, Target, UnitLength};
 use byteorder::{BigEndian, ByteOrder, LittleEndian};
@@ -36,7 +36,7 @@ fn ordered_in<B: ByteOrder>(bytes: &[u8], n: usize) -> u64
     }
 }
 
-// The number that the first n bytes spell.
+// The number that the first n bytes spell. They are read as a slice of their own, whose length is known where this is compiled.
 #[inline(always)]
 fn number_in(order: Order, bytes: &[u8], n: usize) -> u64
     requires some { 1 ≤ n }
@@ -44,12 +44,13 @@ fn number_in(order: Order, bytes: &[u8], n: usize) -> u64
     requires room { n ≤ length bytes.now }
     ensures { result ≡ fixed_number order n bytes.now }
 {
+    let front = &bytes[..n];
     if n == 1 {
-        return u64::from(bytes[0]);
+        return u64::from(front[0]);
     }
     match order {
-        Order::Little => ordered_in::<LittleEndian>(bytes, n),
-        Order::Big => ordered_in::<BigEndian>(bytes, n),
+        Order::Little => ordered_in::<LittleEndian>(front, n),
+        Order::Big => ordered_in::<BigEndian>(front, n),
     }
 }
 
@@ -189,6 +190,10 @@ impl<'a> Cursor<'a> {
     fn read_uleb(&mut self) -> Result<u64, Refusal>
         ensures { Reads (λ v. v) result self.old (uleb_at self.old) self.new }
     {
+        if let Some(byte) = short_uleb(self.bytes) {
+            self.pass(1);
+            return Ok(u64::from(byte));
+        }
         match scan_uleb(self.bytes) {
             UlebScan::Number(value, len) => {
                 self.pass(len);
@@ -290,6 +295,10 @@ impl<'a> Cursor<'a> {
     fn read_register(&mut self) -> Result<u16, Refusal>
         ensures { Reads (λ r. r) result self.old (register_at self.old) self.new }
     {
+        if let Some(byte) = short_uleb(self.bytes) {
+            self.pass(1);
+            return Ok(u16::from(byte));
+        }
         match scan_uleb(self.bytes) {
             UlebScan::Number(value, len) => {
                 if value > LAST_REGISTER {
@@ -320,6 +329,10 @@ impl<'a> Cursor<'a> {
     fn read_sleb(&mut self) -> Result<i64, Refusal>
         ensures { Reads (λ v. v) result self.old (sleb_at self.old) self.new }
     {
+        if let Some(value) = short_sleb(self.bytes) {
+            self.pass(1);
+            return Ok(value);
+        }
         match scan_sleb(self.bytes) {
             SlebScan::Number(value, len) => {
                 self.pass(len);

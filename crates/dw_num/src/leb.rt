@@ -1,7 +1,8 @@
 //! The LEB128 number at the front of a slice.
 
-ghost use Rattle.std.specs.Prelude.{length, MatchOption, ⊤, ◌≡◌, ℕ, ◌+◌, ◌*◌, ◌<◌, ◌≤◌, ◌^◌};
+ghost use Rattle.std.specs.Prelude.{length, IfSome, MatchOption, ⊤, ◌≡◌, ℕ, ◌+◌, ◌*◌, ◌<◌, ◌≤◌, ◌^◌};
 ghost use Rattle.dw_num.specs.{Front.leb_len, Leb.{is_negative, signed_groups}, Shortest.turned};
+ghost use Rattle.dw_num.specs.declared.leb.{SlebScan.TheVariants as signed, UlebScan.TheVariants as unsigned};
 ghost use Rattle.dw_num.specs.Inner.Scan.{IsUlebScan, IsSlebScan, IsTotal, IsSignedTotal, turned_from};
 
 /// The unsigned number at the front of a slice, and how many bytes spell it.
@@ -67,9 +68,9 @@ fn scan_long_uleb(bytes: &[u8]) -> UlebScan
     UlebScan::Endless
 }
 
-// A number of any number of bytes. Out of line, since it mostly has one.
+/// The number at the front. Out of line, since most have one byte.
 #[inline(never)]
-fn scan_any_uleb(bytes: &[u8]) -> UlebScan
+pub(crate) fn scan_uleb(bytes: &[u8]) -> UlebScan
     ensures { IsUlebScan bytes.now result }
 {
     let mut total = 0u64;
@@ -85,18 +86,15 @@ fn scan_any_uleb(bytes: &[u8]) -> UlebScan
     UlebScan::Endless
 }
 
-/// The number at the front.
+/// The number at the front, where it has one byte, as most have.
 #[inline(always)]
-pub(crate) fn scan_uleb(bytes: &[u8]) -> UlebScan
-    ensures { IsUlebScan bytes.now result }
+pub(crate) fn short_uleb(bytes: &[u8]) -> Option<u8>
+    ensures { IfSome result (λ b. IsUlebScan bytes.now (unsigned.Number b 1)) }
 {
-    if bytes.len() > 0 {
-        let byte = bytes[0];
-        if byte < 128 {
-            return UlebScan::Number(u64::from(byte), 1);
-        }
+    match bytes.first() {
+        Some(byte) if *byte < 128 => Some(*byte),
+        _ => None,
     }
-    scan_any_uleb(bytes)
 }
 
 // How many bytes the number at the front has.
@@ -163,7 +161,7 @@ fn signed_sum(spelling: &[u8]) -> Option<i64>
 
 // A signed number of any number of bytes.
 #[inline(never)]
-fn scan_any_sleb(bytes: &[u8]) -> SlebScan
+pub(crate) fn scan_sleb(bytes: &[u8]) -> SlebScan
     ensures { IsSlebScan bytes.now result }
 {
     let Some(len) = count_bytes(bytes) else {
@@ -175,19 +173,14 @@ fn scan_any_sleb(bytes: &[u8]) -> SlebScan
     }
 }
 
-/// The signed number at the front.
+/// The number at the front, where it has one byte, as most have.
 #[inline(always)]
-pub(crate) fn scan_sleb(bytes: &[u8]) -> SlebScan
-    ensures { IsSlebScan bytes.now result }
+pub(crate) fn short_sleb(bytes: &[u8]) -> Option<i64>
+    ensures { IfSome result (λ v. IsSlebScan bytes.now (signed.Number v 1)) }
 {
-    if bytes.len() > 0 {
-        let byte = bytes[0];
-        if byte < 64 {
-            return SlebScan::Number(i64::from(byte), 1);
-        }
-        if byte < 128 {
-            return SlebScan::Number(i64::from(byte) - 128, 1);
-        }
+    match bytes.first() {
+        Some(byte) if *byte < 64 => Some(i64::from(*byte)),
+        Some(byte) if *byte < 128 => Some(i64::from(*byte) - 128),
+        _ => None,
     }
-    scan_any_sleb(bytes)
 }
