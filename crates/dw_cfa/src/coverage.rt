@@ -15,7 +15,7 @@ use dw_num::{Code, Cursor, ReadError, Refusal};
 fn is_unset(row: &Row<'_>) -> bool
     ensures { result ≡ is_unset row.now.cfa }
 {
-    matches!(row.cfa(), CfaRule::Unset)
+    matches!(row.cfa_rule(), CfaRule::Unset)
 }
 
 // Whether a row that holds from `low` up to a location covers an address below the end. Out of line: rows seldom lack a

@@ -102,9 +102,10 @@ impl<'a> Keep<'a> for Machine<'a> {
 
     #[inline(always)]
     fn def_cfa_register(&mut self, register: u16, at: u64, fault: &mut Refusal) -> End {
-        let CfaRule::Register { offset, .. } = self.states.row().cfa() else {
+        let CfaRule::Register { offset, .. } = self.states.row().cfa_rule() else {
             return refuse(Code::CfaNotRegister, at, fault);
         };
+        let offset = *offset;
         let rule = CfaRule::Register { register, offset };
         self.states.set_cfa(rule);
         End::On
@@ -112,9 +113,10 @@ impl<'a> Keep<'a> for Machine<'a> {
 
     #[inline(always)]
     fn def_cfa_offset(&mut self, offset: i64, at: u64, fault: &mut Refusal) -> End {
-        let CfaRule::Register { register, .. } = self.states.row().cfa() else {
+        let CfaRule::Register { register, .. } = self.states.row().cfa_rule() else {
             return refuse(Code::CfaNotRegister, at, fault);
         };
+        let register = *register;
         let rule = CfaRule::Register { register, offset };
         self.states.set_cfa(rule);
         End::On
@@ -213,9 +215,10 @@ impl<'a> Keep<'a> for Row<'a> {
 
     #[inline(always)]
     fn def_cfa_register(&mut self, register: u16, at: u64, fault: &mut Refusal) -> End {
-        let CfaRule::Register { offset, .. } = self.cfa() else {
+        let CfaRule::Register { offset, .. } = self.cfa_rule() else {
             return refuse(Code::CfaNotRegister, at, fault);
         };
+        let offset = *offset;
         let rule = CfaRule::Register { register, offset };
         self.set_cfa(rule);
         End::On
@@ -223,9 +226,10 @@ impl<'a> Keep<'a> for Row<'a> {
 
     #[inline(always)]
     fn def_cfa_offset(&mut self, offset: i64, at: u64, fault: &mut Refusal) -> End {
-        let CfaRule::Register { register, .. } = self.cfa() else {
+        let CfaRule::Register { register, .. } = self.cfa_rule() else {
             return refuse(Code::CfaNotRegister, at, fault);
         };
+        let register = *register;
         let rule = CfaRule::Register { register, offset };
         self.set_cfa(rule);
         End::On

@@ -111,9 +111,10 @@ impl<'a> Keep<'a> for LookUp<'a> {
 
     #[inline(always)]
     fn def_cfa_register(&mut self, register: u16, at: u64, fault: &mut Refusal) -> End {
-        let CfaRule::Register { offset, .. } = self.row.cfa() else {
+        let CfaRule::Register { offset, .. } = self.row.cfa_rule() else {
             return refuse(Code::CfaNotRegister, at, fault);
         };
+        let offset = *offset;
         let rule = CfaRule::Register { register, offset };
         self.row.set_cfa(rule);
         End::On
@@ -121,9 +122,10 @@ impl<'a> Keep<'a> for LookUp<'a> {
 
     #[inline(always)]
     fn def_cfa_offset(&mut self, offset: i64, at: u64, fault: &mut Refusal) -> End {
-        let CfaRule::Register { register, .. } = self.row.cfa() else {
+        let CfaRule::Register { register, .. } = self.row.cfa_rule() else {
             return refuse(Code::CfaNotRegister, at, fault);
         };
+        let register = *register;
         let rule = CfaRule::Register { register, offset };
         self.row.set_cfa(rule);
         End::On

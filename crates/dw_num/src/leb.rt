@@ -2,7 +2,8 @@
 
 ghost use Rattle.std.specs.Prelude.{length, IfSome, MatchOption, ⊤, ◌≡◌, ℕ, ◌+◌, ◌*◌, ◌<◌, ◌≤◌, ◌^◌};
 ghost use Rattle.dw_num.specs.{Front.leb_len, Leb.{is_negative, signed_groups}, Shortest.turned};
-ghost use Rattle.dw_num.specs.declared.leb.{SlebScan.TheVariants as signed, UlebScan.TheVariants as unsigned};
+ghost use Rattle.dw_num.specs.declared.leb.SlebScan.TheVariants as signed;
+ghost use Rattle.dw_num.specs.declared.leb.UlebScan.TheVariants as unsigned;
 ghost use Rattle.dw_num.specs.Inner.Scan.{IsUlebScan, IsSlebScan, IsTotal, IsSignedTotal, turned_from};
 
 /// The unsigned number at the front of a slice, and how many bytes spell it.
