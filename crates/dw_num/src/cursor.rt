@@ -20,37 +20,46 @@ pub fn are_bytes(bytes: &[u8])
     let _ = bytes;
 }
 
-// The number that the first n bytes spell in one order.
+// The number that all of these bytes spell in one order.
 #[inline(always)]
-fn ordered_in<B: ByteOrder>(bytes: &[u8], n: usize) -> u64
-    requires some { 1 ≤ n }
-    requires most { n ≤ 8 }
-    requires room { n ≤ length bytes.now }
-    ensures { result ≡ B.number_of n bytes.now }
+fn ordered_in<B: ByteOrder>(bytes: &[u8]) -> u64
+    requires some { 1 ≤ length bytes.now }
+    requires most { length bytes.now ≤ 8 }
+    ensures { result ≡ B.number_of (length bytes.now) bytes.now }
 {
-    match n {
+    match bytes.len() {
         2 => u64::from(B::read_u16(bytes)),
         4 => u64::from(B::read_u32(bytes)),
         8 => B::read_u64(bytes),
-        _ => B::read_uint(bytes, n),
+        n => B::read_uint(bytes, n),
     }
 }
 
-// The number that the first n bytes spell. They are read as a slice of their own, whose length is known where this is compiled.
+// The number that all of these bytes spell.
+#[inline(always)]
+fn spelled(order: Order, bytes: &[u8]) -> u64
+    requires some { 1 ≤ length bytes.now }
+    requires most { length bytes.now ≤ 8 }
+    ensures { result ≡ fixed_number order (length bytes.now) bytes.now }
+{
+    match order {
+        Order::Little => ordered_in::<LittleEndian>(bytes),
+        Order::Big => ordered_in::<BigEndian>(bytes),
+    }
+}
+
+// The number that the first n bytes spell. The length of each slice is known where this is compiled, so no byte is tested alone.
 #[inline(always)]
 fn number_in(order: Order, bytes: &[u8], n: usize) -> u64
-    requires some { 1 ≤ n }
-    requires most { n ≤ 8 }
+    requires width { IsWidth n }
     requires room { n ≤ length bytes.now }
     ensures { result ≡ fixed_number order n bytes.now }
 {
-    let front = &bytes[..n];
-    if n == 1 {
-        return u64::from(front[0]);
-    }
-    match order {
-        Order::Little => ordered_in::<LittleEndian>(front, n),
-        Order::Big => ordered_in::<BigEndian>(front, n),
+    match n {
+        1 => u64::from(bytes[0]),
+        2 => spelled(order, &bytes[..2]),
+        4 => spelled(order, &bytes[..4]),
+        _ => spelled(order, &bytes[..8]),
     }
 }
 
