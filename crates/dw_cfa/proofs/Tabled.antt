@@ -1,6 +1,9 @@
 -- What the table reads of an opcode is what the code reads.
 use Rattle.dw_cfa.proofs.Words.{◌≡◌, ℕ, ◌^◌, Bool, true, false, Option, Some, Ok, Err, refl, sym, ap, ◌∙◌, ℤ, pos, ◌*ℤ◌, unsigned_abs, nat_lt, Factors, Input, Instr, Opcode, Read, fixed_at, register_at, uleb_at, sleb_at, ◌>>=◌, DefCfa}
 use Rattle.dw_cfa.proofs.Words.{DefCfaOffset, opcode_of, form_of, offset_of, leaving, block_at, with_instr, form_at, judged, known_at, instr_at}
+use Rattle.std.proofs.Common.{get_or}
+use Rattle.dw_num.proofs.Lent.FixedLaws.{byte_found}
+use Rattle.dw_cfa.specs.declared.instr.Instr.TheVariants.{Nop}
 use Rattle.dw_cfa.specs.Inner.ByOpcode.{offset_in, plain_in, plain_at, factored_in, factored_at, signed_in, signed_at, set_loc_at, advance_at, def_cfa_register_at, def_cfa_offset_at, def_cfa_offset_sf_at, def_cfa_expression_at, then_plain}
 use Rattle.dw_cfa.specs.Inner.ByOpcode.{def_cfa_at, then_signed, def_cfa_sf_at, restore_at, undefined_at, same_value_at, set_offset, set_val_offset, set_register, set_expression, offset_at, then_offset}
 use Rattle.dw_cfa.specs.Inner.ByOpcode.{offset_extended_at, offset_extended_sf_at, then_factored, val_offset_at, val_offset_sf_at, then_register, register_rule_at, then_block, expression_at, operands_at}
@@ -58,3 +61,8 @@ form_is f at opcode i = unjudged at _ _ (λ x. refl)
 pub opened : (f : Factors) (i j : Input) (code : ℕ) (o : Opcode) (at : ℕ) → at ≡ i.at → fixed_at 1 i ≡ Ok (code, j) → opcode_of code ≡ Some o → instr_at f i ≡ operands_at f at o j
 unfolding instr_at
 opened f i j code o at place e known = rw (place, e) (ap (λ (x : Option Opcode). known_at f i.at x j) known ∙ form_is f i.at o j)
+
+-- a nop
+pub nop_passed : (f : Factors) (i new : Input) (b : ℕ) → get_or i.bytes 0 0 ≡ 0 → fixed_at 1 i ≡ Ok (b, new) → instr_at f i ≡ Ok (Nop, new)
+unfolding opcode_of operands_at
+nop_passed f i new b zero e = let code = rw (byte_found i new b e).bytes at zero in opened f i new b opcodes.Nop i.at refl e (rw code refl)

@@ -2,7 +2,7 @@
 
 ghost use Rattle.std.specs.Prelude.{◌≡◌, ◌<◌, ◌≤◌, None, Some, Ok, Err, length, OnOk, IfErr, IfOk, IsOk, IsTrue, false};
 ghost use Rattle.dw_num.specs.Refusals.{Refuses};
-ghost use Rattle.dw_cfa.specs.{Rows.blank, Inner.RowWalk.{IsLed, RanUpTo}};
+ghost use Rattle.dw_cfa.specs.{Rows.blank, declared.instr.{Factors.{Factors as TheFactors}, Instr.TheVariants.Nop}, Inner.{FrontInstr.instr_at, RowWalk.{IsLed, RanUpTo}}};
 ghost use Rattle.dw_cfa.specs.Inner.{Runs.{RunsSo, GivesRow, StopsAbove, rows_left, stop_left, initial_row, placed}, Turns.{Does, Entered, Stays}};
 
 use crate::instr::Factors;
@@ -89,6 +89,19 @@ pub(crate) fn run_to<'a, K: Keep<'a>>(
     Ok(false)
 }
 
+// Passes a nop at the front of a CIE's program, which mostly ends in some, and says whether there was one.
+#[inline(always)]
+fn pass_nop(cursor: &mut Cursor<'_>) -> bool
+    requires { 0 < length cursor.old.bytes }
+    ensures passed { IsTrue result → (factors : TheFactors) → instr_at factors cursor.old ≡ Ok (Nop, cursor.new) }
+    ensures none { result ≡ false → cursor.new ≡ cursor.old }
+{
+    if cursor.rest()[0] != 0 {
+        return false;
+    }
+    cursor.byte().is_ok()
+}
+
 // Runs an instruction of a CIE's program.
 #[tactic(auto, using(crate::proofs::RunSteps::initial_read, crate::proofs::Turns::entered, crate::proofs::Turns::in_limit))]
 #[inline(always)]
@@ -104,6 +117,10 @@ fn write_one<'a>(
     ensures { Entered factors cursor.old row.old result fault.new cursor.new row.new }
 {
     are_bytes(cursor.rest());
+    let at = cursor.at();
+    if pass_nop(cursor) {
+        return row.nop(at, fault);
+    }
     execute(cursor, factors, row, known, fault)
 }
 
