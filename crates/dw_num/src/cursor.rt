@@ -1,10 +1,10 @@
 //! Reading numbers from a slice, from its front on.
 
-ghost use Rattle.std.specs.Prelude.{◌≡◌, ℕ, ℤ, ◌+◌, ◌<◌, ◌≤◌, ◌^◌, List, [], ◌∷◌, ◌++◌, length, IfOk};
+ghost use Rattle.std.specs.Prelude.{◌≡◌, ℕ, ℤ, ◌+◌, ◌<◌, ◌≤◌, ◌^◌, List, [], ◌∷◌, ◌++◌, length, take, IfErr, IfOk, None, Some};
 ghost use Rattle.dw_num.specs.{Fixed.{Address, Fixed, IsWidth, SpellsLength, fixed_number}, Front.{Reads, fixed_at, take_at, register_at}};
-ghost use Rattle.dw_num.specs.{Front.{uleb_at, sleb_at, address_at, unit_length_at}, Input.{AreBytes, Takes, behind}, Leb.{Register, Sleb, Uleb}};
+ghost use Rattle.dw_num.specs.{Front.{leb_len, uleb_at, sleb_at, address_at, unit_length_at}, Input.{AreBytes, Takes, behind}, Leb.{Register, Sleb, Uleb}, declared.refusal.Code.TheVariants.Truncated};
 
-use crate::leb::{SlebScan, UlebScan, scan_sleb, scan_uleb, short_sleb, short_uleb};
+use crate::leb::{count_bytes, short_sleb, short_uleb, signed_sum, unsigned_sum};
 use crate::refusal::{Code, Refusal};
 use crate::target::{Form, Order, Size, Target, UnitLength};
 use byteorder::{BigEndian, ByteOrder, LittleEndian};
@@ -194,6 +194,18 @@ impl<'a> Cursor<'a> {
         self.bytes = &self.bytes[n..];
     }
 
+    // The bytes of the LEB128 number at the front.
+    #[inline(always)]
+    fn spelling(&self) -> Result<&'a [u8], Refusal>
+        ensures found { IfOk result (λ s. (leb_len self.now.bytes ≡ Some (length s.now)) × (s.now ≡ take (length s.now) self.now.bytes) × (0 < length s.now)) }
+        ensures endless { IfErr result (λ r. (leb_len self.now.bytes ≡ None) × (r ≡ record { code = Truncated; at = self.now.at })) }
+    {
+        match count_bytes(self.bytes) {
+            Some(len) => Ok(&self.bytes[..len]),
+            None => Err(self.refuse(Code::Truncated)),
+        }
+    }
+
     #[tactic(auto, unfolding(crate::specs::Front::uleb_at))]
     #[inline(always)]
     fn read_uleb(&mut self) -> Result<u64, Refusal>
@@ -203,14 +215,12 @@ impl<'a> Cursor<'a> {
             self.pass(1);
             return Ok(u64::from(byte));
         }
-        match scan_uleb(self.bytes) {
-            UlebScan::Number(value, len) => {
-                self.pass(len);
-                Ok(value)
-            }
-            UlebScan::TooLarge => Err(self.refuse(Code::NumberTooLarge)),
-            UlebScan::Endless => Err(self.refuse(Code::Truncated)),
-        }
+        let spelling = self.spelling()?;
+        let Some(value) = unsigned_sum(spelling) else {
+            return Err(self.refuse(Code::NumberTooLarge));
+        };
+        self.pass(spelling.len());
+        Ok(value)
     }
 
     #[tactic(auto, unfolding(crate::specs::Front::address_at))]
@@ -308,17 +318,15 @@ impl<'a> Cursor<'a> {
             self.pass(1);
             return Ok(u16::from(byte));
         }
-        match scan_uleb(self.bytes) {
-            UlebScan::Number(value, len) => {
-                if value > LAST_REGISTER {
-                    return Err(self.refuse(Code::RegisterTooLarge));
-                }
-                self.pass(len);
-                Ok(value as u16)
-            }
-            UlebScan::TooLarge => Err(self.refuse(Code::NumberTooLarge)),
-            UlebScan::Endless => Err(self.refuse(Code::Truncated)),
+        let spelling = self.spelling()?;
+        let Some(value) = unsigned_sum(spelling) else {
+            return Err(self.refuse(Code::NumberTooLarge));
+        };
+        if value > LAST_REGISTER {
+            return Err(self.refuse(Code::RegisterTooLarge));
         }
+        self.pass(spelling.len());
+        Ok(value as u16)
     }
 
     /// The number of a register, 0 to 65,535, as an unsigned LEB128 number. `RegisterTooLarge` at its first
@@ -342,14 +350,12 @@ impl<'a> Cursor<'a> {
             self.pass(1);
             return Ok(value);
         }
-        match scan_sleb(self.bytes) {
-            SlebScan::Number(value, len) => {
-                self.pass(len);
-                Ok(value)
-            }
-            SlebScan::TooLarge => Err(self.refuse(Code::NumberTooLarge)),
-            SlebScan::Endless => Err(self.refuse(Code::Truncated)),
-        }
+        let spelling = self.spelling()?;
+        let Some(value) = signed_sum(spelling) else {
+            return Err(self.refuse(Code::NumberTooLarge));
+        };
+        self.pass(spelling.len());
+        Ok(value)
     }
 
     /// A signed LEB128 number, of any number of bytes (7.6). `Truncated` at its first byte where it does not

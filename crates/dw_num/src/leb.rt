@@ -1,26 +1,8 @@
 //! The LEB128 number at the front of a slice.
 
-ghost use Rattle.std.specs.Prelude.{length, IfSome, MatchOption, ⊤, ◌≡◌, ℕ, ◌+◌, ◌*◌, ◌<◌, ◌≤◌, ◌^◌};
-ghost use Rattle.dw_num.specs.{Front.leb_len, Leb.{is_negative, signed_groups}, Shortest.turned};
-ghost use Rattle.dw_num.specs.declared.leb.SlebScan.TheVariants as signed;
-ghost use Rattle.dw_num.specs.declared.leb.UlebScan.TheVariants as unsigned;
-ghost use Rattle.dw_num.specs.Inner.Scan.{IsUlebScan, IsSlebScan, IsTotal, IsSignedTotal, turned_from};
-
-/// The unsigned number at the front of a slice, and how many bytes spell it.
-#[derive(Clone, Copy)]
-pub(crate) enum UlebScan {
-    Number(u64, usize),
-    TooLarge,
-    Endless,
-}
-
-/// The signed number at the front of a slice, and how many bytes spell it.
-#[derive(Clone, Copy)]
-pub(crate) enum SlebScan {
-    Number(i64, usize),
-    TooLarge,
-    Endless,
-}
+ghost use Rattle.std.specs.Prelude.{length, take, IfSome, MatchOption, Some, ⊤, ◌≡◌, ℕ, ◌+◌, ◌*◌, ◌<◌, ◌≤◌, ◌^◌};
+ghost use Rattle.dw_num.specs.{Front.leb_len, Leb.{groups, is_negative, signed_groups}, Shortest.turned};
+ghost use Rattle.dw_num.specs.Inner.Scan.{IsTotal, IsSignedTotal, turned_from};
 
 // The last place of a group that 64 bits hold, and the greatest group there.
 const TOP_PLACE: usize = 9;
@@ -52,45 +34,10 @@ fn add_to(total: Option<u64>, place: usize, group: u8) -> Option<u64>
     }
 }
 
-// A number of more than nine bytes.
-fn scan_long_uleb(bytes: &[u8]) -> UlebScan
-    ensures { IsUlebScan bytes.now result }
-{
-    let mut total = Some(0);
-    for (i, byte) in bytes.iter().enumerate() {
-        total = add_to(total, i, *byte % 128);
-        if *byte < 128 {
-            return match total {
-                Some(sum) => UlebScan::Number(sum, i + 1),
-                None => UlebScan::TooLarge,
-            };
-        }
-    }
-    UlebScan::Endless
-}
-
-/// The number at the front. Out of line, since most have one byte.
-#[inline(never)]
-pub(crate) fn scan_uleb(bytes: &[u8]) -> UlebScan
-    ensures { IsUlebScan bytes.now result }
-{
-    let mut total = 0u64;
-    for (i, byte) in bytes.iter().enumerate() {
-        if i > 8 {
-            return scan_long_uleb(bytes);
-        }
-        total += u64::from(*byte % 128) << (7 * i);
-        if *byte < 128 {
-            return UlebScan::Number(total, i + 1);
-        }
-    }
-    UlebScan::Endless
-}
-
 /// The number at the front, where it has one byte, as most have.
 #[inline(always)]
 pub(crate) fn short_uleb(bytes: &[u8]) -> Option<u8>
-    ensures { IfSome result (λ b. IsUlebScan bytes.now (unsigned.Number b 1)) }
+    ensures { IfSome result (λ b. (leb_len bytes.now ≡ Some 1) × (b ≡ groups (take 1 bytes.now)) × (1 ≤ length bytes.now)) }
 {
     match bytes.first() {
         Some(byte) if *byte < 128 => Some(*byte),
@@ -98,8 +45,9 @@ pub(crate) fn short_uleb(bytes: &[u8]) -> Option<u8>
     }
 }
 
-// How many bytes the number at the front has.
-fn count_bytes(bytes: &[u8]) -> Option<usize>
+/// How many bytes the number at the front has. Out of line, since most have one.
+#[inline(never)]
+pub(crate) fn count_bytes(bytes: &[u8]) -> Option<usize>
     ensures found { result ≡ leb_len bytes.now }
     ensures within { MatchOption result ⊤ (λ n. (0 < n) × (n ≤ length bytes.now)) }
 {
@@ -141,8 +89,32 @@ fn has_sign(spelling: &[u8]) -> bool
     spelling[spelling.len() - 1] % 128 >= 64
 }
 
-// The signed number that all the bytes spell, unless it passes 64 bits.
-fn signed_sum(spelling: &[u8]) -> Option<i64>
+// The sum of at most nine groups.
+fn short_sum(spelling: &[u8]) -> u64
+    requires { length spelling.now ≤ 9 }
+    ensures { result ≡ groups spelling.now }
+{
+    let mut total = 0u64;
+    for (i, byte) in spelling.iter().enumerate() {
+        total += u64::from(*byte % 128) << (7 * i);
+    }
+    total
+}
+
+/// The number that all the bytes spell, unless it passes 64 bits.
+#[inline(never)]
+pub(crate) fn unsigned_sum(spelling: &[u8]) -> Option<u64>
+    ensures { IsTotal (groups spelling.now) result }
+{
+    if spelling.len() > 9 {
+        return sum_turned(false, spelling);
+    }
+    Some(short_sum(spelling))
+}
+
+/// The signed number that all the bytes spell, unless it passes 64 bits.
+#[inline(never)]
+pub(crate) fn signed_sum(spelling: &[u8]) -> Option<i64>
     requires { 0 < length spelling.now }
     ensures { IsSignedTotal (signed_groups spelling.now) result }
 {
@@ -160,24 +132,10 @@ fn signed_sum(spelling: &[u8]) -> Option<i64>
     }
 }
 
-// A signed number of any number of bytes.
-#[inline(never)]
-pub(crate) fn scan_sleb(bytes: &[u8]) -> SlebScan
-    ensures { IsSlebScan bytes.now result }
-{
-    let Some(len) = count_bytes(bytes) else {
-        return SlebScan::Endless;
-    };
-    match signed_sum(&bytes[..len]) {
-        Some(value) => SlebScan::Number(value, len),
-        None => SlebScan::TooLarge,
-    }
-}
-
 /// The number at the front, where it has one byte, as most have.
 #[inline(always)]
 pub(crate) fn short_sleb(bytes: &[u8]) -> Option<i64>
-    ensures { IfSome result (λ v. IsSlebScan bytes.now (signed.Number v 1)) }
+    ensures { IfSome result (λ v. (leb_len bytes.now ≡ Some 1) × (v ≡ signed_groups (take 1 bytes.now)) × (1 ≤ length bytes.now)) }
 {
     match bytes.first() {
         Some(byte) if *byte < 64 => Some(i64::from(*byte)),

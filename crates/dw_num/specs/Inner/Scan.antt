@@ -1,28 +1,16 @@
 -- What a scan for the LEB at the front of a list finds.
-use Rattle.std.specs.Prelude.{◌≡◌, ℕ, ◌≤◌, ◌^◌, List, take, length, Option, Some, None, option_map, suc}
+use Rattle.std.specs.Prelude.{◌≡◌, ℕ, ◌≤◌, ◌^◌, List, Option, Some, None, option_map, suc}
 use Rattle.std.specs.{Prelude.{◌+◌, ◌*◌, [], ◌∷◌, Bool, true, false, ℤ, pos, negsuc, FitsSigned}, Int.w64}
-use Rattle.dw_num.specs.{Front.leb_len, Leb.{groups, signed_groups}, Shortest.turned}
-use Rattle.dw_num.specs.declared.leb.{SlebScan.SlebScan, UlebScan.UlebScan, UlebScan.TheVariants.{Number, TooLarge, Endless}}
-use Rattle.dw_num.specs.declared.leb.SlebScan.TheVariants as signed
+use Rattle.dw_num.specs.{Shortest.turned}
 
 -- i more
 abbrev pub further : ℕ → Option ℕ → Option ℕ
 further i o = option_map (λ n. i + n) o
 
-abbrev pub IsUlebScan : List ℕ → UlebScan → Type 0
-IsUlebScan bytes (Number v n) = (leb_len bytes ≡ Some n) × (v ≡ groups (take n bytes)) × (n ≤ length bytes)
-IsUlebScan bytes TooLarge = (n : ℕ) × (leb_len bytes ≡ Some n) × (2 ^ 64 ≤ groups (take n bytes))
-IsUlebScan bytes Endless = leb_len bytes ≡ None
-
 -- a sum so far, unless it passes 64 bits
 abbrev pub IsTotal : ℕ → Option ℕ → Type 0
 IsTotal sum None = 2 ^ 64 ≤ sum
 IsTotal sum (Some total) = total ≡ sum
-
-abbrev pub IsSlebScan : List ℕ → SlebScan → Type 0
-IsSlebScan bytes (signed.Number v n) = (leb_len bytes ≡ Some n) × (v ≡ signed_groups (take n bytes)) × (n ≤ length bytes)
-IsSlebScan bytes signed.TooLarge = (n : ℕ) × (leb_len bytes ≡ Some n) × (FitsSigned w64 (signed_groups (take n bytes)) → ⊥)
-IsSlebScan bytes signed.Endless = leb_len bytes ≡ None
 
 -- the sum over i of these bits of byte i, times 128 ^ (k + i)
 abbrev pub turned_from : Bool → ℕ → List ℕ → ℕ
