@@ -194,18 +194,6 @@ impl<'a> Cursor<'a> {
         self.bytes = &self.bytes[n..];
     }
 
-    // The bytes of the LEB128 number at the front.
-    #[inline(always)]
-    fn spelling(&self) -> Result<&'a [u8], Refusal>
-        ensures found { IfOk result (λ s. (leb_len self.now.bytes ≡ Some (length s.now)) × (s.now ≡ take (length s.now) self.now.bytes) × (0 < length s.now)) }
-        ensures endless { IfErr result (λ r. (leb_len self.now.bytes ≡ None) × (r ≡ record { code = Truncated; at = self.now.at })) }
-    {
-        match count_bytes(self.bytes) {
-            Some(len) => Ok(&self.bytes[..len]),
-            None => Err(self.refuse(Code::Truncated)),
-        }
-    }
-
     #[tactic(auto, unfolding(crate::specs::Front::uleb_at))]
     #[inline(always)]
     fn read_uleb(&mut self) -> Result<u64, Refusal>
@@ -215,11 +203,13 @@ impl<'a> Cursor<'a> {
             self.pass(1);
             return Ok(u64::from(byte));
         }
-        let spelling = self.spelling()?;
-        let Some(value) = unsigned_sum(spelling) else {
+        let Some(len) = count_bytes(self.bytes) else {
+            return Err(self.refuse(Code::Truncated));
+        };
+        let Some(value) = unsigned_sum(&self.bytes[..len]) else {
             return Err(self.refuse(Code::NumberTooLarge));
         };
-        self.pass(spelling.len());
+        self.pass(len);
         Ok(value)
     }
 
@@ -318,14 +308,16 @@ impl<'a> Cursor<'a> {
             self.pass(1);
             return Ok(u16::from(byte));
         }
-        let spelling = self.spelling()?;
-        let Some(value) = unsigned_sum(spelling) else {
+        let Some(len) = count_bytes(self.bytes) else {
+            return Err(self.refuse(Code::Truncated));
+        };
+        let Some(value) = unsigned_sum(&self.bytes[..len]) else {
             return Err(self.refuse(Code::NumberTooLarge));
         };
         if value > LAST_REGISTER {
             return Err(self.refuse(Code::RegisterTooLarge));
         }
-        self.pass(spelling.len());
+        self.pass(len);
         Ok(value as u16)
     }
 
@@ -350,11 +342,13 @@ impl<'a> Cursor<'a> {
             self.pass(1);
             return Ok(value);
         }
-        let spelling = self.spelling()?;
-        let Some(value) = signed_sum(spelling) else {
+        let Some(len) = count_bytes(self.bytes) else {
+            return Err(self.refuse(Code::Truncated));
+        };
+        let Some(value) = signed_sum(&self.bytes[..len]) else {
             return Err(self.refuse(Code::NumberTooLarge));
         };
-        self.pass(spelling.len());
+        self.pass(len);
         Ok(value)
     }
 
