@@ -1,6 +1,6 @@
 //! Operations of DWARF expressions.
 
-ghost use Rattle.std.specs.{Prelude.{◌<◌, ◌^◌, length, FitsSigned}, Int.w64};
+ghost use Rattle.std.specs.Prelude.{◌<◌, ◌^◌, length};
 ghost use Rattle.dw_op.specs.Inner.Ranges.{IsTyped};
 
 /// An operation (2.5.1, 2.6.1, 7.7.1). A branch names the operation that it goes to by its index in the list, which is
@@ -133,12 +133,6 @@ fn is_number(number: u64)
     let _ = number;
 }
 
-fn is_signed(number: i64)
-    ensures { FitsSigned w64 number }
-{
-    let _ = number;
-}
-
 fn is_block(bytes: &[u8])
     ensures { length bytes.now < 2 ^ 64 }
 {
@@ -155,11 +149,8 @@ pub(crate) fn are_typed(op: &Op<'_>)
         Op::Pick(index) => is_byte(index),
         Op::PlusUconst(number) => is_number(number),
         Op::Reg(register) => is_half(register),
-        Op::Breg(register, offset) => {
-            is_half(register);
-            is_signed(offset);
-        }
-        Op::Fbreg(offset) => is_signed(offset),
+        Op::Breg(_register, _offset) => (),
+        Op::Fbreg(_offset) => (),
         Op::Piece(size) => is_number(size),
         Op::DerefSize(size) => is_byte(size),
         Op::BitPiece(size, offset) => {
