@@ -1,11 +1,11 @@
 -- What reading an operation refuses is the fault of its code, or of the first operand field that has one.
 use Rattle.dw_num.specs.declared.target.Size.TheVariants as sizes
 use Rattle.dw_op.specs.Operands as fields
-use Rattle.dw_op.proofs.Words.{◌≡◌, ℕ, ◌+◌, ◌≤◌, true, List, [], ◌∷◌, ◌++◌, Option, Some, None, Result, Ok, Err, refl, sym, ap, subst, ◌∙◌, arith, inl, inr, Width, byte_len, pos, ints, cases_Bool, nat_tests, NotInFrame, Refusal, Order}
-use Rattle.dw_op.proofs.Words.{Target, Size, byte_count, Input, Fixed, FixedSigned, fixed_bytes, Uleb, Sleb, Read, fault, fixed_at, take_at, uleb_at, address_at, ◌>>=◌, fixed_below, byte_again, Op, Profile, Location, ByteCount, One, Plain}
-use Rattle.dw_op.proofs.Words.{Step, Opcode, FieldSpells, OpFormSpells, Field, FieldValue, OpForm, form_at, field_at, past, sized, counted, HasCode, OpFault, opcode_of, code_in_frame, allows, with_op, width_of, signed_of, with_jump}
-use Rattle.dw_op.proofs.{Words.{operands_at, judged, step_at}, Lent.ReadingLaws.{branch_in, form_for, Wide, FormWide, opcode_known, allowed_by, signed_in, sized_in, counted_in, value_at, then_value, step_of, operands_are, form_framed}}
-use Rattle.dw_op.proofs.{ReadingAgain.opcode_behind, ResolvedSteps.plain_allows, Signed.{int_width, count_in, signed_spelled}, Splits.input}
+use Rattle.std.specs.Int.{cast_signed}
+use Rattle.dw_op.proofs.Words.{◌≡◌, ℕ, ◌+◌, ◌≤◌, true, List, [], ◌∷◌, ◌++◌, Option, Some, None, Result, Ok, Err, refl, sym, ap, subst, ◌∙◌, arith, inl, inr, byte_len, pos, ints, cases_Bool, nat_tests, NotInFrame, Refusal, Order, Target, Size}
+use Rattle.dw_op.proofs.Words.{byte_count, Input, Fixed, fixed_bytes, Uleb, Sleb, Read, fault, fixed_at, take_at, uleb_at, address_at, ◌>>=◌, fixed_below, byte_again, Op, Profile, Location, Plain, Step, FieldSpells, OpFormSpells, Field}
+use Rattle.dw_op.proofs.Words.{FieldValue, OpForm, form_of, form_at, field_at, past, sized, counted, HasCode, OpFault, allows, with_op, with_jump, branch_in, signed_in, sized_in, counted_in, value_at, then_value, step_of, judged, step_at}
+use Rattle.dw_op.proofs.{Lent.ReadingLaws.{form_known, allowed_by, form_framed}, ResolvedSteps.plain_allows, Signed.signed_spelled, Splits.input}
 
 -- ---- fields are read as operands are
 
@@ -30,28 +30,22 @@ block_end : (read : Read ℕ) → past (read >>= counted_in) ≡ read >>= counte
 block_end (Err r) = refl
 block_end (Ok n) = refl
 
-width_is : (count : ByteCount) → width_of count ≡ byte_len (int_width count)
-width_is One = refl
-width_is count = refl
-
-value_end : (o : Field) (i : Input) → Wide o → past (value_at o i) ≡ field_at o i
+value_end : (o : Field) (i : Input) → past (value_at o i) ≡ field_at o i
 unfolding address_at
-value_end (fields.fixed n) i w = same_end n i
-value_end (fields.twos w) i same =
-    same_past (fixed_at (width_of (count_in w)) i) (signed_in w) (λ x. refl) ∙ same_end (width_of (count_in w)) i
-    ∙ ap (λ (n : ℕ). past (take_at n i)) (width_is (count_in w) ∙ ap byte_len same)
-value_end fields.address i w = same_end (byte_count i.target.size) i
-value_end fields.size i w = size_end (byte_count i.target.size) i.at (fixed_at 1 i)
-value_end fields.block i w = block_end (uleb_at i)
-value_end o i w = refl
+value_end (fields.fixed n) i = same_end n i
+value_end (fields.twos w) i = same_past (fixed_at (byte_len w) i) (signed_in w) (λ x. refl) ∙ same_end (byte_len w) i
+value_end fields.address i = same_end (byte_count i.target.size) i
+value_end fields.size i = size_end (byte_count i.target.size) i.at (fixed_at 1 i)
+value_end fields.block i = block_end (uleb_at i)
+value_end o i = refl
 
-form_end : (form : OpForm) (i : Input) → FormWide form → past (step_of form i) ≡ form_at form i
-form_end (fields.none made) i w = refl
-form_end (fields.one o make) i w = same_past (value_at o i) (with_op make) (λ x. refl) ∙ value_end o i w
-form_end (fields.two o p make) i w =
-    next_end (value_at o i) (then_value p make) (field_at p) (λ x. same_past (value_at p x.1) (with_op (make x.0)) (λ y. refl) ∙ value_end p x.1 w.1)
-    ∙ ap (λ (r : Result Input Refusal). r >>= field_at p) (value_end o i w.0)
-form_end (fields.branch to) i w = same_past (take_at 2 i) (with_jump (branch_in to) i.target.order) (λ x. refl)
+form_end : (form : OpForm) (i : Input) → past (step_of form i) ≡ form_at form i
+form_end (fields.none made) i = refl
+form_end (fields.one o make) i = same_past (value_at o i) (with_op make) (λ x. refl) ∙ value_end o i
+form_end (fields.two o p make) i =
+    next_end (value_at o i) (then_value p make) (field_at p) (λ x. same_past (value_at p x.1) (with_op (make x.0)) (λ y. refl) ∙ value_end p x.1)
+    ∙ ap (λ (r : Result Input Refusal). r >>= field_at p) (value_end o i)
+form_end (fields.branch to) i = same_past (fixed_at 2 i) (with_jump (branch_in to)) (λ x. refl) ∙ same_end 2 i
 
 -- ---- what a code says is what begins so
 
@@ -70,47 +64,38 @@ one_fits sizes.Eight = omega arith
 
 module _ (t : Target) where
   -- bytes that spell a field, and the fields of a form
-  field_example : (o : Field) → Wide o → (x : FieldValue o) × (b : List ℕ) × FieldSpells t o x b
-  field_example (fields.fixed n) w = (0, fixed_bytes t.order n 0, zeros t.order n)
-  field_example (fields.twos w) same =
-      let z = signed_of (count_in w) 0 in
-      let b = fixed_bytes t.order (width_of (count_in w)) 0 in
-      (z, b, subst (λ (v : Width). FixedSigned t.order v z b) same (signed_spelled (count_in w) t.order 0 b (zeros t.order (width_of (count_in w)))))
-  field_example fields.address w = (0, fixed_bytes t.order (byte_count t.size) 0, zeros t.order (byte_count t.size))
-  field_example fields.unsigned w = (0, 0 ∷ [], zero_uleb)
-  field_example fields.signed w = (pos 0, 0 ∷ [], zero_sleb)
-  field_example fields.register w = (0, 0 ∷ [], (zero_uleb, omega arith))
-  field_example fields.size w = (1, fixed_bytes t.order 1 1, (record { bytes = refl; fits = omega arith }, omega arith, one_fits t.size))
-  field_example fields.block w = ([], 0 ∷ [], record { front = 0 ∷ []; back = []; first = zero_uleb; second = refl; whole = refl })
+  field_example : (o : Field) → (x : FieldValue o) × (b : List ℕ) × FieldSpells t o x b
+  field_example (fields.fixed n) = (0, fixed_bytes t.order n 0, zeros t.order n)
+  field_example (fields.twos w) = (cast_signed w 0, fixed_bytes t.order (byte_len w) 0, signed_spelled w t.order 0 _ (zeros t.order (byte_len w)))
+  field_example fields.address = (0, fixed_bytes t.order (byte_count t.size) 0, zeros t.order (byte_count t.size))
+  field_example fields.unsigned = (0, 0 ∷ [], zero_uleb)
+  field_example fields.signed = (pos 0, 0 ∷ [], zero_sleb)
+  field_example fields.register = (0, 0 ∷ [], (zero_uleb, omega arith))
+  field_example fields.size = (1, fixed_bytes t.order 1 1, (record { bytes = refl; fits = omega arith }, omega arith, one_fits t.size))
+  field_example fields.block = ([], 0 ∷ [], record { front = 0 ∷ []; back = []; first = zero_uleb; second = refl; whole = refl })
 
-  form_example : (form : OpForm) → FormWide form → (op : Op) × (b : List ℕ) × OpFormSpells t form op b
-  form_example (fields.none made) w = (made, [], (refl, refl))
-  form_example (fields.one o make) w = let x = field_example o w in (make x.0, x.1, (x.0, refl, x.2))
-  form_example (fields.two o p make) w =
-      let x = field_example o w.0 in
-      let y = field_example p w.1 in
+  form_example : (form : OpForm) → (op : Op) × (b : List ℕ) × OpFormSpells t form op b
+  form_example (fields.none made) = (made, [], (refl, refl))
+  form_example (fields.one o make) = let x = field_example o in (make x.0, x.1, (x.0, refl, x.2))
+  form_example (fields.two o p make) =
+      let x = field_example o in
+      let y = field_example p in
       (make x.0 y.0, x.1 ++ y.1, (x.0, y.0, refl, record { front = x.1; back = y.1; first = x.2; second = y.2; whole = refl }))
-  form_example (fields.branch to) w = (to 0, 0 ∷ 0 ∷ [], (0, refl, (0, 0, omega arith, omega arith, refl)))
+  form_example (fields.branch to) = (to 0, 0 ∷ 0 ∷ [], (0, refl, (0, 0, omega arith, omega arith, refl)))
 
 -- a code that the profile allows begins an operation of the profile
-begun : (profile : Profile) (t : Target) (code : ℕ) (opcode : Opcode) → opcode_of code ≡ Some opcode → allows profile opcode ≡ true → HasCode profile t code
-begun profile t code opcode is ok =
-    let k = opcode_known t code opcode is in
-    let form = form_for t opcode in
-    let e = form_example t form k.wide in
-    let framed = form_framed t code (code_in_frame opcode) form e.0 e.1 k.makes e.2 in
-    (e.1, (e.0, record { code = code; form = form; rest = e.1; known = k.form; whole = refl; operands = e.2 }, sym (allowed_by profile opcode (Plain e.0) framed ∙ plain_allows profile e.0) ∙ ok))
+begun : (profile : Profile) (t : Target) (code : ℕ) (form : OpForm) → form_of t code ≡ Some form → allows profile form ≡ true → HasCode profile t code
+begun profile t code form is ok =
+    let e = form_example t form in
+    let framed = form_framed t code form e.0 e.1 (form_known t code form is).1 e.2 in
+    (e.1, (e.0, record { code = code; form = form; rest = e.1; known = is; whole = refl; operands = e.2 }, sym (allowed_by profile form (Plain e.0) framed ∙ plain_allows profile e.0) ∙ ok))
 
 -- and back: the code of an operation of the profile is known, and allowed
-abbrev Known : Profile → ℕ → Type 0
-Known profile code = (opcode : Opcode) × (opcode_of code ≡ Some opcode) × (allows profile opcode ≡ true)
-
-known : (profile : Profile) (t : Target) (code : ℕ) → HasCode profile t code → Known profile code
+known : (profile : Profile) (t : Target) (code : ℕ) → HasCode profile t code → (form : OpForm) × (form_of t code ≡ Some form) × (allows profile form ≡ true)
 known profile t code (operands, (op, s, allowed)) =
     let same : s.code ≡ code = let e = s.whole in cc in
-    let o = opcode_behind t s.code s.form s.known in
-    let framed = form_framed t s.code (code_in_frame o.0) (form_for t o.0) op s.rest (opcode_known t s.code o.0 o.1).makes (rw (← o.2) at s.operands) in
-    (o.0, subst (λ (c : ℕ). opcode_of c ≡ Some o.0) same o.1, allowed_by profile o.0 (Plain op) framed ∙ plain_allows profile op ∙ allowed)
+    let framed = form_framed t s.code s.form op s.rest (form_known t s.code s.form s.known).1 s.operands in
+    (s.form, subst (λ (c : ℕ). form_of t c ≡ Some s.form) same s.known, allowed_by profile s.form (Plain op) framed ∙ plain_allows profile op ∙ allowed)
 
 errs : {X : Type 0} (read : Read X) (r : Refusal) → past read ≡ Err r → read ≡ Err r
 errs (Ok x) r e = absurd cc
@@ -121,43 +106,38 @@ module _ (profile : Profile) (t : Target) (at code : ℕ) (operands : List ℕ) 
   behind = input (at + 1) operands t
 
   -- the reading of an operation by its code
-  read_code : step_at profile (input at (code ∷ operands) t) ≡ judged profile at (opcode_of code) behind
+  read_code : step_at profile (input at (code ∷ operands) t) ≡ judged profile at (form_of t code) behind
   unfolding step_at
   read_code = let one = byte_again t code at operands in rw one refl
 
-  operands_end : (opcode : Opcode) → opcode_of code ≡ Some opcode → past (operands_at opcode behind) ≡ form_at (form_for t opcode) behind
-  operands_end opcode is = ap past (operands_are opcode behind) ∙ form_end (form_for t opcode) behind (opcode_known t code opcode is).wide
-
   -- what reading refuses is the operation's fault
   pub stuck_fault : step_at profile (input at (code ∷ operands) t) ≡ Err r → OpFault profile at code behind r
-  stuck_fault e = of (opcode_of code) refl (sym read_code ∙ e)
+  stuck_fault e = of (form_of t code) refl (sym read_code ∙ e)
     where
-      of : (o : Option Opcode) → opcode_of code ≡ o → judged profile at o behind ≡ Err r → OpFault profile at code behind r
+      of : (o : Option OpForm) → form_of t code ≡ o → judged profile at o behind ≡ Err r → OpFault profile at code behind r
       of None is e = inl ((λ h. let k = known Location t code h in absurd cc), cc)
-      of (Some opcode) is e = elim (cases_Bool (allows profile opcode)) [
-        | inl y ↦
-            let e1 : operands_at opcode behind ≡ Err r = rw y at e in
-            inr (inr (begun profile t code opcode is y, form_for t opcode, (opcode_known t code opcode is).form, sym (operands_end opcode is) ∙ ap past e1))
+      of (Some form) is e = elim (cases_Bool (allows profile form)) [
+        | inl y ↦ let e1 : step_of form behind ≡ Err r = rw y at e in inr (inr (begun profile t code form is y, form, is, sym (form_end form behind) ∙ ap past e1))
         | inr n ↦
             let e1 : fault {A = Step × Input} NotInFrame at ≡ Err r = rw n at e in
-            inr (inl (begun Location t code opcode is refl, (λ h. let k = known profile t code h in absurd cc), cc))
+            inr (inl (begun Location t code form is refl, (λ h. let k = known profile t code h in absurd cc), cc))
       ]
 
   -- and the operation's fault is what reading refuses
   pub fault_stuck : OpFault profile at code behind r → step_at profile (input at (code ∷ operands) t) ≡ Err r
-  fault_stuck h = read_code ∙ of (opcode_of code) refl h
+  fault_stuck h = read_code ∙ of (form_of t code) refl h
     where
-      of : (o : Option Opcode) → opcode_of code ≡ o → OpFault profile at code behind r → judged profile at o behind ≡ Err r
+      of : (o : Option OpForm) → form_of t code ≡ o → OpFault profile at code behind r → judged profile at o behind ≡ Err r
       of None is (inl u) = ap (λ (x : Refusal). Err x) (sym u.1)
       of None is (inr (inl u)) = let k = known Location t code u.0 in absurd cc
-      of None is (inr (inr u)) = let k = known profile t code u.0 in absurd cc
-      of (Some opcode) is (inl u) = absurd (u.0 (begun Location t code opcode is refl))
-      of (Some opcode) is (inr (inl u)) = elim (cases_Bool (allows profile opcode)) [
-        | inl y ↦ absurd (u.1 (begun profile t code opcode is y))
+      of None is (inr (inr u)) = absurd cc
+      of (Some form) is (inl u) = absurd (u.0 (begun Location t code form is refl))
+      of (Some form) is (inr (inl u)) = elim (cases_Bool (allows profile form)) [
+        | inl y ↦ absurd (u.1 (begun profile t code form is y))
         | inr n ↦ rw n (ap (λ (x : Refusal). Err x) (sym u.2))
       ]
-      of (Some opcode) is (inr (inr u)) =
+      of (Some form) is (inr (inr u)) =
           let k = known profile t code u.0 in
-          let same : k.0 ≡ opcode = cc in
-          let form : form_for t opcode ≡ u.1 = let f = (opcode_known t code opcode is).form in cc in
-          rw (rw same at k.2) (errs (operands_at opcode behind) r (operands_end opcode is ∙ ap (λ (x : OpForm). form_at x behind) form ∙ u.3))
+          let same : k.0 ≡ form = cc in
+          let other : form ≡ u.1 = cc in
+          rw (rw same at k.2) (errs (step_of form behind) r (form_end form behind ∙ ap (λ (x : OpForm). form_at x behind) other ∙ u.3))

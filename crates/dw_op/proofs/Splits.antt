@@ -1,7 +1,7 @@
 -- A walk over a block, and the parts that it reads.
 use Rattle.dw_op.specs.Inner.Walks.{ended, put, on_read, on_left, walked_by}
 use Rattle.dw_op.proofs.Words.{◌≡◌, ℕ, zero, suc, ◌+◌, ◌-◌, ◌<◌, ◌≤◌, true, List, [], ◌∷◌, ◌++◌, length, Option, Some, None, Ok, Err, refl, sym, ap, subst, ◌∙◌, append_assoc, arith, length-append, nil_from_length, bind_ok, cond_ok}
-use Rattle.dw_op.proofs.Words.{Input, AreBytes, Takes, Read, fixed_at, done, taken_bytes, Profile, Frame, Location, Opcode, Step, judged, operands_at, after_code, opcode_of, code_in_frame, joined, step_at, StepSpells, step_allowed}
+use Rattle.dw_op.proofs.Words.{Input, AreBytes, Takes, Read, fixed_at, done, taken_bytes, Profile, Frame, Location, OpForm, Step, judged, step_of, after_code, form_of, form_in_frame, joined, step_at, StepSpells, step_allowed}
 use Rattle.dw_op.proofs.{Words.{NotInFrame, Refusal, Target, PlacedStep, item_of, Walk, walk}, Lent.ReadingLaws.step_found, ReadingAgain.step_again}
 
 abbrev after_item : ℕ → Step → Walk → Walk
@@ -191,14 +191,14 @@ walk_end profile i e = ap (λ (l : List ℕ). walk_by profile (length l) (input 
 
 -- ---- what a profile reads is read as a location description
 
-judged_located : (profile : Profile) (at : ℕ) (o : Option Opcode) (i : Input) (x : Step × Input) → judged profile at o i ≡ done x → judged Location at o i ≡ done x
+judged_located : (profile : Profile) (at : ℕ) (o : Option OpForm) (i : Input) (x : Step × Input) → judged profile at o i ≡ done x → judged Location at o i ≡ done x
 judged_located Location at o i x e = e
 judged_located Frame at None i x e = e
-judged_located Frame at (Some opcode) i x e = (cond_ok (code_in_frame opcode) (operands_at opcode i) (record { code = NotInFrame; at = at }) x e).1
+judged_located Frame at (Some form) i x e = (cond_ok (form_in_frame form) (step_of form i) (record { code = NotInFrame; at = at }) x e).1
 
 step_located : (profile : Profile) (i : Input) (x : Step × Input) → step_at profile i ≡ done x → step_at Location i ≡ done x
 unfolding step_at
-step_located profile i x e = let p = bind_ok (fixed_at 1 i) (after_code profile i.at) x e in rw p.1 (judged_located profile i.at (opcode_of p.0.0) p.0.1 x p.2)
+step_located profile i x e = let p = bind_ok (fixed_at 1 i) (after_code profile i.at) x e in rw p.1 (judged_located profile i.at (form_of p.0.1.target p.0.0) p.0.1 x p.2)
 
 abbrev read_by : Profile → ℕ → ℕ → List ℕ → Read Step → Walk
 read_by profile n at l r = on_left l (on_read r (λ e. ended (Some e)) (λ x. after_item at x.0 (walk_by profile n x.1)))

@@ -13,17 +13,17 @@ pub use Rattle.dw_num.proofs.Lent.FixedLaws.{address_found, byte_found, fixed_ag
 pub use Rattle.dw_num.proofs.Lent.{LebLaws.{done, ok_is, register_again, register_found, uleb_again, uleb_found}, Refusals.refuses_by, Shortest.{groups_below, leb_some, shortest_sleb-least}}
 pub use Rattle.dw_num.proofs.Lent.Shortest.{shortest_sleb-most, shortest_sleb-only, shortest_sleb-spells, shortest_uleb-least, shortest_uleb-most, shortest_uleb-only, shortest_uleb-spells, turned_within}
 pub use Rattle.dw_num.proofs.Lent.{SlebLaws.{sleb_again, sleb_found}, Steps.{Again, Takes-then, address_again, again-then, bind_ok, byte_again, cond_ok, take_again, take_found}}
-unfoldable pub use Rattle.dw_op.specs.{Operands.form_of, Inner.Accepted.{left_of, ops_of}, Inner.FrontOp.{opcode_of, operands_at, plain_op, step_at}}
+unfoldable pub use Rattle.dw_op.specs.{Operands.form_of, Inner.Accepted.{left_of, ops_of}, Inner.FrontOp.step_at}
 unfoldable pub use Rattle.dw_op.specs.Inner.{LeastBlock.least_block, LeastOf.{least_bytes, least_spelling}, Walk.{decode_at, walk}}
 pub use Rattle.dw_op.specs.{Block.{Block, Displaced, EachPart, FrameBlock, Stands, branch_target, displacement, joined, start}, Expression.{Expression, bare}, Faults.{BlockFault, HasCode, IsBlock, IsBranch, IsPart, Leads}}
 pub use Rattle.dw_op.specs.{Faults.{OpFault, ReadingFault, op_allowed}, Least.{AtMost, Least, LeastBlock}, LeastBlock.{IsAppended, IsEncodeError, IsFar, TooFar}, OpSpells.{AnyTwo, Both, Code, FieldSpells, OpFormSpells, OpSpells}}
 pub use Rattle.dw_op.specs.Operands.{Field, FieldValue, OpForm, block, branch, constant, counted, field_at, fixed, form_at, implicit, in_range, look_up, modulo, natural, none, op_form_table, past, register, signed}
 pub use Rattle.dw_op.specs.{Operands.{size, sized, two, twos, unsigned}, Profile.{InFrame, in_frame}, Ranges.{AllInRange, FirstBadOperand, InRange, TargetWithin}, declared.least.Spelling.Spelling, declared.op.Op.Op}
-pub use Rattle.dw_op.specs.declared.{op.Op.TheVariants.{Addr, BitPiece, Bra, Breg, Const, DerefSize, Dup, Fbreg, Implicit, Nop, Pick, Piece, PlusUconst, Reg, Skip, StackValue}, operation.Branch.Branch, operation.ByteCount.ByteCount}
-pub use Rattle.dw_op.specs.declared.{operation.ByteCount.TheVariants.{One, Two}, operation.Opcode.Opcode, operation.Step.Step, operation.Step.TheVariants.{Jump, Plain}, profile.Profile.Profile, profile.Profile.TheVariants.{Frame, Location}}
+pub use Rattle.dw_op.specs.declared.{op.Op.TheVariants.{Addr, BitPiece, Bra, Breg, Const, DerefSize, Dup, Fbreg, Implicit, Nop, Pick, Piece, PlusUconst, Reg, Skip, StackValue}, operation.Branch.Branch}
+pub use Rattle.dw_op.specs.declared.{operation.Step.Step, operation.Step.TheVariants.{Jump, Plain}, profile.Profile.Profile, profile.Profile.TheVariants.{Frame, Location}}
 pub use Rattle.dw_op.specs.{declared.walk.Measure.Measure, declared.walk.Measure.TheVariants.{LeastBytes, Operations}, declared.walk.Walker.Walker, Inner.Accepted.{IsAccepted, IsDecoded, StepsSo, ok_ops}, Inner.ByOperation.{Alone, Const1s, Const1u}}
 pub use Rattle.dw_op.specs.Inner.{ByOperation.{Const2s, Const2u, Const4s, Const4u, Const8s, Const8u, ConstForm, Consts, Constu, Counted, IsSpelled, Lit, Unsigned, Written}, Codes.alone_code, Equality.{expression_lines, line, lines_fed}}
-pub use Rattle.dw_op.specs.Inner.{Equality.{op_line, same_expression, sign_of, size_of, target_line}, FrontOp.{after_code, allows, alone, bare_step, code_in_frame, judged, operand_table, or_else, plain_table, signed_of, size_in, width_of}}
-pub use Rattle.dw_op.specs.Inner.{FrontOp.{with_jump, with_op}, LeastBlock.{AreStarts, BranchFits, EachFits, bits_of, blank_parts, least_from, least_len}, LeastOf.{operand_bytes, register_form, register_offset, spelling, spelling_bytes}}
+pub use Rattle.dw_op.specs.Inner.{Equality.{op_line, same_expression, sign_of, size_of, target_line}, FrontOp.{after_code, allows, bare_step, blank, branch_in, counted_in, form_in_frame, judged, signed_in, sized_in}}
+pub use Rattle.dw_op.specs.Inner.{FrontOp.{step_of, then_value, value_at, with_jump, with_op}, LeastBlock.{AreStarts, BranchFits, EachFits, bits_of, blank_parts, least_from, least_len}, LeastOf.{operand_bytes, register_form, register_offset, spelling, spelling_bytes}}
 pub use Rattle.dw_op.specs.Inner.{Steps.{StepSpells, branch_code, step_allowed, step_in_frame}, Sums.{IsNear, bits_to, step_length, sum_in, weight}, Walk.{PlacedStep, Walk, block_input, branch_to, end_of, find_at, goes_to}}
 pub use Rattle.dw_op.specs.Inner.{Walk.{index_at, index_in, item_of, op_of, passed, plus, put_first, resolve, unless}, Windows.{AreMarks, IsMark, Shifted, SoughtSo, WalkSo, Walked, WalkedBad, Walks, Within, block_of}}

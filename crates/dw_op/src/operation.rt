@@ -1,14 +1,14 @@
 //! The operation at the front of what is left of a block.
 
-ghost use Rattle.std.specs.Prelude.{◌≡◌, ◌+◌, ◌%◌, ◌^◌, ◌<◌, ◌≤◌, length};
-ghost use Rattle.dw_num.specs.{Fixed.{IsWidth, fixed_number}, Target.address_limit};
+ghost use Rattle.std.specs.{Prelude.{◌≡◌, ◌+◌, ◌%◌, ◌^◌, ◌<◌}, Int.{byte_len, cast_signed}};
+ghost use Rattle.dw_num.specs.{Fixed.IsWidth, Target.address_limit, declared.target.Target.Target};
 ghost use Rattle.dw_num.specs.Inner.Front.{Gives};
-ghost use Rattle.dw_op.specs.Operands.{modulo};
-ghost use Rattle.dw_op.specs.Inner.FrontOp.{bare_step, width_of, half_of, signed_of, plain_op, opcode_of, allows, operands_at, deref_size_at, step_at};
+ghost use Rattle.dw_op.specs.Operands.{modulo, form_of, one, size};
+ghost use Rattle.dw_op.specs.{declared.op.Op.TheVariants.DerefSize, Inner.FrontOp.{bare_step, int_width, form_for, said, allows, jump_at, step_of, step_at}};
 
 use crate::op::Op;
 use crate::profile::{Profile, is_in_frame};
-use dw_num::{Code, Cursor, Order, Refusal, Size};
+use dw_num::{Code, Cursor, Refusal, Size};
 
 /// Which of the two branches.
 #[derive(Clone, Copy, Debug)]
@@ -44,7 +44,8 @@ pub(crate) enum Opcode<'a> {
     Sconst,
     Pick,
     PlusUconst,
-    Jump(Branch),
+    Bra,
+    Skip,
     Breg(u16),
     LongReg,
     LongBreg,
@@ -55,54 +56,14 @@ pub(crate) enum Opcode<'a> {
     Implicit,
 }
 
-// The operation of a code without operands.
-#[tactic(auto, unfolding(crate::specs::Inner::FrontOp::plain_op))]
-fn plain<'a>(code: u8) -> Option<Op<'a>>
-    ensures { result ≡ plain_op code }
-{
-    let op = match code {
-        0x06 => Op::Deref,
-        0x12 => Op::Dup,
-        0x13 => Op::Drop,
-        0x14 => Op::Over,
-        0x16 => Op::Swap,
-        0x17 => Op::Rot,
-        0x19 => Op::Abs,
-        0x1a => Op::And,
-        0x1b => Op::Div,
-        0x1c => Op::Minus,
-        0x1d => Op::Mod,
-        0x1e => Op::Mul,
-        0x1f => Op::Neg,
-        0x20 => Op::Not,
-        0x21 => Op::Or,
-        0x22 => Op::Plus,
-        0x24 => Op::Shl,
-        0x25 => Op::Shr,
-        0x26 => Op::Shra,
-        0x27 => Op::Xor,
-        0x29 => Op::Eq,
-        0x2a => Op::Ge,
-        0x2b => Op::Gt,
-        0x2c => Op::Le,
-        0x2d => Op::Lt,
-        0x2e => Op::Ne,
-        0x96 => Op::Nop,
-        0x97 => Op::PushObjectAddress,
-        0x9c => Op::CallFrameCfa,
-        0x9f => Op::StackValue,
-        _ => return None,
-    };
-    Some(op)
-}
-
 // What a code says: DWARF 5, 7.7.1.
-#[tactic(auto, unfolding(crate::specs::Inner::FrontOp::opcode_of))]
+#[tactic(auto, unfolding(crate::specs::Operands::form_of))]
 fn known_opcode<'a>(code: u8) -> Option<Opcode<'a>>
-    ensures { result ≡ opcode_of code }
+    ensures { (t : Target) → said t result ≡ form_of t code }
 {
     match code {
         0x03 => Some(Opcode::Addr),
+        0x06 => Some(Opcode::Alone(Op::Deref)),
         0x08 => Some(Opcode::Unsigned(ByteCount::One)),
         0x09 => Some(Opcode::Signed(ByteCount::One)),
         0x0a => Some(Opcode::Unsigned(ByteCount::Two)),
@@ -113,27 +74,57 @@ fn known_opcode<'a>(code: u8) -> Option<Opcode<'a>>
         0x0f => Some(Opcode::Signed(ByteCount::Eight)),
         0x10 => Some(Opcode::Uconst),
         0x11 => Some(Opcode::Sconst),
+        0x12 => Some(Opcode::Alone(Op::Dup)),
+        0x13 => Some(Opcode::Alone(Op::Drop)),
+        0x14 => Some(Opcode::Alone(Op::Over)),
         0x15 => Some(Opcode::Pick),
+        0x16 => Some(Opcode::Alone(Op::Swap)),
+        0x17 => Some(Opcode::Alone(Op::Rot)),
+        0x19 => Some(Opcode::Alone(Op::Abs)),
+        0x1a => Some(Opcode::Alone(Op::And)),
+        0x1b => Some(Opcode::Alone(Op::Div)),
+        0x1c => Some(Opcode::Alone(Op::Minus)),
+        0x1d => Some(Opcode::Alone(Op::Mod)),
+        0x1e => Some(Opcode::Alone(Op::Mul)),
+        0x1f => Some(Opcode::Alone(Op::Neg)),
+        0x20 => Some(Opcode::Alone(Op::Not)),
+        0x21 => Some(Opcode::Alone(Op::Or)),
+        0x22 => Some(Opcode::Alone(Op::Plus)),
         0x23 => Some(Opcode::PlusUconst),
-        0x28 => Some(Opcode::Jump(Branch::Bra)),
-        0x2f => Some(Opcode::Jump(Branch::Skip)),
+        0x24 => Some(Opcode::Alone(Op::Shl)),
+        0x25 => Some(Opcode::Alone(Op::Shr)),
+        0x26 => Some(Opcode::Alone(Op::Shra)),
+        0x27 => Some(Opcode::Alone(Op::Xor)),
+        0x28 => Some(Opcode::Bra),
+        0x29 => Some(Opcode::Alone(Op::Eq)),
+        0x2a => Some(Opcode::Alone(Op::Ge)),
+        0x2b => Some(Opcode::Alone(Op::Gt)),
+        0x2c => Some(Opcode::Alone(Op::Le)),
+        0x2d => Some(Opcode::Alone(Op::Lt)),
+        0x2e => Some(Opcode::Alone(Op::Ne)),
+        0x2f => Some(Opcode::Skip),
+        0x30..=0x4f => Some(Opcode::Alone(Op::Const(u64::from(code - 0x30)))),
+        0x50..=0x6f => Some(Opcode::Alone(Op::Reg(u16::from(code - 0x50)))),
+        0x70..=0x8f => Some(Opcode::Breg(u16::from(code - 0x70))),
         0x90 => Some(Opcode::LongReg),
         0x91 => Some(Opcode::Fbreg),
         0x92 => Some(Opcode::LongBreg),
         0x93 => Some(Opcode::Piece),
         0x94 => Some(Opcode::DerefSize),
+        0x96 => Some(Opcode::Alone(Op::Nop)),
+        0x97 => Some(Opcode::Alone(Op::PushObjectAddress)),
+        0x9c => Some(Opcode::Alone(Op::CallFrameCfa)),
         0x9d => Some(Opcode::BitPiece),
         0x9e => Some(Opcode::Implicit),
-        0x30..=0x4f => Some(Opcode::Alone(Op::Const(u64::from(code - 0x30)))),
-        0x50..=0x6f => Some(Opcode::Alone(Op::Reg(u16::from(code - 0x50)))),
-        0x70..=0x8f => Some(Opcode::Breg(u16::from(code - 0x70))),
-        _ => Some(Opcode::Alone(plain(code)?)),
+        0x9f => Some(Opcode::Alone(Op::StackValue)),
+        _ => None,
     }
 }
 
 // Whether a profile takes the operations of a code.
+#[tactic(auto, using(crate::proofs::Lent::ReadingLaws::bare_in_frame))]
 fn is_taken(profile: Profile, opcode: Opcode<'_>) -> bool
-    ensures { result ≡ allows profile opcode.entry }
+    ensures { (t : Target) → result ≡ allows profile (form_for t opcode.entry) }
 {
     match profile {
         Profile::Location => true,
@@ -176,7 +167,7 @@ fn wrapped(size: Size, number: i64) -> u64
 }
 
 fn width(count: ByteCount) -> usize
-    ensures value { result ≡ width_of count }
+    ensures value { result ≡ byte_len (int_width count) }
     ensures known { IsWidth result }
 {
     match count {
@@ -187,42 +178,16 @@ fn width(count: ByteCount) -> usize
     }
 }
 
-// The first number whose sign bit is set.
-fn half(count: ByteCount) -> u64
-    ensures value { result ≡ half_of count }
-    ensures some { 0 < result }
-    ensures most { result ≤ 2 ^ 63 }
-{
-    match count {
-        ByteCount::One => 0x80,
-        ByteCount::Two => 0x8000,
-        ByteCount::Four => 0x8000_0000,
-        ByteCount::Eight => 0x8000_0000_0000_0000,
-    }
-}
-
 // A number of this width as two's complement.
 fn signed(count: ByteCount, number: u64) -> i64
-    ensures { result ≡ signed_of count number }
+    requires { number < 256 ^ byte_len (int_width count) }
+    ensures { result ≡ cast_signed (int_width count) number }
 {
-    let half = half(count);
-    if number < half {
-        number as i64
-    } else {
-        -1 - ((half - 1 + half).saturating_sub(number) as i64)
-    }
-}
-
-// The number that two bytes spell.
-fn two_bytes(order: Order, bytes: &[u8]) -> u16
-    requires { length bytes.now ≡ 2 }
-    ensures { result ≡ fixed_number order 2 bytes.now }
-{
-    let first = u16::from(bytes[0]);
-    let second = u16::from(bytes[1]);
-    match order {
-        Order::Little => first + 256 * second,
-        Order::Big => 256 * first + second,
+    match count {
+        ByteCount::One => i64::from((number as u8).cast_signed()),
+        ByteCount::Two => i64::from((number as u16).cast_signed()),
+        ByteCount::Four => i64::from((number as u32).cast_signed()),
+        ByteCount::Eight => number.cast_signed(),
     }
 }
 
@@ -230,7 +195,7 @@ fn two_bytes(order: Order, bytes: &[u8]) -> u16
 
 // A size is from 1 to that of an address.
 fn read_deref_size<'a>(cursor: &mut Cursor<'a>) -> Result<Step<'a>, Refusal>
-    ensures { Gives bare_step result (deref_size_at cursor.old) cursor.new }
+    ensures { Gives bare_step result (step_of (one size DerefSize) cursor.old) cursor.new }
 {
     let at = cursor.at();
     let most = cursor.target().size.byte_count();
@@ -245,12 +210,17 @@ fn read_deref_size<'a>(cursor: &mut Cursor<'a>) -> Result<Step<'a>, Refusal>
     }
 }
 
-#[tactic(auto, unfolding(crate::specs::Inner::FrontOp::operands_at))]
+// A branch, with the two bytes of its displacement.
+fn read_jump<'a>(cursor: &mut Cursor<'a>, branch: Branch) -> Result<Step<'a>, Refusal>
+    ensures { Gives bare_step result (jump_at branch cursor.old) cursor.new }
+{
+    Ok(Step::Jump(branch, cursor.fixed(2)? as u16))
+}
+
 fn operands<'a>(cursor: &mut Cursor<'a>, opcode: Opcode<'a>) -> Result<Step<'a>, Refusal>
-    ensures { Gives bare_step result (operands_at opcode.entry cursor.old) cursor.new }
+    ensures { Gives bare_step result (step_of (form_for cursor.old.target opcode.entry) cursor.old) cursor.new }
 {
     let size = cursor.target().size;
-    let order = cursor.target().order;
     match opcode {
         Opcode::Alone(op) => Ok(Step::Plain(op)),
         Opcode::Addr => Ok(Step::Plain(Op::Addr(cursor.address()?))),
@@ -266,7 +236,8 @@ fn operands<'a>(cursor: &mut Cursor<'a>, opcode: Opcode<'a>) -> Result<Step<'a>,
         Opcode::Sconst => Ok(Step::Plain(Op::Const(wrapped(size, cursor.sleb()?)))),
         Opcode::Pick => Ok(Step::Plain(Op::Pick(cursor.byte()?))),
         Opcode::PlusUconst => Ok(Step::Plain(Op::PlusUconst(cursor.uleb()?))),
-        Opcode::Jump(branch) => Ok(Step::Jump(branch, two_bytes(order, cursor.take(2)?))),
+        Opcode::Bra => read_jump(cursor, Branch::Bra),
+        Opcode::Skip => read_jump(cursor, Branch::Skip),
         Opcode::Breg(register) => Ok(Step::Plain(Op::Breg(register, cursor.sleb()?))),
         Opcode::LongReg => Ok(Step::Plain(Op::Reg(cursor.register()?))),
         Opcode::LongBreg => {

@@ -1,6 +1,6 @@
 -- An operation comes back from its line, so that equal lines are of equal operations.
-use Rattle.dw_op.proofs.Words.{◌≡◌, ℕ, Bool, true, false, List, [], ◌∷◌, map, Option, Some, None, refl, sym, ap, ◌∙◌, ℤ, pos, negsuc, nat_eq, if◌then◌else◌, IsTrue, ◌↔◌, Target, Size, Four, Eight, Order, Little, Big, Op, Addr, Const, Pick}
-use Rattle.dw_op.proofs.Words.{PlusUconst, Bra, Skip, Reg, Breg, Fbreg, Piece, DerefSize, Nop, BitPiece, Implicit, look_up, plain_table, Expression, bare, FrameBlock, in_frame, InFrame, sign_of, size_of, line, op_line, target_line}
+use Rattle.dw_op.proofs.Words.{◌≡◌, ℕ, Bool, true, false, List, [], ◌∷◌, map, Option, Some, refl, sym, ap, ◌∙◌, ℤ, pos, negsuc, nat_eq, if◌then◌else◌, IsTrue, ◌↔◌, Target, Size, Four, Eight, Order, Little, Big, Op, Addr, Const, Pick}
+use Rattle.dw_op.proofs.Words.{PlusUconst, Bra, Skip, Reg, Breg, Fbreg, Piece, DerefSize, Nop, BitPiece, Implicit, look_up, OpForm, none, op_form_table, Expression, bare, FrameBlock, in_frame, InFrame, sign_of, size_of, line, op_line, target_line}
 use Rattle.dw_op.proofs.Words.{expression_lines, same_expression, suc, ◌<◌, length, get_or, arith, Decides}
 use Rattle.std.specs.Bool.{one_answer}
 use Rattle.std.proofs.Math.ListN.{get_or-map}
@@ -10,12 +10,13 @@ use Rattle.dw_op.specs.Inner.EqualityLaws.{lines_decide}
 abbrev pub signed_with : ℕ → ℕ → ℤ
 signed_with sign number = if nat_eq sign 0 then pos number else negsuc number
 
-abbrev or_this : Option Op → Op → Op
-or_this None op = op
-or_this (Some alone) op = alone
+-- the operation of a form without fields
+abbrev or_this : Option OpForm → Op → Op
+or_this (Some (none alone)) op = alone
+or_this form op = op
 
 abbrev op_with : List ℕ → Op
-op_with (kind ∷ first ∷ second ∷ sign ∷ number ∷ bytes) = or_this (look_up plain_table kind) (
+op_with (kind ∷ first ∷ second ∷ sign ∷ number ∷ bytes) = or_this (look_up (op_form_table (record { size = Four; order = Little })) kind) (
     if nat_eq kind 0x03 then Addr first else
     if nat_eq kind 0x08 then Const first else
     if nat_eq kind 0x15 then Pick first else

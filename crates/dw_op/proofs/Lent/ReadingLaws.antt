@@ -1,15 +1,11 @@
 -- What is read is spelled so.
-use Rattle.dw_op.proofs.Words.{◌≡◌, ℕ, zero, suc, ◌-◌, ◌%◌, ◌<◌, ◌≤◌, Bool, true, false, eqb, List, [], ◌∷◌, ◌++◌, length, Option, Some, None, Result, Ok, Err, refl, sym, ap, subst, ◌∙◌, arith, inl, inr, ℤ, nat_le, ◌&&◌, if◌then◌else◌}
-use Rattle.dw_op.proofs.Words.{Width, w8, w16, w32, w64, nat_tests, cases_Bool, eqb-true, le-leb, lt-ltb, le-ltb, bind_ok, cond_ok, Takes-then, take_found, BadDerefSize, NotInFrame, Refusal, Target, Size, byte_count, address_limit, Input}
-use Rattle.dw_op.proofs.Words.{AreBytes, Takes, IsWidth, Fixed, FixedSigned, fixed_number, Uleb, Read, fault, fixed_at, take_at, uleb_at, sleb_at, address_at, ◌>>=◌, register_at, done, ok_is, uleb_found, register_found, sleb_found}
-use Rattle.dw_op.proofs.Words.{taken_bytes, fixed_found, address_found, byte_found, is_fixed, Op, Addr, Const, Pick, PlusUconst, Reg, Breg, Fbreg, Piece, DerefSize, BitPiece, Profile, Frame, Location, Branch, Step, Plain, Jump, One, Two}
-use Rattle.dw_op.proofs.Words.{Opcode, bare, branch_target, in_frame, FieldSpells, OpFormSpells, StepSpells, branch_code, step_in_frame, step_allowed, Field, FieldValue, OpForm, op_form_table, form_of, natural, constant, look_up, in_range}
-use Rattle.dw_op.proofs.Words.{implicit, plain_table, plain_op, operand_table, alone, or_else, opcode_of, code_in_frame, allows, with_op, width_of, signed_of, with_jump, size_in, operands_at, judged, after_code, step_at}
-use Rattle.dw_op.specs.declared.operation.{Branch.TheVariants.{Bra, Skip}, ByteCount.TheVariants.{Four, Eight}}
-use Rattle.dw_op.proofs.Signed.{int_width, count_in, count_found, signed_spelled}
+use Rattle.std.specs.Int.{cast_signed}
+use Rattle.dw_op.proofs.Words.{◌≡◌, ℕ, ◌-◌, ◌%◌, ◌<◌, ◌≤◌, Bool, true, false, eqb, List, [], ◌∷◌, ◌++◌, length, Option, Some, None, refl, sym, ap, subst, ◌∙◌, arith, inl, inr, ℤ, nat_le, ◌&&◌, byte_len, nat_tests, cases_Bool, eqb-true, le-leb, lt-ltb}
+use Rattle.dw_op.proofs.Words.{le-ltb, bind_ok, cond_ok, Takes-then, take_found, BadDerefSize, NotInFrame, Target, Size, byte_count, address_limit, Input, AreBytes, Takes, IsWidth, Fixed, FixedSigned, Uleb, fixed_at, uleb_at}
+use Rattle.dw_op.proofs.Words.{done, ok_is, uleb_found, register_found, sleb_found, taken_bytes, fixed_found, address_found, byte_found, Op, Const, Reg, Breg, Implicit, Profile, Frame, Location, Step, Plain, Jump, bare, branch_target, in_frame}
+use Rattle.dw_op.proofs.Words.{FieldSpells, OpFormSpells, StepSpells, branch_code, step_in_frame, step_allowed, Field, FieldValue, OpForm, op_form_table, form_of, look_up, in_range, blank, form_in_frame, allows, signed_in, sized_in, counted_in}
+use Rattle.dw_op.proofs.{Words.{value_at, with_op, with_jump, then_value, branch_in, step_of, judged, after_code, step_at}, Signed.signed_spelled}
 use Rattle.dw_num.specs.declared.target.Size.TheVariants as sizes
-use Rattle.dw_op.specs.declared.op.Op.TheVariants as ops
-use Rattle.dw_op.specs.declared.operation.Opcode.TheVariants as opcodes
 use Rattle.dw_op.specs.Operands as fields
 
 -- ---- tables
@@ -44,44 +40,26 @@ within low high code from to = rw (le-leb low code from, lt-ltb code high to) re
 pub above : (low high code : ℕ) → low ≤ high → high ≤ code → in_range low high code ≡ false
 above low high code le from = rw (le-leb low code (omega arith), le-ltb code high from) refl
 
+-- the codes of DW_OP_breg0 to DW_OP_breg31
+pub breg_form : (t : Target) (code : ℕ) → 0x70 ≤ code → code < 0x90 → form_of t code ≡ Some (fields.one fields.signed (Breg (code - 0x70)))
+unfolding form_of
+breg_form t code from to = rw (above 0x30 0x50 code (omega arith) (omega arith), above 0x50 0x70 code (omega arith) (omega arith), within 0x70 0x90 code from to) refl
+
 pub small_const : (s : Size) (n : ℕ) → n < 256 → n ≡ n % address_limit s
 small_const sizes.Four n lt = omega arith
 small_const sizes.Eight n lt = omega arith
 
--- ---- the form of what a code says
+-- ---- what is known of the forms of the table
 
-abbrev branch_of : Op → Branch
-branch_of (ops.Bra i) = Bra
-branch_of op = Skip
+-- where a block lies does not matter to a frame
+pub bare_in_frame : (op : Op) → in_frame (bare op) ≡ in_frame op
+bare_in_frame (Implicit b) = refl
+bare_in_frame op = refl
 
--- the branch that a form makes
-abbrev pub branch_in : (ℕ → Op) → Branch
-branch_in to = branch_of (to 0)
-
-abbrev pub form_for : Target → Opcode → OpForm
-form_for t (opcodes.Alone op) = fields.none (bare op)
-form_for t opcodes.Addr = fields.one fields.address Addr
-form_for t (opcodes.Unsigned count) = fields.one (fields.fixed (width_of count)) (natural t)
-form_for t (opcodes.Signed count) = fields.one (fields.twos (int_width count)) (constant t)
-form_for t opcodes.Uconst = fields.one fields.unsigned (natural t)
-form_for t opcodes.Sconst = fields.one fields.signed (constant t)
-form_for t opcodes.Pick = fields.one (fields.fixed 1) Pick
-form_for t opcodes.PlusUconst = fields.one fields.unsigned PlusUconst
-form_for t (opcodes.Jump Bra) = fields.branch ops.Bra
-form_for t (opcodes.Jump Skip) = fields.branch ops.Skip
-form_for t (opcodes.Breg r) = fields.one fields.signed (Breg r)
-form_for t opcodes.LongReg = fields.one fields.register Reg
-form_for t opcodes.LongBreg = fields.two fields.register fields.signed Breg
-form_for t opcodes.Fbreg = fields.one fields.signed Fbreg
-form_for t opcodes.Piece = fields.one fields.unsigned Piece
-form_for t opcodes.DerefSize = fields.one fields.size DerefSize
-form_for t opcodes.BitPiece = fields.two fields.unsigned fields.unsigned BitPiece
-form_for t opcodes.Implicit = fields.one fields.block implicit
-
--- the widths that constants have
+-- the widths that numbers have
 abbrev pub Wide : Field → Type 0
 Wide (fields.fixed n) = IsWidth n
-Wide (fields.twos w) = int_width (count_in w) ≡ w
+Wide (fields.twos w) = IsWidth (byte_len w)
 Wide other = Unit {0}
 
 abbrev pub FormWide : OpForm → Type 0
@@ -94,113 +72,40 @@ abbrev Quiet : Bool → Op → Type 0
 Quiet framed op = (branch_target op ≡ None) × (in_frame op ≡ framed)
 
 -- what the operations of a form are
-abbrev pub Makes : OpForm → ℕ → Bool → Type 0
-Makes (fields.none op) code framed = Quiet framed op
-Makes (fields.one o make) code framed = (x : FieldValue o) → Quiet framed (make x)
-Makes (fields.two o p make) code framed = (x : FieldValue o) (y : FieldValue p) → Quiet framed (make x y)
-Makes (fields.branch to) code framed = ((i : ℕ) → (branch_target (to i) ≡ Some i) × (in_frame (to i) ≡ framed)) × (code ≡ branch_code (branch_in to)) × (framed ≡ true)
+abbrev pub Makes : OpForm → ℕ → Type 0
+Makes (fields.none op) code = branch_target op ≡ None
+Makes (fields.one o make) code = (x : FieldValue o) → Quiet (in_frame (make (blank o))) (make x)
+Makes (fields.two o p make) code = (x : FieldValue o) (y : FieldValue p) → Quiet (in_frame (make (blank o) (blank p))) (make x y)
+Makes (fields.branch to) code = ((i : ℕ) → (branch_target (to i) ≡ Some i) × (in_frame (to i) ≡ true)) × (code ≡ branch_code (branch_in to))
 
--- what is known of a code
-pub record Known (t : Target) (code : ℕ) (opcode : Opcode) : Type 0 where
-  pub form : form_of t code ≡ Some (form_for t opcode)
-  pub wide : FormWide (form_for t opcode)
-  pub makes : Makes (form_for t opcode) code (code_in_frame opcode)
+abbrev pub Known : OpForm → ℕ → Type 0
+Known form code = FormWide form × Makes form code
 
 module _ (t : Target) where
-  abbrev InTable : Opcode → ℕ → Type 0
-  InTable opcode code = (look_up (op_form_table t) code ≡ Some (form_for t opcode)) × FormWide (form_for t opcode) × Makes (form_for t opcode) code (code_in_frame opcode)
+  known_entries : EachEntry Known (op_form_table t)
+  known_entries =
+      (tt, λ x. (refl, refl)) & (tt, refl)
+      & (inl refl, λ x. (refl, refl)) & (inl refl, λ x. (refl, refl)) & (inr (inl refl), λ x. (refl, refl)) & (inr (inl refl), λ x. (refl, refl))
+      & (inr (inr (inl refl)), λ x. (refl, refl)) & (inr (inr (inl refl)), λ x. (refl, refl)) & (inr (inr (inr refl)), λ x. (refl, refl)) & (inr (inr (inr refl)), λ x. (refl, refl))
+      & (tt, λ x. (refl, refl)) & (tt, λ x. (refl, refl)) & (tt, refl) & (tt, refl) & (tt, refl) & (inl refl, λ x. (refl, refl))
+      & (tt, refl) & (tt, refl) & (tt, refl) & (tt, refl) & (tt, refl) & (tt, refl) & (tt, refl) & (tt, refl) & (tt, refl) & (tt, refl) & (tt, refl) & (tt, refl)
+      & (tt, λ x. (refl, refl)) & (tt, refl) & (tt, refl) & (tt, refl) & (tt, refl)
+      & (tt, ((λ i. (refl, refl)), refl)) & (tt, refl) & (tt, refl) & (tt, refl) & (tt, refl) & (tt, refl) & (tt, refl) & (tt, ((λ i. (refl, refl)), refl))
+      & (tt, λ x. (refl, refl)) & (tt, λ x. (refl, refl)) & ((tt, tt), λ x y. (refl, refl)) & (tt, λ x. (refl, refl)) & (tt, λ x. (refl, refl))
+      & (tt, refl) & (tt, refl) & (tt, refl) & ((tt, tt), λ x y. (refl, refl)) & (tt, λ x. (refl, refl)) & (tt, refl) & tt
 
-  plain_entries : EachEntry (λ op code. InTable (opcodes.Alone op) code) plain_table
-  plain_entries =
-      (refl, tt, (refl, refl)) & (refl, tt, (refl, refl)) & (refl, tt, (refl, refl)) & (refl, tt, (refl, refl)) & (refl, tt, (refl, refl)) & (refl, tt, (refl, refl))
-      & (refl, tt, (refl, refl)) & (refl, tt, (refl, refl)) & (refl, tt, (refl, refl)) & (refl, tt, (refl, refl)) & (refl, tt, (refl, refl)) & (refl, tt, (refl, refl))
-      & (refl, tt, (refl, refl)) & (refl, tt, (refl, refl)) & (refl, tt, (refl, refl)) & (refl, tt, (refl, refl)) & (refl, tt, (refl, refl)) & (refl, tt, (refl, refl))
-      & (refl, tt, (refl, refl)) & (refl, tt, (refl, refl)) & (refl, tt, (refl, refl)) & (refl, tt, (refl, refl)) & (refl, tt, (refl, refl)) & (refl, tt, (refl, refl))
-      & (refl, tt, (refl, refl)) & (refl, tt, (refl, refl)) & (refl, tt, (refl, refl)) & (refl, tt, (refl, refl)) & (refl, tt, (refl, refl)) & (refl, tt, (refl, refl)) & tt
-
-  operand_entries : EachEntry InTable operand_table
-  operand_entries =
-      (refl, tt, λ x. (refl, refl)) & (refl, inl refl, λ x. (refl, refl)) & (refl, refl, λ x. (refl, refl)) & (refl, inr (inl refl), λ x. (refl, refl)) & (refl, refl, λ x. (refl, refl))
-      & (refl, inr (inr (inl refl)), λ x. (refl, refl)) & (refl, refl, λ x. (refl, refl)) & (refl, inr (inr (inr refl)), λ x. (refl, refl)) & (refl, refl, λ x. (refl, refl))
-      & (refl, tt, λ x. (refl, refl)) & (refl, tt, λ x. (refl, refl)) & (refl, inl refl, λ x. (refl, refl)) & (refl, tt, λ x. (refl, refl))
-      & (refl, tt, ((λ i. (refl, refl)), refl, refl)) & (refl, tt, ((λ i. (refl, refl)), refl, refl))
-      & (refl, tt, λ x. (refl, refl)) & (refl, tt, λ x. (refl, refl)) & (refl, (tt, tt), λ x y. (refl, refl)) & (refl, tt, λ x. (refl, refl))
-      & (refl, tt, λ x. (refl, refl)) & (refl, (tt, tt), λ x y. (refl, refl)) & (refl, tt, λ x. (refl, refl)) & tt
-
-  alone_in : (code : ℕ) (o : Option Op) (opcode : Opcode) → look_up plain_table code ≡ o → alone o ≡ Some opcode → InTable opcode code
-  alone_in code None opcode known e = absurd cc
-  alone_in code (Some op) opcode known e =
-      subst (λ (x : Opcode). InTable x code) (some_is (opcodes.Alone op) opcode e) (looked_up (λ (o : Op) (c : ℕ). InTable (opcodes.Alone o) c) plain_table code op plain_entries known)
-
-  table_in : (code : ℕ) (o : Option Opcode) (opcode : Opcode) → look_up operand_table code ≡ o → or_else o (alone (plain_op code)) ≡ Some opcode → InTable opcode code
-  unfolding plain_op
-  table_in code None opcode known e = alone_in code (look_up plain_table code) opcode refl e
-  table_in code (Some other) opcode known e = subst (λ (x : Opcode). InTable x code) (some_is other opcode e) (looked_up InTable operand_table code other operand_entries known)
-
-  pub opcode_known : (code : ℕ) (opcode : Opcode) → opcode_of code ≡ Some opcode → Known t code opcode
-  unfolding opcode_of form_of
-  opcode_known code opcode e = elim (cases_Bool (in_range 0x30 0x50 code)) [
-    | inl y ↦ subst (Known t code) (some_is (opcodes.Alone (Const (code - 0x30))) opcode (rw y at e)) (record { form = rw y refl; wide = tt; makes = (refl, refl) })
+  pub form_known : (code : ℕ) (form : OpForm) → form_of t code ≡ Some form → Known form code
+  unfolding form_of
+  form_known code form e = elim (cases_Bool (in_range 0x30 0x50 code)) [
+    | inl y ↦ subst (λ (f : OpForm). Known f code) (some_is (fields.none (Const (code - 0x30))) form (rw y at e)) (tt, refl)
     | inr n ↦ let e1 = rw n at e in elim (cases_Bool (in_range 0x50 0x70 code)) [
-      | inl y ↦ subst (Known t code) (some_is (opcodes.Alone (Reg (code - 0x50))) opcode (rw y at e1)) (record { form = rw (n, y) refl; wide = tt; makes = (refl, refl) })
+      | inl y ↦ subst (λ (f : OpForm). Known f code) (some_is (fields.none (Reg (code - 0x50))) form (rw y at e1)) (tt, refl)
       | inr m ↦ let e2 = rw m at e1 in elim (cases_Bool (in_range 0x70 0x90 code)) [
-        | inl y ↦ subst (Known t code) (some_is (opcodes.Breg (code - 0x70)) opcode (rw y at e2)) (record { form = rw (n, m, y) refl; wide = tt; makes = λ z. (refl, refl) })
-        | inr k ↦ let q = table_in code (look_up operand_table code) opcode refl (rw k at e2) in record { form = rw (n, m, k) q.0; wide = q.1; makes = q.2 }
+        | inl y ↦ subst (λ (f : OpForm). Known f code) (some_is (fields.one fields.signed (Breg (code - 0x70))) form (rw y at e2)) (tt, λ z. (refl, refl))
+        | inr k ↦ looked_up Known (op_form_table t) code form known_entries (rw k at e2)
       ]
     ]
   ]
-
--- ---- operands are read by the form
-
-abbrev pub signed_in : Width → ℕ × Input → Read ℤ
-signed_in w n = Ok (signed_of (count_in w) n.0, n.1)
-
-abbrev pub sized_in : ℕ → ℕ → ℕ × Input → Read ℕ
-sized_in most at k = if nat_le 1 k.0 && nat_le k.0 most then Ok k else fault BadDerefSize at
-
-abbrev pub counted_in : ℕ × Input → Read (List ℕ)
-counted_in n = take_at n.0 n.1
-
--- what a field holds
-abbrev pub value_at : (o : Field) → Input → Read (FieldValue o)
-value_at (fields.fixed n) i = fixed_at n i
-value_at (fields.twos w) i = fixed_at (width_of (count_in w)) i >>= signed_in w
-value_at fields.address i = address_at i
-value_at fields.unsigned i = uleb_at i
-value_at fields.signed i = sleb_at i
-value_at fields.register i = register_at i
-value_at fields.size i = fixed_at 1 i >>= sized_in (byte_count i.target.size) i.at
-value_at fields.block i = uleb_at i >>= counted_in
-
-abbrev pub then_value : {X : Type 0} (p : Field) → (X → FieldValue p → Op) → X × Input → Read Step
-then_value p make x = value_at p x.1 >>= with_op (make x.0)
-
--- the step that a form's fields make
-abbrev pub step_of : OpForm → Input → Read Step
-step_of (fields.none op) i = Ok (Plain op, i)
-step_of (fields.one o make) i = value_at o i >>= with_op make
-step_of (fields.two o p make) i = value_at o i >>= then_value p make
-step_of (fields.branch to) i = take_at 2 i >>= with_jump (branch_in to) i.target.order
-
-bound : {A B C : Type 0} (r : Result A Refusal) (f : A → Result B Refusal) (g : B → Result C Refusal) → r >>= (λ x. f x >>= g) ≡ (r >>= f) >>= g
-bound (Ok x) f g = refl
-bound (Err r) f g = refl
-
-size_is : (most at : ℕ) (r : Read ℕ) → r >>= size_in most at ≡ (r >>= sized_in most at) >>= with_op DerefSize
-size_is most at (Err r) = refl
-size_is most at (Ok k) = grind (arith, nat_tests)
-
-pub operands_are : (opcode : Opcode) (i : Input) → operands_at opcode i ≡ step_of (form_for i.target opcode) i
-unfolding operands_at
-operands_are (opcodes.Signed One) i = bound (fixed_at 1 i) (signed_in w8) (with_op (constant i.target))
-operands_are (opcodes.Signed Two) i = bound (fixed_at 2 i) (signed_in w16) (with_op (constant i.target))
-operands_are (opcodes.Signed Four) i = bound (fixed_at 4 i) (signed_in w32) (with_op (constant i.target))
-operands_are (opcodes.Signed Eight) i = bound (fixed_at 8 i) (signed_in w64) (with_op (constant i.target))
-operands_are opcodes.DerefSize i = size_is (byte_count i.target.size) i.at (fixed_at 1 i)
-operands_are opcodes.Implicit i = bound (uleb_at i) counted_in (with_op implicit)
-operands_are (opcodes.Jump Bra) i = refl
-operands_are (opcodes.Jump Skip) i = refl
-operands_are opcode i = refl
 
 -- ---- what is read of a form is spelled so
 
@@ -209,12 +114,10 @@ sized_so most n e = (grind (arith, nat_tests), grind (arith, nat_tests))
 
 value_found : (o : Field) (i new : Input) (x : FieldValue o) → Wide o → AreBytes i.bytes → value_at o i ≡ done (x, new) → (b : List ℕ) × FieldSpells i.target o x b × Takes i b new
 value_found (fields.fixed n) i new x w h e = fixed_found n i new x w h e
-value_found (fields.twos w) i new x same h e =
-    let p = bind_ok (fixed_at (width_of (count_in w)) i) (signed_in w) (x, new) e in
-    let q = count_found (count_in w) i p.0.1 p.0.0 h p.1 in
-    let z = signed_of (count_in w) p.0.0 in
-    subst (λ (y : ℤ × Input). (b : List ℕ) × FixedSigned i.target.order w y.0 b × Takes i b y.1) (ok_is (z, p.0.1) (x, new) p.2)
-    (q.0, subst (λ (v : Width). FixedSigned i.target.order v z q.0) same (signed_spelled (count_in w) i.target.order p.0.0 q.0 q.1), q.2)
+value_found (fields.twos w) i new x w' h e =
+    let p = bind_ok (fixed_at (byte_len w) i) (signed_in w) (x, new) e in
+    let q = fixed_found (byte_len w) i p.0.1 p.0.0 w' h p.1 in
+    subst (λ (y : ℤ × Input). (b : List ℕ) × FixedSigned i.target.order w y.0 b × Takes i b y.1) (ok_is (cast_signed w p.0.0, p.0.1) (x, new) p.2) (q.0, signed_spelled w i.target.order p.0.0 q.0 q.1, q.2)
 value_found fields.address i new x w h e = address_found i new x h e
 value_found fields.unsigned i new x w h e = uleb_found i new x h e
 value_found fields.signed i new x w h e = sleb_found i new x h e
@@ -240,15 +143,6 @@ StepForm t form step b = (op : Op) × (step ≡ Plain op) × OpFormSpells t form
 abbrev Found : OpForm → Input → Step × Input → Type 0
 Found form i x = (b : List ℕ) × StepForm i.target form x.0 b × Takes i b x.1
 
-front_bytes : (front rest : List ℕ) → AreBytes (front ++ rest) → AreBytes front
-front_bytes [] rest h k = omega arith
-front_bytes (x ∷ front) rest h zero = h 0
-front_bytes (x ∷ front) rest h (suc k) = front_bytes front rest (λ j. h (suc j)) k
-
-two_all : (t : Target) (b : List ℕ) → length b ≡ 2 → AreBytes b → Fixed t.order 2 (fixed_number t.order 2 b) b
-two_all t (x ∷ y ∷ []) len are = is_fixed t.order 2 (x ∷ y ∷ []) (inr (inl refl)) (omega arith) are
-two_all t b len are = absurd (omega arith)
-
 form_found : (form : OpForm) (i : Input) (x : Step × Input) → FormWide form → AreBytes i.bytes → step_of form i ≡ done x → Found form i x
 form_found (fields.none made) i x w h e = subst (Found (fields.none made) i) (ok_is (Plain made, i) x e) ([], (made, refl, (refl, refl)), record { bytes = refl; at = omega arith; target = refl })
 form_found (fields.one o make) i x w h e =
@@ -264,44 +158,38 @@ form_found (fields.two o p make) i x w h e =
     subst (Found (fields.two o p make) i) (ok_is (Plain (make one.0.0 two.0.0), two.0.1) x two.2)
     (q.0 ++ u.0, (make one.0.0 two.0.0, refl, (one.0.0, two.0.0, refl, record { front = q.0; back = u.0; first = q.1; second = spelled; whole = refl {a = q.0 ++ u.0} })), Takes-then i one.0.1 two.0.1 q.0 u.0 q.2 u.2)
 form_found (fields.branch to) i x w h e =
-    let order = i.target.order in
-    let p = bind_ok (take_at 2 i) (with_jump (branch_in to) order) x e in
-    let q = take_found 2 i p.0.1 p.0.0 p.1 in
-    let n = fixed_number order 2 p.0.0 in
-    subst (Found (fields.branch to) i) (ok_is (Jump (branch_in to) n, p.0.1) x p.2)
-    (p.0.0, (n, refl, two_all i.target p.0.0 q.1 (front_bytes p.0.0 p.0.1.bytes (subst AreBytes q.0.bytes h))), q.0)
+    let p = bind_ok (fixed_at 2 i) (with_jump (branch_in to)) x e in
+    let q = fixed_found 2 i p.0.1 p.0.0 (inr (inl refl)) h p.1 in
+    subst (Found (fields.branch to) i) (ok_is (Jump (branch_in to) p.0.0, p.0.1) x p.2) (q.0, (p.0.0, refl, q.1), q.2)
 
 -- ---- the operations of a form
 
-module _ (t : Target) (code : ℕ) (framed : Bool) where
-  pub quiet : (made op : Op) → op ≡ made → Quiet framed made → Quiet framed op
-  quiet made op same q = subst (Quiet framed) (sym same) q
+-- whether a frame's expression may hold them
+pub form_framed : (t : Target) (code : ℕ) (form : OpForm) (op : Op) (b : List ℕ) → Makes form code → OpFormSpells t form op b → in_frame op ≡ form_in_frame form
+form_framed t code (fields.none made) op b m (same, nil) = ap in_frame same
+form_framed t code (fields.one o make) op b m (x, same, s) = ap in_frame same ∙ (m x).1
+form_framed t code (fields.two o p make) op b m (x, y, same, s) = ap in_frame same ∙ (m x y).1
+form_framed t code (fields.branch to) op b m (i, same, s) = ap in_frame same ∙ (m.0 i).1
 
-  -- whether a frame's expression may hold them
-  pub form_framed : (form : OpForm) (op : Op) (b : List ℕ) → Makes form code framed → OpFormSpells t form op b → in_frame op ≡ framed
-  form_framed (fields.none made) op b m (same, nil) = (quiet made op same m).1
-  form_framed (fields.one o make) op b m (x, same, s) = (quiet (make x) op same (m x)).1
-  form_framed (fields.two o p make) op b m (x, y, same, s) = (quiet (make x y) op same (m x y)).1
-  form_framed (fields.branch to) op b m (i, same, s) = ap in_frame same ∙ (m.0 i).1
-
+module _ (t : Target) (code : ℕ) where
   -- a step by the fields of the code's form is a step by its spelling
-  abbrev Spelled : List ℕ → Step → Type 0
-  Spelled b step = StepSpells t step (code ∷ b) × (step_in_frame step ≡ framed)
+  abbrev Spelled : OpForm → List ℕ → Step → Type 0
+  Spelled form b step = StepSpells t step (code ∷ b) × (step_in_frame step ≡ form_in_frame form)
 
-  plain_spelled : (form : OpForm) (step : Step) (op : Op) (b : List ℕ) → form_of t code ≡ Some form → step ≡ Plain op → OpFormSpells t form op b → Quiet framed op → Spelled b step
-  plain_spelled form step op b known is s q = subst (Spelled b) (sym is) ((record { code = code; form = form; rest = b; known = known; whole = refl; operands = s }, q.0), q.1)
+  plain_spelled : (form : OpForm) (step : Step) (op : Op) (b : List ℕ) → form_of t code ≡ Some form → Makes form code → step ≡ Plain op → OpFormSpells t form op b → branch_target op ≡ None → Spelled form b step
+  plain_spelled form step op b known m is s none = subst (Spelled form b) (sym is) ((record { code = code; form = form; rest = b; known = known; whole = refl; operands = s }, none), form_framed t code form op b m s)
 
-  form_spelled : (form : OpForm) (step : Step) (b : List ℕ) → form_of t code ≡ Some form → Makes form code framed → StepForm t form step b → Spelled b step
-  form_spelled (fields.none made) step b known m (op, is, (same, nil)) = plain_spelled (fields.none made) step op b known is (same, nil) (quiet made op same m)
-  form_spelled (fields.one o make) step b known m (op, is, (x, same, s)) = plain_spelled (fields.one o make) step op b known is (x, same, s) (quiet (make x) op same (m x))
-  form_spelled (fields.two o p make) step b known m (op, is, (x, y, same, s)) = plain_spelled (fields.two o p make) step op b known is (x, y, same, s) (quiet (make x y) op same (m x y))
-  form_spelled (fields.branch to) step b known m (n, is, f) = subst (Spelled b) (sym is) (record { rest = b; operands = f; whole = ap (λ (c : ℕ). c ∷ b) m.1 }, sym m.2)
+  form_spelled : (form : OpForm) (step : Step) (b : List ℕ) → form_of t code ≡ Some form → Makes form code → StepForm t form step b → Spelled form b step
+  form_spelled (fields.none made) step b known m (op, is, s) = plain_spelled (fields.none made) step op b known m is s (ap branch_target s.0 ∙ m)
+  form_spelled (fields.one o make) step b known m (op, is, s) = plain_spelled (fields.one o make) step op b known m is s (ap branch_target s.1 ∙ (m s.0).0)
+  form_spelled (fields.two o p make) step b known m (op, is, s) = plain_spelled (fields.two o p make) step op b known m is s (ap branch_target s.2 ∙ (m s.0 s.1).0)
+  form_spelled (fields.branch to) step b known m (n, is, f) = subst (Spelled (fields.branch to) b) (sym is) (record { rest = b; operands = f; whole = ap (λ (c : ℕ). c ∷ b) m.1 }, refl)
 
 -- ---- which profile allows it
 
-pub allowed_by : (profile : Profile) (opcode : Opcode) (step : Step) → step_in_frame step ≡ code_in_frame opcode → allows profile opcode ≡ step_allowed profile step
-allowed_by Frame opcode step same = sym same
-allowed_by Location opcode step same = refl
+pub allowed_by : (profile : Profile) (form : OpForm) (step : Step) → step_in_frame step ≡ form_in_frame form → allows profile form ≡ step_allowed profile step
+allowed_by Frame form step same = sym same
+allowed_by Location form step same = refl
 
 -- ---- a whole operation
 
@@ -313,23 +201,22 @@ pub record StepTaken (profile : Profile) (i : Input) (step : Step) (new : Input)
   pub allowed : step_allowed profile step ≡ true
   pub some : 0 < length part
 
-judged_found : (profile : Profile) (at code : ℕ) (o : Option Opcode) (i new : Input) (step : Step) → opcode_of code ≡ o → AreBytes i.bytes → judged profile at o i ≡ done (step, new)
+judged_found : (profile : Profile) (at code : ℕ) (o : Option OpForm) (i new : Input) (step : Step) → form_of i.target code ≡ o → AreBytes i.bytes → judged profile at o i ≡ done (step, new)
     → ((b : List ℕ) × StepSpells i.target step (code ∷ b) × Takes i b new) × (step_allowed profile step ≡ true)
 judged_found profile at code None i new step known h e = absurd cc
-judged_found profile at code (Some opcode) i new step known h e =
-    let k = cond_ok (allows profile opcode) (operands_at opcode i) (record { code = NotInFrame; at = at }) (step, new) e in
-    let form = form_for i.target opcode in
-    let c = opcode_known i.target code opcode known in
-    let q = form_found form i (step, new) c.wide h (sym (operands_are opcode i) ∙ k.1) in
-    let s = form_spelled i.target code (code_in_frame opcode) form step q.0 c.form c.makes q.1 in
-    ((q.0, s.0, q.2), sym (allowed_by profile opcode step s.1) ∙ k.0)
+judged_found profile at code (Some form) i new step known h e =
+    let k = cond_ok (allows profile form) (step_of form i) (record { code = NotInFrame; at = at }) (step, new) e in
+    let c = form_known i.target code form known in
+    let q = form_found form i (step, new) c.0 h k.1 in
+    let s = form_spelled i.target code form step q.0 known c.1 q.1 in
+    ((q.0, s.0, q.2), sym (allowed_by profile form step s.1) ∙ k.0)
 
 pub step_found : (profile : Profile) (i new : Input) (step : Step) → AreBytes i.bytes → step_at profile i ≡ done (step, new) → StepTaken profile i step new
 unfolding step_at
 step_found profile i new step h e =
     let p = bind_ok (fixed_at 1 i) (after_code profile i.at) (step, new) e in
     let first = byte_found i p.0.1 p.0.0 p.1 in
-    let q = judged_found profile i.at p.0.0 (opcode_of p.0.0) p.0.1 new step refl (taken_bytes i p.0.1 (p.0.0 ∷ []) first h) p.2 in
+    let q = judged_found profile i.at p.0.0 (form_of p.0.1.target p.0.0) p.0.1 new step refl (taken_bytes i p.0.1 (p.0.0 ∷ []) first h) p.2 in
     record {
       part = p.0.0 ∷ q.0.0;
       spells = subst (λ (t : Target). StepSpells t step (p.0.0 ∷ q.0.0)) first.target q.0.1;

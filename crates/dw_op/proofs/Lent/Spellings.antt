@@ -3,7 +3,7 @@ use Rattle.dw_op.specs.Operands.{address, one}
 use Rattle.dw_op.proofs.Words.{◌≡◌, ℕ, ◌+◌, ◌-◌, ◌<◌, List, [], ◌∷◌, Some, refl, sym, ap, subst, ◌∙◌, arith, inl, inr, ℤ, pos, w8, w16, w32, w64, cases_Bool, Target, Uleb, Sleb, Register, Fixed, FixedSigned, Address, Op, Addr, Const}
 use Rattle.dw_op.proofs.Words.{Pick, PlusUconst, Bra, Skip, Reg, Breg, Fbreg, Piece, DerefSize, BitPiece, Implicit, alone_code, Field, fixed, twos, unsigned, signed, register, size, block, FieldValue, OpForm, none, two, branch, constant}
 use Rattle.dw_op.proofs.Words.{natural, implicit, op_form_table, in_range, form_of, branch_target, AtMost, Least, TargetWithin, InRange, Code, Both, AnyTwo, FieldSpells, OpFormSpells, OpSpells, Alone, Counted, ConstForm, Const1u, Const1s}
-use Rattle.dw_op.proofs.{Words.{Const2u, Const2s, Const4u, Const4s, Const8u, Const8s, Constu, Consts, Lit, Unsigned, Written, IsSpelled}, Lent.ReadingLaws.{EachEntry, looked_up, ◌&◌, range_is, some_is, small_const, within, above}}
+use Rattle.dw_op.proofs.{Words.{Const2u, Const2s, Const4u, Const4s, Const8u, Const8s, Constu, Consts, Lit, Unsigned, Written, IsSpelled}, Lent.ReadingLaws.{EachEntry, looked_up, ◌&◌, range_is, some_is, small_const, within, above, breg_form}}
 
 -- ---- from the table
 
@@ -99,9 +99,7 @@ module _ (t : Target) where
       rw (above 0x30 0x50 (0x50 + n) (omega arith) (omega arith), within 0x50 0x70 (0x50 + n) (omega arith) (omega arith)) (ap (λ (m : ℕ). Some (none (Reg m))) (omega arith))
 
   breg_known : (n : ℕ) → n < 32 → form_of t (0x70 + n) ≡ Some (one signed (Breg n))
-  unfolding form_of
-  breg_known n lt =
-      rw (above 0x30 0x50 (0x70 + n) (omega arith) (omega arith), above 0x50 0x70 (0x70 + n) (omega arith) (omega arith), within 0x70 0x90 (0x70 + n) (omega arith) (omega arith)) (ap (λ (m : ℕ). Some (one signed (Breg m))) (omega arith))
+  breg_known n lt = breg_form t (0x70 + n) (omega arith) (omega arith) ∙ ap (λ (m : ℕ). Some (one signed (Breg m))) (omega arith)
 
   natural_in : (code : ℕ) (o : Field) (make : FieldValue o → Op) (Number : ℕ → List ℕ → Type 0) (z : ℤ) (b : List ℕ) → Code code (Unsigned Number z) b → form_of t code ≡ Some (one o make)
       → ((n : ℕ) (c : List ℕ) → Number n c → OpFormSpells t (one o make) (constant t (pos n)) c) → OpSpells t (constant t z) b
