@@ -8,7 +8,7 @@ use Rattle.dw_op.proofs.Words.{◌≡◌, ℕ, suc, ◌+◌, ◌-◌, ◌*◌, �
 use Rattle.dw_op.proofs.Words.{nat_le, nat_eq, if◌then◌else◌, Width, w8, w16, w32, w64, byte_len, cast_unsigned, cases_lt, lt-ltb, le-ltb, le-leb, ints, mod-eq_of_lt, Target, Order, Size, Four, Eight, address_limit}
 use Rattle.dw_op.proofs.Words.{is_negative, Uleb, Sleb, fixed_bytes, Fixed, FixedSigned, shortest_uleb, shortest_sleb, length-fixed, leb_some, groups_below, turned_within, shortest_uleb-least, shortest_sleb-least}
 use Rattle.dw_op.proofs.Words.{shortest_uleb-spells, shortest_uleb-most, shortest_uleb-only, shortest_sleb-spells, shortest_sleb-most, shortest_sleb-only, Op, Const, Spelling, Code, Unsigned, ConstForm, Const1u}
-use Rattle.dw_op.proofs.{Words.{Const1s, Const2u, Const2s, Const4u, Const4s, Const8u, Const8s, Constu, Consts, Lit, Written, modulo, AtMost, spelling, operand_bytes, spelling_bytes}, Lent.Spellings.LeastSo}
+use Rattle.dw_op.proofs.{Words.{Const1s, Const2u, Const2s, Const4u, Const4s, Const8u, Const8s, Constu, Consts, Lit, Written, modulo, AtMost, Least, spelling, operand_bytes, spelling_bytes}, Lent.Spellings.{by_table, in_table}}
 
 -- ---- what a form can write
 
@@ -149,8 +149,8 @@ pub record SameHead (a b : List ℕ) : Type 0 where
   pub length_is : length a ≡ length b
   pub code_is : get_or a 0 0 ≡ get_or b 0 0
 
-pub same_head_so : (t : Target) (op : Op) (a b : List ℕ) → LeastSo t op a → LeastSo t op b → SameHead a b
-same_head_so t op a b l m =
+pub same_head : (t : Target) (op : Op) (a b : List ℕ) → Least t op a → Least t op b → SameHead a b
+same_head t op a b l m =
     let p = l.least b m.spells in
     let q = m.least a l.spells in
     record { length_is = omega arith; code_is = omega arith }
@@ -231,8 +231,8 @@ the_unsigned Spells v operand s = record { spells = record { number = v; is = re
 
 -- the only least spelling
 pub record Best (t : Target) (op : Op) (bytes : List ℕ) : Type 0 where
-  pub found : LeastSo t op bytes
-  pub only : (b : List ℕ) → LeastSo t op b → b ≡ bytes
+  pub found : Least t op bytes
+  pub only : (b : List ℕ) → Least t op b → b ≡ bytes
 
 module _ (t : Target) (v : ℕ) (small : v < address_limit t.size) where
   abbrev BestOf : Spelling → Type 0
@@ -255,19 +255,20 @@ module _ (t : Target) (v : ℕ) (small : v < address_limit t.size) where
       → Beaten (suc most) code → BestOf (spelling code o)
   best code most o form Spells z is value to from s short one beaten = record { found = found; only = only }
     where
-      found : LeastSo t (Const v) (code ∷ operand_bytes t.order o)
+      found : Least t (Const v) (code ∷ operand_bytes t.order o)
       found = record {
-        spells = record { form = form; number = z; written = to z (code ∷ operand_bytes t.order o) (record { rest = operand_bytes t.order o; operands = s.spells; whole = refl }); value = value };
-        least = λ b c.
+        spells = in_table t (Const v) _ (record { form = form; number = z; written = to z (code ∷ operand_bytes t.order o) (record { rest = operand_bytes t.order o; operands = s.spells; whole = refl }); value = value });
+        least = λ b k.
+            let c = by_table t (Const v) b k in
             let least = (limits t.size v small).0 in
             let r = reach limit least t.order v c.number b c.value c.form c.written in
             most_of (code ∷ operand_bytes t.order o) b (suc most) (omega arith) (opens t.order c.form c.number b c.written).0 (beaten _ _ (lines limit v _ _ c.form small least r));
       }
 
-      only : (b : List ℕ) → LeastSo t (Const v) b → b ≡ code ∷ operand_bytes t.order o
+      only : (b : List ℕ) → Least t (Const v) b → b ≡ code ∷ operand_bytes t.order o
       only b l =
-          let head = same_head_so t (Const v) b (code ∷ operand_bytes t.order o) l found in
-          let c = l.spells in
+          let head = same_head t (Const v) b (code ∷ operand_bytes t.order o) l found in
+          let c = by_table t (Const v) b l.spells in
           let form_is : c.form ≡ form = (opens t.order c.form c.number b c.written).1 ∙ ap form_at head.code_is ∙ sym is in
           let w = from c.number b (subst (λ (f : ConstForm). Written t.order f c.number b) form_is c.written) c.value in
           let long : length w.rest ≤ length (operand_bytes t.order o) = omega (arith, head.length_is, ap length w.whole) in

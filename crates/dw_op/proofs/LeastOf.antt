@@ -4,7 +4,7 @@ use Rattle.dw_op.proofs.Words.{◌≡◌, ℕ, ◌+◌, ◌%◌, ◌^◌, ◌<�
 use Rattle.dw_op.proofs.Words.{Order, Size, Four, Eight, byte_count, fixed_bytes, Fixed, Uleb, Sleb, Register, length-fixed, shortest_uleb, shortest_sleb, shortest_uleb-spells, shortest_uleb-least, shortest_uleb-only}
 use Rattle.dw_op.proofs.Words.{shortest_sleb-least, leb_some, Op, Addr, Const, Pick, PlusUconst, Bra, Skip, Reg, Breg, Fbreg, Piece, DerefSize, BitPiece, Implicit, Spelling, Code, Both, AnyTwo, IsSpelled, Counted}
 use Rattle.dw_op.proofs.{Words.{AtMost, Least, operand_bytes, spelling_bytes, register_form, register_offset, least_spelling, least_bytes, bare, branch_target, Displaced, InRange, bits_of}, Branches.bytes_of_two}
-use Rattle.dw_op.proofs.{LeastConst.{Best, Shortest, shortest_fixed, the_uleb, the_sleb, same_head_so, by_test, constant_best}, Lent.Ranges.modulo_below, Lent.Spellings.{InRangeSo, LeastSo, range_so, so_least, least_so}}
+use Rattle.dw_op.proofs.{LeastConst.{Best, Shortest, shortest_fixed, the_uleb, the_sleb, same_head, by_test, constant_best}, Lent.Ranges.modulo_below, Lent.Spellings.{by_table, in_table}}
 
 -- ---- the shortest operands
 
@@ -44,10 +44,10 @@ module _ (t : Target) (op : Op) (code : ℕ) (Operands : List ℕ → Type 0) (o
   only_code s b (inl c) le = c.whole ∙ ap (λ (r : List ℕ). code ∷ r) (s.only c.rest c.operands (omega (arith, ap length c.whole)))
 
   by_code : Shortest Operands operand → (Code code Operands (code ∷ operand) → IsSpelled t op (code ∷ operand)) → ((b : List ℕ) → IsSpelled t op b → OrLonger b) → Best t op (code ∷ operand)
-  by_code s to from = record { found = found; only = λ b l. only_code s b (from b l.spells) (let e = (same_head_so t op b (code ∷ operand) l found).length_is in omega arith) }
+  by_code s to from = record { found = found; only = λ b l. only_code s b (from b (by_table t op b l.spells)) (let e = (same_head t op b (code ∷ operand) l found).length_is in omega arith) }
     where
-      found : LeastSo t op (code ∷ operand)
-      found = record { spells = to (record { rest = operand; operands = s.spells; whole = refl }); least = λ b c. most s.least b (from b c) }
+      found : Least t op (code ∷ operand)
+      found = record { spells = in_table t op _ (to (record { rest = operand; operands = s.spells; whole = refl })); least = λ b c. most s.least b (from b (by_table t op b c)) }
 
 -- ---- operation by operation
 
@@ -58,10 +58,10 @@ address_bytes o Eight a fits = refl
 address_best : (t : Target) (a : ℕ) → a < 256 ^ byte_count t.size → Best t (Addr a) (spelling_bytes t.order (address t.size a))
 address_best t a fits = subst (Best t (Addr a)) (sym (address_bytes t.order t.size a fits)) (by_code t (Addr a) 0x03 (Fixed t.order (byte_count t.size) a) (fixed_bytes t.order (byte_count t.size) a) (shortest_fixed t.order (byte_count t.size) a fits) (λ c. c) (λ b c. inl c))
 
-register_best : (t : Target) (len n : ℕ) → InRangeSo t len (Reg n) → Best t (Reg n) (spelling_bytes t.order (register_form n))
-register_best t len n r = by_test (λ s. Best t (Reg n) (spelling_bytes t.order s)) n 32 _ _
+register_best : (t : Target) (n : ℕ) (b : List ℕ) → IsSpelled t (Reg n) b → Best t (Reg n) (spelling_bytes t.order (register_form n))
+register_best t n b s = by_test (λ s. Best t (Reg n) (spelling_bytes t.order s)) n 32 _ _
     (λ lt. by_code t (Reg n) (0x50 + n) (λ c. c ≡ []) [] (these_bytes []) (λ c. inl (lt, refl)) low)
-    (λ ge. by_code t (Reg n) 0x90 (Register n) (shortest_uleb n) (the_register n (let s = r.spelled in omega arith)) (λ c. inr c) (high ge))
+    (λ ge. by_code t (Reg n) 0x90 (Register n) (shortest_uleb n) (the_register n (omega arith)) (λ c. inr c) (high ge))
   where
     low : (b : List ℕ) → IsSpelled t (Reg n) b → Code (0x50 + n) (λ c. c ≡ []) b ⊎ (1 < length b)
     low b (inl p) = inl (record { rest = []; operands = refl; whole = p.1 })
@@ -71,11 +71,11 @@ register_best t len n r = by_test (λ s. Best t (Reg n) (spelling_bytes t.order 
     high ge b (inl p) = let lt = p.0 in absurd (omega arith)
     high ge b (inr p) = inl p
 
-offset_best : (t : Target) (len n : ℕ) (z : ℤ) → InRangeSo t len (Breg n z) → Best t (Breg n z) (spelling_bytes t.order (register_offset n z))
-offset_best t len n z r = by_test (λ s. Best t (Breg n z) (spelling_bytes t.order s)) n 32 _ _
-    (λ lt. by_code t (Breg n z) (0x70 + n) (Sleb z) (shortest_sleb z) (the_sleb z (typed r.spelled).1) (λ c. inl (lt, c)) low)
+offset_best : (t : Target) (n : ℕ) (z : ℤ) (b : List ℕ) → IsSpelled t (Breg n z) b → Best t (Breg n z) (spelling_bytes t.order (register_offset n z))
+offset_best t n z b s = by_test (λ s. Best t (Breg n z) (spelling_bytes t.order s)) n 32 _ _
+    (λ lt. by_code t (Breg n z) (0x70 + n) (Sleb z) (shortest_sleb z) (the_sleb z (typed s).1) (λ c. inl (lt, c)) low)
     (λ ge. by_code t (Breg n z) 0x92 (Both (Register n) (Sleb z)) (shortest_uleb n ++ shortest_sleb z)
-    (the_both (Register n) (Sleb z) (shortest_uleb n) (shortest_sleb z) (the_register n (typed r.spelled).0) (the_sleb z (typed r.spelled).1)) (λ c. inr c) (high ge))
+    (the_both (Register n) (Sleb z) (shortest_uleb n) (shortest_sleb z) (the_register n (typed s).0) (the_sleb z (typed s).1)) (λ c. inr c) (high ge))
   where
     typed : {b : List ℕ} → IsSpelled t (Breg n z) b → (n < 2 ^ 16) × FitsSigned w64 z
     typed (inl p) = (let lt = p.0 in omega arith, p.1.operands.fits)
@@ -94,41 +94,41 @@ offset_best t len n z r = by_test (λ s. Best t (Breg n z) (spelling_bytes t.ord
     high ge b (inr p) = inl p
 
 -- the table gives the only least spelling, but of a branch
-pub table_best : (t : Target) (len d : ℕ) (op : Op) → InRangeSo t len op → branch_target op ≡ None → Best t op (least_bytes t d op)
+pub table_best : (t : Target) (d : ℕ) (op : Op) (b : List ℕ) → IsSpelled t op b → branch_target op ≡ None → Best t op (least_bytes t d op)
 unfolding least_bytes least_spelling
-table_best t len d (Addr a) r e = address_best t a r.spelled.operands.fits
-table_best t len d (Const v) r e = constant_best t v (rw r.spelled.value (modulo_below t.size r.spelled.number))
-table_best t len d (Pick i) r e = by_code t (Pick i) 0x15 (Fixed t.order 1 i) (fixed_bytes t.order 1 i) (shortest_fixed t.order 1 i r.spelled.operands.fits) (λ c. c) (λ b c. inl c)
-table_best t len d (PlusUconst n) r e = by_code t (PlusUconst n) 0x23 (Uleb n) (shortest_uleb n) (the_uleb n r.spelled.operands.fits) (λ c. c) (λ b c. inl c)
-table_best t len d (Bra i) r e = absurd cc
-table_best t len d (Skip i) r e = absurd cc
-table_best t len d (Reg n) r e = register_best t len n r
-table_best t len d (Breg n z) r e = offset_best t len n z r
-table_best t len d (Fbreg z) r e = by_code t (Fbreg z) 0x91 (Sleb z) (shortest_sleb z) (the_sleb z r.spelled.operands.fits) (λ c. c) (λ b c. inl c)
-table_best t len d (Piece n) r e = by_code t (Piece n) 0x93 (Uleb n) (shortest_uleb n) (the_uleb n r.spelled.operands.fits) (λ c. c) (λ b c. inl c)
-table_best t len d (DerefSize k) r e = by_code t (DerefSize k) 0x94 (Fixed t.order 1 k) (fixed_bytes t.order 1 k) (shortest_fixed t.order 1 k r.spelled.0.operands.fits) (λ c. (c, r.spelled.1, r.spelled.2)) (λ b c. inl c.0)
-table_best t len d (BitPiece size offset) r e =
-    let o = r.spelled.operands in
+table_best t d (Addr a) b s e = address_best t a s.operands.fits
+table_best t d (Const v) b s e = constant_best t v (rw s.value (modulo_below t.size s.number))
+table_best t d (Pick i) b s e = by_code t (Pick i) 0x15 (Fixed t.order 1 i) (fixed_bytes t.order 1 i) (shortest_fixed t.order 1 i s.operands.fits) (λ c. c) (λ x c. inl c)
+table_best t d (PlusUconst n) b s e = by_code t (PlusUconst n) 0x23 (Uleb n) (shortest_uleb n) (the_uleb n s.operands.fits) (λ c. c) (λ x c. inl c)
+table_best t d (Bra i) b s e = absurd cc
+table_best t d (Skip i) b s e = absurd cc
+table_best t d (Reg n) b s e = register_best t n b s
+table_best t d (Breg n z) b s e = offset_best t n z b s
+table_best t d (Fbreg z) b s e = by_code t (Fbreg z) 0x91 (Sleb z) (shortest_sleb z) (the_sleb z s.operands.fits) (λ c. c) (λ x c. inl c)
+table_best t d (Piece n) b s e = by_code t (Piece n) 0x93 (Uleb n) (shortest_uleb n) (the_uleb n s.operands.fits) (λ c. c) (λ x c. inl c)
+table_best t d (DerefSize k) b s e = by_code t (DerefSize k) 0x94 (Fixed t.order 1 k) (fixed_bytes t.order 1 k) (shortest_fixed t.order 1 k s.0.operands.fits) (λ c. (c, s.1, s.2)) (λ x c. inl c.0)
+table_best t d (BitPiece size offset) b s e =
+    let o = s.operands in
     by_code t (BitPiece size offset) 0x9d (Both (Uleb size) (Uleb offset)) (shortest_uleb size ++ shortest_uleb offset)
-    (the_both (Uleb size) (Uleb offset) (shortest_uleb size) (shortest_uleb offset) (the_uleb size o.first.fits) (the_uleb offset o.second.fits)) (λ c. c) (λ b c. inl c)
-table_best t len d (Implicit block) r e =
+    (the_both (Uleb size) (Uleb offset) (shortest_uleb size) (shortest_uleb offset) (the_uleb size o.first.fits) (the_uleb offset o.second.fits)) (λ c. c) (λ x c. inl c)
+table_best t d (Implicit block) b s e =
     let n = length block.now in
     by_code t (Implicit block) 0x9e (Counted block.now) (shortest_uleb n ++ block.now)
-    (the_both (Uleb n) (λ c. c ≡ block.now) (shortest_uleb n) block.now (the_uleb n r.spelled.1.operands.first.fits) (these_bytes block.now)) (λ c. (r.spelled.0, c)) (λ b c. inl c.1)
-table_best t len d other r e = record { found = record { spells = refl; least = λ b s. rw s (inr (refl, omega arith)) }; only = λ b l. l.spells }
+    (the_both (Uleb n) (λ c. c ≡ block.now) (shortest_uleb n) block.now (the_uleb n s.1.operands.first.fits) (these_bytes block.now)) (λ c. (s.0, c)) (λ x c. inl c.1)
+table_best t d other b s e = record { found = record { spells = in_table t other _ refl; least = λ x k. rw (by_table t other x k) (inr (refl, omega arith)) }; only = λ x l. by_table t other x l.spells }
 
 branch_most : (t : Target) (op : Op) (code d : ℕ) (b : List ℕ) → Code code AnyTwo b → AtMost (code ∷ fixed_bytes t.order 2 d) b
 branch_most t op code d b s = most t op code AnyTwo (fixed_bytes t.order 2 d) (λ rest h. rw h.4 (omega (arith, length-fixed t.order 2 d))) b (inl s)
 
 -- the table gives least spellings
-least_spelled_so : (t : Target) (len d : ℕ) (op : Op) → InRangeSo t len op → LeastSo t op (least_bytes t d op)
+least_spelt : (t : Target) (d : ℕ) (op : Op) (b : List ℕ) → IsSpelled t op b → Least t op (least_bytes t d op)
 unfolding least_bytes least_spelling
-least_spelled_so t len d (Bra i) r = record { spells = record { rest = fixed_bytes t.order 2 d; operands = bytes_of_two t.order d; whole = refl }; least = λ b s. branch_most t (Bra i) 0x28 d b s }
-least_spelled_so t len d (Skip i) r = record { spells = record { rest = fixed_bytes t.order 2 d; operands = bytes_of_two t.order d; whole = refl }; least = λ b s. branch_most t (Skip i) 0x2f d b s }
-least_spelled_so t len d other r = (table_best t len d other r refl).found
+least_spelt t d (Bra i) b s = record { spells = in_table t (Bra i) _ (record { rest = fixed_bytes t.order 2 d; operands = bytes_of_two t.order d; whole = refl }); least = λ x k. branch_most t (Bra i) 0x28 d x (by_table t (Bra i) x k) }
+least_spelt t d (Skip i) b s = record { spells = in_table t (Skip i) _ (record { rest = fixed_bytes t.order 2 d; operands = bytes_of_two t.order d; whole = refl }); least = λ x k. branch_most t (Skip i) 0x2f d x (by_table t (Skip i) x k) }
+least_spelt t d other b s = (table_best t d other b s refl).found
 
 pub least : (t : Target) (len d : ℕ) (op : Op) → InRange t len op → Least t op (least_bytes t d op)
-least t len d op r = so_least t op (least_bytes t d op) (least_spelled_so t len d op (range_so t len op r))
+least t len d op r = least_spelt t d op r.bytes (by_table t op r.bytes r.spelled)
 
 -- ---- no other spelling is as short
 
@@ -138,17 +138,13 @@ branch_only o code all k i b w d =
     let rest : d.2.rest ≡ w.rest = cc in
     w.whole ∙ ap (λ (r : List ℕ). code ∷ r) (sym rest ∙ d.2.operands.bytes)
 
-only_so : (t : Target) (all : List (List ℕ)) (len k : ℕ) (op : Op) (b : List ℕ) → InRangeSo t len op → LeastSo t op b → Displaced t.order all k (branch_target op) b
-    → b ≡ least_bytes t (bits_of all k (branch_target op)) op
-unfolding least_bytes least_spelling
-only_so t all len k (Bra i) b r l d = branch_only t.order 0x28 all k i b l.spells d
-only_so t all len k (Skip i) b r l d = branch_only t.order 0x2f all k i b l.spells d
-only_so t all len k other b r l d = (table_best t len 0 other r refl).only b l
-
 -- a least spelling is the table's
 pub only : (t : Target) (all : List (List ℕ)) (len k : ℕ) (op : Op) (b : List ℕ) → InRange t len op → Least t op b → Displaced t.order all k (branch_target op) b
     → b ≡ least_bytes t (bits_of all k (branch_target op)) op
-only t all len k op b r l d = only_so t all len k op b (range_so t len op r) (least_so t op b l) d
+unfolding least_bytes least_spelling
+only t all len k (Bra i) b r l d = branch_only t.order 0x28 all k i b (by_table t (Bra i) b l.spells) d
+only t all len k (Skip i) b r l d = branch_only t.order 0x2f all k i b (by_table t (Skip i) b l.spells) d
+only t all len k other b r l d = (table_best t 0 other r.bytes (by_table t other r.bytes r.spelled) refl).only b l
 
 -- ---- the table and what the code does with it
 

@@ -15,18 +15,11 @@ pub record Alike (t : Target) (parts : List (List ℕ)) (op other : Op) : Type 0
   pub target : branch_target other ≡ begins parts (branch_target op)
   pub bytes : (bits : ℕ) → least_bytes t bits other ≡ least_bytes t bits op
 
-branch_alike : (t : Target) (parts : List (List ℕ)) (branch : Branch) (i : ℕ) (op other : Op) → branch_to branch (Some i) ≡ Some op → branch_to branch (Some (start parts i)) ≡ Some other → Alike t parts op other
-unfolding least_bytes least_spelling
-branch_alike t parts Bra i op other e q =
-    subst (λ (x : Op). Alike t parts x other) (some_is (ops.Bra i) op e)
-    (subst (λ (x : Op). Alike t parts (ops.Bra i) x) (some_is (ops.Bra (start parts i)) other q) (record { target = refl; bytes = λ bits. refl }))
-branch_alike t parts Skip i op other e q =
-    subst (λ (x : Op). Alike t parts x other) (some_is (ops.Skip i) op e)
-    (subst (λ (x : Op). Alike t parts (ops.Skip i) x) (some_is (ops.Skip (start parts i)) other q) (record { target = refl; bytes = λ bits. refl }))
-
 jump_alike : (t : Target) (parts : List (List ℕ)) (branch : Branch) (o : Option ℕ) (op other : Op) → branch_to branch o ≡ Some op → branch_to branch (begins parts o) ≡ Some other → Alike t parts op other
+unfolding least_bytes least_spelling
 jump_alike t parts branch None op other e q = absurd cc
-jump_alike t parts branch (Some i) op other e q = branch_alike t parts branch i op other e q
+jump_alike t parts Bra (Some i) op other e q = rw (← some_is (ops.Bra i) op e, ← some_is (ops.Bra (start parts i)) other q) (record { target = refl; bytes = λ bits. refl })
+jump_alike t parts Skip (Some i) op other e q = rw (← some_is (ops.Skip i) op e, ← some_is (ops.Skip (start parts i)) other q) (record { target = refl; bytes = λ bits. refl })
 
 find_begins : (parts : List (List ℕ)) (find sum : ℕ → Option ℕ) (o : Option ℕ) → ((place : ℕ) → sum place ≡ begins parts (find place)) → find_at sum o ≡ begins parts (find_at find o)
 find_begins parts find sum None h = refl

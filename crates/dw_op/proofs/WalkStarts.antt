@@ -122,12 +122,12 @@ shifted_on m i low n k j l h q =
 
 -- ---- the sum before a place
 
+pub count_behind : (m : Measure) (i : Input) (place : ℕ) → AreBytes i.bytes → end_of i < place → None ≡ sum_in m Location i place
+count_behind m i place h lt = sym (starts_off (weight m i.target) i place h (λ n from to same. omega arith))
+
 module _ (m : Measure) (i : Input) (place count : ℕ) (j : Input) (h : Shifted m i place count j) where
   none_there : ((n : ℕ) → j.at ≤ n → n ≤ end_of j → place ≡ n → ⊥) → None ≡ sum_in m Location i place
   none_there off = sym (ap (λ (o : Option ℕ). plus count o) (ap (λ (n : ℕ). starts_at (weight m i.target) n j place) (sym h.within.end) ∙ starts_off (weight m i.target) j place h.within.bytes off)) ∙ h.same place (omega arith)
-
-  pub count_stuck : (r : Refusal) → step_at Location j ≡ Err r → j.at < place → None ≡ sum_in m Location i place
-  count_stuck r e lt = none_there (λ n from to same. omega (arith, never_stuck j r h.read e))
 
   pub count_here : j.at ≡ place → Some count ≡ sum_in m Location i place
   count_here e =

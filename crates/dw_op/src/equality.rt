@@ -6,7 +6,7 @@ ghost use Rattle.dw_op.specs.Expression.{bare};
 ghost use Rattle.dw_op.specs.Inner.Equality.{line, alone, op_line, order_number, target_line, sign_of, size_of, line_fed, lines_fed, line_of};
 
 use crate::expression::OpSteps;
-use crate::op::Op;
+use crate::op::{Op, alone_code};
 use dw_num::{Order, Size, Target};
 use std::hash::Hasher;
 
@@ -49,45 +49,16 @@ fn in_line<'a>(op: Op<'a>) -> Line<'a>
 {
     match op {
         Op::Addr(address) => with_number(0x03, address),
-        Op::Deref => alone(0x06),
         Op::Const(value) => with_number(0x08, value),
-        Op::Dup => alone(0x12),
-        Op::Drop => alone(0x13),
-        Op::Over => alone(0x14),
         Op::Pick(index) => with_number(0x15, u64::from(index)),
-        Op::Swap => alone(0x16),
-        Op::Rot => alone(0x17),
-        Op::Abs => alone(0x19),
-        Op::And => alone(0x1a),
-        Op::Div => alone(0x1b),
-        Op::Minus => alone(0x1c),
-        Op::Mod => alone(0x1d),
-        Op::Mul => alone(0x1e),
-        Op::Neg => alone(0x1f),
-        Op::Not => alone(0x20),
-        Op::Or => alone(0x21),
-        Op::Plus => alone(0x22),
         Op::PlusUconst(number) => with_number(0x23, number),
-        Op::Shl => alone(0x24),
-        Op::Shr => alone(0x25),
-        Op::Shra => alone(0x26),
-        Op::Xor => alone(0x27),
         Op::Bra(index) => with_number(0x28, index as u64),
-        Op::Eq => alone(0x29),
-        Op::Ge => alone(0x2a),
-        Op::Gt => alone(0x2b),
-        Op::Le => alone(0x2c),
-        Op::Lt => alone(0x2d),
-        Op::Ne => alone(0x2e),
         Op::Skip(index) => with_number(0x2f, index as u64),
         Op::Reg(register) => with_number(0x50, u64::from(register)),
         Op::Breg(register, offset) => with_offset(0x70, u64::from(register), offset),
         Op::Fbreg(offset) => with_offset(0x91, 0, offset),
         Op::Piece(size) => with_number(0x93, size),
         Op::DerefSize(size) => with_number(0x94, u64::from(size)),
-        Op::Nop => alone(0x96),
-        Op::PushObjectAddress => alone(0x97),
-        Op::CallFrameCfa => alone(0x9c),
         Op::BitPiece(size, offset) => Line {
             second: offset,
             ..with_number(0x9d, size)
@@ -96,7 +67,7 @@ fn in_line<'a>(op: Op<'a>) -> Line<'a>
             bytes,
             ..alone(0x9e)
         },
-        Op::StackValue => alone(0x9f),
+        _ => alone(alone_code(&op)),
     }
 }
 

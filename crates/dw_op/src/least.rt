@@ -5,7 +5,7 @@ ghost use Rattle.dw_num.specs.{Shortest.{shortest_uleb, shortest_sleb}, Target.a
 ghost use Rattle.dw_op.specs.{Expression.bare, Inner.LeastOf.{spelling, address, operand_bytes, spelling_bytes, least_bytes}};
 ghost use Rattle.dw_op.specs.Inner.LeastOf.{constant, long_constant, longest_constant, register_form, register_offset, least_spelling};
 
-use crate::op::Op;
+use crate::op::{Op, alone_code};
 use crate::operation::last_address;
 use dw_num::{Order, Size, Target, put_fixed, put_sleb, put_uleb, sleb_len, uleb_len};
 use std::alloc::AllocError;
@@ -153,48 +153,19 @@ pub(crate) fn least_spelling<'a>(op: &Op<'a>, displacement: u16, target: Target)
 {
     match *op {
         Op::Addr(value) => address(value, target.size),
-        Op::Deref => spell(0x06, Operand::Nothing),
         Op::Const(value) => constant(value, under_limit(value, target.size)),
-        Op::Dup => spell(0x12, Operand::Nothing),
-        Op::Drop => spell(0x13, Operand::Nothing),
-        Op::Over => spell(0x14, Operand::Nothing),
         Op::Pick(index) => spell(0x15, Operand::Byte(index)),
-        Op::Swap => spell(0x16, Operand::Nothing),
-        Op::Rot => spell(0x17, Operand::Nothing),
-        Op::Abs => spell(0x19, Operand::Nothing),
-        Op::And => spell(0x1a, Operand::Nothing),
-        Op::Div => spell(0x1b, Operand::Nothing),
-        Op::Minus => spell(0x1c, Operand::Nothing),
-        Op::Mod => spell(0x1d, Operand::Nothing),
-        Op::Mul => spell(0x1e, Operand::Nothing),
-        Op::Neg => spell(0x1f, Operand::Nothing),
-        Op::Not => spell(0x20, Operand::Nothing),
-        Op::Or => spell(0x21, Operand::Nothing),
-        Op::Plus => spell(0x22, Operand::Nothing),
         Op::PlusUconst(number) => spell(0x23, Operand::Unsigned(number)),
-        Op::Shl => spell(0x24, Operand::Nothing),
-        Op::Shr => spell(0x25, Operand::Nothing),
-        Op::Shra => spell(0x26, Operand::Nothing),
-        Op::Xor => spell(0x27, Operand::Nothing),
         Op::Bra(_) => spell(0x28, Operand::Half(displacement)),
-        Op::Eq => spell(0x29, Operand::Nothing),
-        Op::Ge => spell(0x2a, Operand::Nothing),
-        Op::Gt => spell(0x2b, Operand::Nothing),
-        Op::Le => spell(0x2c, Operand::Nothing),
-        Op::Lt => spell(0x2d, Operand::Nothing),
-        Op::Ne => spell(0x2e, Operand::Nothing),
         Op::Skip(_) => spell(0x2f, Operand::Half(displacement)),
         Op::Reg(number) => register(number),
         Op::Breg(number, offset) => register_offset(number, offset),
         Op::Fbreg(offset) => spell(0x91, Operand::Signed(offset)),
         Op::Piece(size) => spell(0x93, Operand::Unsigned(size)),
         Op::DerefSize(size) => spell(0x94, Operand::Byte(size)),
-        Op::Nop => spell(0x96, Operand::Nothing),
-        Op::PushObjectAddress => spell(0x97, Operand::Nothing),
-        Op::CallFrameCfa => spell(0x9c, Operand::Nothing),
         Op::BitPiece(size, offset) => spell(0x9d, Operand::Pair(size, offset)),
         Op::Implicit(bytes) => spell(0x9e, Operand::Block(bytes)),
-        Op::StackValue => spell(0x9f, Operand::Nothing),
+        _ => spell(alone_code(op), Operand::Nothing),
     }
 }
 

@@ -1,7 +1,7 @@
 //! Operations of DWARF expressions.
 
-ghost use Rattle.std.specs.Prelude.{◌<◌, ◌^◌, length};
-ghost use Rattle.dw_op.specs.Inner.Ranges.{IsTyped};
+ghost use Rattle.std.specs.Prelude.{◌≡◌, ◌<◌, ◌^◌, length};
+ghost use Rattle.dw_op.specs.Inner.{Codes.alone_code, Ranges.IsTyped};
 
 /// An operation (2.5.1, 2.6.1, 7.7.1). A branch names the operation that it goes to by its index in the list, which is
 /// the list's length for the end. N is the number of bits of an address. A variant that several operations are
@@ -159,5 +159,44 @@ pub(crate) fn are_typed(op: &Op<'_>)
         }
         Op::Implicit(bytes) => is_block(bytes),
         _ => (),
+    }
+}
+
+/// The code of an operation that has no operands, 0 of the others (DWARF 5, 7.7.1).
+pub(crate) fn alone_code(op: &Op<'_>) -> u8
+    ensures { result ≡ alone_code op.now }
+{
+    match *op {
+        Op::Deref => 0x06,
+        Op::Dup => 0x12,
+        Op::Drop => 0x13,
+        Op::Over => 0x14,
+        Op::Swap => 0x16,
+        Op::Rot => 0x17,
+        Op::Abs => 0x19,
+        Op::And => 0x1a,
+        Op::Div => 0x1b,
+        Op::Minus => 0x1c,
+        Op::Mod => 0x1d,
+        Op::Mul => 0x1e,
+        Op::Neg => 0x1f,
+        Op::Not => 0x20,
+        Op::Or => 0x21,
+        Op::Plus => 0x22,
+        Op::Shl => 0x24,
+        Op::Shr => 0x25,
+        Op::Shra => 0x26,
+        Op::Xor => 0x27,
+        Op::Eq => 0x29,
+        Op::Ge => 0x2a,
+        Op::Gt => 0x2b,
+        Op::Le => 0x2c,
+        Op::Lt => 0x2d,
+        Op::Ne => 0x2e,
+        Op::Nop => 0x96,
+        Op::PushObjectAddress => 0x97,
+        Op::CallFrameCfa => 0x9c,
+        Op::StackValue => 0x9f,
+        _ => 0,
     }
 }

@@ -85,37 +85,14 @@ pub(crate) fn copied<'a>(cursor: &Cursor<'a>) -> Cursor<'a>
     Cursor::new(cursor.rest(), cursor.at(), cursor.target())
 }
 
-/// What the operations from the cursor on add before the one that begins at the place, or before the end.
-#[tactic(auto, using(crate::proofs::Splits::step_shorter))]
-pub(crate) fn sum_from(cursor: &Cursor<'_>, measure: Measure, place: u64) -> Option<usize>
-    requires bytes { AreBytes cursor.now.bytes }
-    requires read { (walk Location cursor.now).fault ≡ None }
-    ensures exact { result ≡ sum_in measure Location cursor.now place }
-    ensures few { IfSome result (λ i. i ≤ length cursor.now.bytes) }
-{
-    let target = cursor.target();
-    let mut cursor = copied(cursor);
-    let mut count = 0;
-    'ops: while cursor.at() < place {
-        match next_step(&mut cursor, Profile::Location) {
-            Ok(step) => count += added(measure, step, target),
-            Err(_) => return None,
-        }
-    }
-    if cursor.at() == place {
-        Some(count)
-    } else {
-        None
-    }
-}
-
 /// Goes on to the first operation that does not begin below the place, and says what those add that it passes.
 #[tactic(auto, using(crate::proofs::WalkStarts::never_stuck, crate::proofs::Splits::step_shorter))]
 pub(crate) fn advance(window: &mut Cursor<'_>, measure: Measure, low: u64) -> usize
     requires bytes { AreBytes window.old.bytes }
     requires read { (walk Location window.old).fault ≡ None }
     requires low { low ≤ end_of window.old }
-    ensures { Shifted measure window.old low result window.new }
+    ensures shifted { Shifted measure window.old low result window.new }
+    ensures beyond { low ≤ window.new.at }
 {
     let target = window.target();
     let mut count = 0;
@@ -126,6 +103,25 @@ pub(crate) fn advance(window: &mut Cursor<'_>, measure: Measure, low: u64) -> us
         }
     }
     count
+}
+
+/// What the operations from the cursor on add before the one that begins at the place, or before the end.
+pub(crate) fn sum_from(cursor: &Cursor<'_>, measure: Measure, place: u64) -> Option<usize>
+    requires bytes { AreBytes cursor.now.bytes }
+    requires read { (walk Location cursor.now).fault ≡ None }
+    ensures exact { result ≡ sum_in measure Location cursor.now place }
+    ensures few { IfSome result (λ i. i ≤ length cursor.now.bytes) }
+{
+    if place > cursor.at() + cursor.left() as u64 {
+        return None;
+    }
+    let mut here = copied(cursor);
+    let count = advance(&mut here, measure, place);
+    if here.at() == place {
+        Some(count)
+    } else {
+        None
+    }
 }
 
 impl<'a> Walker<'a> {

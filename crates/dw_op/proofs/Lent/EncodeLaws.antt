@@ -13,9 +13,6 @@ start_next t [] k d lt = absurd (omega arith)
 start_next t (op ∷ ops) zero d lt = omega arith
 start_next t (op ∷ ops) (suc k) d lt = let e : suc k + 1 ≡ suc (k + 1) = omega arith in rw e (omega (arith, start_next t ops k d (omega arith)))
 
-pub starts_none : (parts : List (List ℕ)) → AreStarts parts 0 (0 ∷ [])
-starts_none parts = record { count = refl; each = λ i le. let first : i ≡ 0 = omega arith in rw first refl }
-
 pub starts_more : (parts : List (List ℕ)) (n end : ℕ) (starts : List ℕ) → AreStarts parts n starts → end ≡ start parts (n + 1) → AreStarts parts (n + 1) (starts ++ end ∷ [])
 starts_more parts n end starts h e = record {
   count = omega (arith, length_push starts end, h.count);

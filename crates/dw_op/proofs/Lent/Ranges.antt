@@ -3,7 +3,7 @@ use Rattle.dw_op.proofs.Words.{◌≡◌, ◌≤◌, sym, ℕ, zero, suc, map, g
 use Rattle.dw_op.proofs.Words.{AllByRecursion, Target, Size, Four, Eight, byte_count, address_limit, fixed_bytes, Fixed, Uleb, Sleb, Register, shortest_uleb, shortest_sleb, shortest_uleb-spells, shortest_sleb-spells, Op, Addr, Const, Pick}
 use Rattle.dw_op.proofs.Words.{PlusUconst, Bra, Skip, Reg, Breg, Fbreg, Piece, DerefSize, BitPiece, Implicit, alone_code, bare, Const8u, Unsigned, Counted, modulo, Code, Both, InRange, AllInRange, FirstBadOperand}
 use Rattle.dw_op.specs.Inner.Ranges.{IsTyped, Fits}
-use Rattle.dw_op.proofs.Lent.Spellings.{InRangeSo, range_so, so_range}
+use Rattle.dw_op.proofs.{Words.{branch_target, IsSpelled, TargetWithin}, Lent.Spellings.{by_table, in_table}}
 
 -- ---- one spelling of each operation
 
@@ -11,32 +11,35 @@ limit_is : (s : Size) → (address_limit s ≡ 256 ^ byte_count s) × (address_l
 limit_is Four = (refl, omega arith)
 limit_is Eight = (refl, omega arith)
 
-in_range_so : (t : Target) (len : ℕ) (op : Op) → IsTyped op → Fits t len op → InRangeSo t len (bare op)
-in_range_so t len (Addr a) y h = record { bytes = 0x03 ∷ fixed_bytes t.order (byte_count t.size) a; spelled = record { rest = fixed_bytes t.order (byte_count t.size) a; operands = record { bytes = refl; fits = subst (λ (n : ℕ). a < n) (limit_is t.size).0 h }; whole = refl }; within_list = tt }
+abbrev Spelt : Target → ℕ → Op → Type 0
+Spelt t len op = (b : List ℕ) × IsSpelled t op b × TargetWithin len (branch_target op)
+
+in_range_so : (t : Target) (len : ℕ) (op : Op) → IsTyped op → Fits t len op → Spelt t len (bare op)
+in_range_so t len (Addr a) y h = (0x03 ∷ fixed_bytes t.order (byte_count t.size) a, record { rest = fixed_bytes t.order (byte_count t.size) a; operands = record { bytes = refl; fits = subst (λ (n : ℕ). a < n) (limit_is t.size).0 h }; whole = refl }, tt)
 in_range_so t len (Const v) y h =
     let operand : Code 0x0e (Unsigned (Fixed t.order 8) (pos v)) (0x0e ∷ fixed_bytes t.order 8 v) = record { rest = fixed_bytes t.order 8 v; operands = record { number = v; is = refl; spelled = record { bytes = refl; fits = omega (arith, (limit_is t.size).1) } }; whole = refl } in
-    record { bytes = 0x0e ∷ fixed_bytes t.order 8 v; spelled = record { form = Const8u; number = pos v; written = operand; value = let e : v % address_limit t.size ≡ v = mod-eq_of_lt h in omega arith }; within_list = tt }
-in_range_so t len (Pick i) y h = record { bytes = 0x15 ∷ fixed_bytes t.order 1 i; spelled = record { rest = fixed_bytes t.order 1 i; operands = record { bytes = refl; fits = omega arith }; whole = refl }; within_list = tt }
-in_range_so t len (PlusUconst n) y h = record { bytes = 0x23 ∷ shortest_uleb n; spelled = record { rest = shortest_uleb n; operands = shortest_uleb-spells n y; whole = refl }; within_list = tt }
-in_range_so t len (Bra i) y h = record { bytes = 0x28 ∷ 0 ∷ 0 ∷ []; spelled = record { rest = 0 ∷ 0 ∷ []; operands = (0, 0, omega arith, omega arith, refl); whole = refl }; within_list = h }
-in_range_so t len (Skip i) y h = record { bytes = 0x2f ∷ 0 ∷ 0 ∷ []; spelled = record { rest = 0 ∷ 0 ∷ []; operands = (0, 0, omega arith, omega arith, refl); whole = refl }; within_list = h }
-in_range_so t len (Reg r) y h = record { bytes = 0x90 ∷ shortest_uleb r; spelled = inr (record { rest = shortest_uleb r; operands = (shortest_uleb-spells r (omega arith), y); whole = refl }); within_list = tt }
+    (0x0e ∷ fixed_bytes t.order 8 v, record { form = Const8u; number = pos v; written = operand; value = let e : v % address_limit t.size ≡ v = mod-eq_of_lt h in omega arith }, tt)
+in_range_so t len (Pick i) y h = (0x15 ∷ fixed_bytes t.order 1 i, record { rest = fixed_bytes t.order 1 i; operands = record { bytes = refl; fits = omega arith }; whole = refl }, tt)
+in_range_so t len (PlusUconst n) y h = (0x23 ∷ shortest_uleb n, record { rest = shortest_uleb n; operands = shortest_uleb-spells n y; whole = refl }, tt)
+in_range_so t len (Bra i) y h = (0x28 ∷ 0 ∷ 0 ∷ [], record { rest = 0 ∷ 0 ∷ []; operands = (0, 0, omega arith, omega arith, refl); whole = refl }, h)
+in_range_so t len (Skip i) y h = (0x2f ∷ 0 ∷ 0 ∷ [], record { rest = 0 ∷ 0 ∷ []; operands = (0, 0, omega arith, omega arith, refl); whole = refl }, h)
+in_range_so t len (Reg r) y h = (0x90 ∷ shortest_uleb r, inr (record { rest = shortest_uleb r; operands = (shortest_uleb-spells r (omega arith), y); whole = refl }), tt)
 in_range_so t len (Breg r n) y h =
     let both : Both (Register r) (Sleb n) (shortest_uleb r ++ shortest_sleb n) = record { front = shortest_uleb r; back = shortest_sleb n; first = (shortest_uleb-spells r (omega arith), y.0); second = shortest_sleb-spells n y.1; whole = refl } in
-    record { bytes = 0x92 ∷ (shortest_uleb r ++ shortest_sleb n); spelled = inr (record { rest = shortest_uleb r ++ shortest_sleb n; operands = both; whole = refl }); within_list = tt }
-in_range_so t len (Fbreg n) y h = record { bytes = 0x91 ∷ shortest_sleb n; spelled = record { rest = shortest_sleb n; operands = shortest_sleb-spells n y; whole = refl }; within_list = tt }
-in_range_so t len (Piece n) y h = record { bytes = 0x93 ∷ shortest_uleb n; spelled = record { rest = shortest_uleb n; operands = shortest_uleb-spells n y; whole = refl }; within_list = tt }
-in_range_so t len (DerefSize k) y h = record { bytes = 0x94 ∷ fixed_bytes t.order 1 k; spelled = (record { rest = fixed_bytes t.order 1 k; operands = record { bytes = refl; fits = omega arith }; whole = refl }, h.0, h.1); within_list = tt }
+    (0x92 ∷ (shortest_uleb r ++ shortest_sleb n), inr (record { rest = shortest_uleb r ++ shortest_sleb n; operands = both; whole = refl }), tt)
+in_range_so t len (Fbreg n) y h = (0x91 ∷ shortest_sleb n, record { rest = shortest_sleb n; operands = shortest_sleb-spells n y; whole = refl }, tt)
+in_range_so t len (Piece n) y h = (0x93 ∷ shortest_uleb n, record { rest = shortest_uleb n; operands = shortest_uleb-spells n y; whole = refl }, tt)
+in_range_so t len (DerefSize k) y h = (0x94 ∷ fixed_bytes t.order 1 k, (record { rest = fixed_bytes t.order 1 k; operands = record { bytes = refl; fits = omega arith }; whole = refl }, h.0, h.1), tt)
 in_range_so t len (BitPiece size offset) y h =
     let both : Both (Uleb size) (Uleb offset) (shortest_uleb size ++ shortest_uleb offset) = record { front = shortest_uleb size; back = shortest_uleb offset; first = shortest_uleb-spells size y.0; second = shortest_uleb-spells offset y.1; whole = refl } in
-    record { bytes = 0x9d ∷ (shortest_uleb size ++ shortest_uleb offset); spelled = record { rest = shortest_uleb size ++ shortest_uleb offset; operands = both; whole = refl }; within_list = tt }
+    (0x9d ∷ (shortest_uleb size ++ shortest_uleb offset), record { rest = shortest_uleb size ++ shortest_uleb offset; operands = both; whole = refl }, tt)
 in_range_so t len (Implicit block) y h =
     let counted : Counted block.now (shortest_uleb (length block.now) ++ block.now) = record { front = shortest_uleb (length block.now); back = block.now; first = shortest_uleb-spells (length block.now) y; second = refl; whole = refl } in
-    record { bytes = 0x9e ∷ (shortest_uleb (length block.now) ++ block.now); spelled = (refl, record { rest = shortest_uleb (length block.now) ++ block.now; operands = counted; whole = refl }); within_list = tt }
-in_range_so t len other y h = record { bytes = alone_code other ∷ []; spelled = refl; within_list = tt }
+    (0x9e ∷ (shortest_uleb (length block.now) ++ block.now), (refl, record { rest = shortest_uleb (length block.now) ++ block.now; operands = counted; whole = refl }), tt)
+in_range_so t len other y h = (alone_code other ∷ [], refl, tt)
 
 pub in_range : (t : Target) (len : ℕ) (op : Op) → IsTyped op → Fits t len op → InRange t len (bare op)
-in_range t len op y h = so_range t len (bare op) (in_range_so t len op y h)
+in_range t len op y h = let s = in_range_so t len op y h in record { bytes = s.0; spelled = in_table t (bare op) s.0 s.1; within_list = s.2 }
 
 -- ---- and what a spelling says
 
@@ -45,16 +48,16 @@ modulo_below Four (pos n) = mod-lt n (omega arith)
 modulo_below Eight (pos n) = mod-lt n (omega arith)
 modulo_below s z = omega arith
 
-fits_so : (t : Target) (len : ℕ) (op : Op) → InRangeSo t len (bare op) → Fits t len op
-fits_so t len (Addr a) r = subst (λ (n : ℕ). a < n) (sym (limit_is t.size).0) r.spelled.operands.fits
-fits_so t len (Const v) r = rw r.spelled.value (modulo_below t.size r.spelled.number)
-fits_so t len (Bra i) r = r.within_list
-fits_so t len (Skip i) r = r.within_list
-fits_so t len (DerefSize k) r = (r.spelled.1, r.spelled.2)
-fits_so t len op r = tt
+fits_so : (t : Target) (len : ℕ) (op : Op) (b : List ℕ) → IsSpelled t (bare op) b → TargetWithin len (branch_target (bare op)) → Fits t len op
+fits_so t len (Addr a) b s w = subst (λ (n : ℕ). a < n) (sym (limit_is t.size).0) s.operands.fits
+fits_so t len (Const v) b s w = rw s.value (modulo_below t.size s.number)
+fits_so t len (Bra i) b s w = w
+fits_so t len (Skip i) b s w = w
+fits_so t len (DerefSize k) b s w = (s.1, s.2)
+fits_so t len op b s w = tt
 
 pub fits : (t : Target) (len : ℕ) (op : Op) → InRange t len (bare op) → Fits t len op
-fits t len op r = fits_so t len op (range_so t len (bare op) r)
+fits t len op r = fits_so t len op r.bytes (by_table t (bare op) r.bytes r.spelled) r.within_list
 
 -- ---- lists
 

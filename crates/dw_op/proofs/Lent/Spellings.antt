@@ -2,7 +2,7 @@
 use Rattle.dw_op.specs.Operands.{address, one}
 use Rattle.dw_op.proofs.Words.{◌≡◌, ℕ, ◌+◌, ◌-◌, ◌<◌, List, [], ◌∷◌, Some, refl, sym, ap, subst, ◌∙◌, arith, inl, inr, ℤ, pos, w8, w16, w32, w64, cases_Bool, Target, Uleb, Sleb, Register, Fixed, FixedSigned, Address, Op, Addr, Const}
 use Rattle.dw_op.proofs.Words.{Pick, PlusUconst, Bra, Skip, Reg, Breg, Fbreg, Piece, DerefSize, BitPiece, Implicit, alone_code, Field, fixed, twos, unsigned, signed, register, size, block, FieldValue, OpForm, none, two, branch, constant}
-use Rattle.dw_op.proofs.Words.{natural, implicit, op_form_table, in_range, form_of, branch_target, AtMost, Least, TargetWithin, InRange, Code, Both, AnyTwo, FieldSpells, OpFormSpells, OpSpells, Alone, Counted, ConstForm, Const1u, Const1s}
+use Rattle.dw_op.proofs.Words.{natural, implicit, op_form_table, in_range, form_of, Code, Both, AnyTwo, FieldSpells, OpFormSpells, OpSpells, Alone, Counted, ConstForm, Const1u, Const1s}
 use Rattle.dw_op.proofs.{Words.{Const2u, Const2s, Const4u, Const4s, Const8u, Const8s, Constu, Consts, Lit, Unsigned, Written, IsSpelled}, Lent.ReadingLaws.{EachEntry, looked_up, ◌&◌, range_is, some_is, small_const, within, above, breg_form}}
 
 -- ---- from the table
@@ -144,28 +144,3 @@ module _ (t : Target) where
       let same : Implicit bytes ≡ implicit bytes.now = ap (λ (p : ℕ × ℕ). Implicit (record { ref_ptr = p; now = bytes.now })) h.0 in
       coded 0x9e (one block implicit) (Implicit bytes) b (Counted bytes.now) h.1 refl (λ c s. (bytes.now, same, s))
   in_table other b h = alone (alone_code other) other b h refl
-
--- ---- ranges and least spellings
-
--- some bytes spell the operation so, and its branch stays in the list
-pub record InRangeSo (t : Target) (len : ℕ) (op : Op) : Type 0 where
-  pub bytes : List ℕ
-  pub spelled : IsSpelled t op bytes
-  pub within_list : TargetWithin len (branch_target op)
-
--- the least of what spells the operation so
-pub record LeastSo (t : Target) (op : Op) (bytes : List ℕ) : Type 0 where
-  pub spells : IsSpelled t op bytes
-  pub least : (other : List ℕ) → IsSpelled t op other → AtMost bytes other
-
-pub range_so : (t : Target) (len : ℕ) (op : Op) → InRange t len op → InRangeSo t len op
-range_so t len op r = record { bytes = r.bytes; spelled = by_table t op r.bytes r.spelled; within_list = r.within_list }
-
-pub so_range : (t : Target) (len : ℕ) (op : Op) → InRangeSo t len op → InRange t len op
-so_range t len op r = record { bytes = r.bytes; spelled = in_table t op r.bytes r.spelled; within_list = r.within_list }
-
-pub least_so : (t : Target) (op : Op) (b : List ℕ) → Least t op b → LeastSo t op b
-least_so t op b l = record { spells = by_table t op b l.spells; least = λ other s. l.least other (in_table t op other s) }
-
-pub so_least : (t : Target) (op : Op) (b : List ℕ) → LeastSo t op b → Least t op b
-so_least t op b l = record { spells = in_table t op b l.spells; least = λ other s. l.least other (by_table t op other s) }
