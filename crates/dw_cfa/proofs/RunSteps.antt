@@ -1,5 +1,5 @@
 -- One instruction of a program, in the rows still to come.
-use Rattle.dw_cfa.proofs.Words.{◌≡◌, ℕ, ◌<◌, List, [], length, Option, None, Some, Result, Ok, Err, IsOk, false, refl, sym, ap, ◌∙◌, subst, IsTrue, AreBytes, Code, Factors, Input, Instr, Machine, Outcome, Read, Refusal, RegRule, Rules}
+use Rattle.dw_cfa.proofs.Words.{◌≡◌, ℕ, ◌<◌, List, [], length, Option, None, Some, Result, Ok, Err, IsOk, false, refl, sym, ap, ◌∙◌, subst, IsTrue, AreBytes, Code, Factors, Input, Instr, Machine, Outcome, Refusal, RegRule, Rules}
 use Rattle.dw_cfa.proofs.Words.{State, address_limit, SetLoc, Advance, moves_location, instr_at, blank, written, after, cie_fault, fde_fault, BeganWith, IsLed, state_of, IsAfter, placed, cie_run, initial_row, on_initial, here, row_if}
 use Rattle.dw_cfa.proofs.Words.{fault_or, fde_rows, fde_stop, rows_left, rows_behind, run_rows, run_stop, stop_left, stop_or, RunsSo, RanTo, WroteTo, fails, finished, row_then, program_fault}
 use Rattle.dw_cfa.proofs.{Lent.RowsAt.stays, Placings.{reads, placed_end, placed_step, placed_stuck}}
@@ -79,20 +79,6 @@ run_stuck f cie fde begin r is = (rw is refl, rw is refl)
 pub run_ran : (f : Factors) (cie fde : Input) (old m : Machine) → RunsSo old fde → IsLed f cie old m → (rows_left f fde m ≡ run_rows f cie fde old.location) × (stop_left f fde m ≡ run_stop f cie fde old.location)
 unfolding run_rows rows_left run_stop stop_left
 run_ran f cie fde old m so led = (rw (led.initial, led.row, led.none, led.location, led.limit ∙ so.limit) refl, rw (led.initial, led.row, led.none, led.location, led.limit ∙ so.limit) refl)
-
--- what is run to the end is read
-read_unless : (f : Factors) (i : Input) → ((r : Refusal) → instr_at f i ≡ Err r → ⊥) → IsOk (instr_at f i)
-read_unless f i never = go (instr_at f i) refl
-  where
-    go : (r : Read Instr) → instr_at f i ≡ r → IsOk r
-    go (Ok x) e = refl
-    go (Err r) e = absurd (never r e)
-
-pub rows_read : (f : Factors) (i : Input) (m : Machine) → 0 < length i.bytes → (rows_left f i m).fault ≡ None → IsOk (instr_at f i)
-rows_read f i m some none = read_unless f i (λ r e. let k : Some r ≡ None = sym (ap (λ (o : Outcome). o.fault) (rows_stuck f i m r some e)) ∙ none in cc)
-
-pub initial_read : (f : Factors) (i : Input) (row : Rules) → 0 < length i.bytes → IsOk (initial_row (placed f i) row) → IsOk (instr_at f i)
-initial_read f i row some ok = read_unless f i (λ r e. let no = subst (λ (x : Result Rules Refusal). IsOk x) (initial_stuck f i row r some e) ok in cc)
 
 -- a run that has no fault has an initial row
 pub initial_left : (r : Result Rules Refusal) (go : Rules → Outcome) → (on_initial r go).fault ≡ None → IsOk r

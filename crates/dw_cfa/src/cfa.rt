@@ -1,6 +1,5 @@
 //! Instructions that say how the CFA is found (6.4.2.2).
 
-ghost use Rattle.std.specs.Prelude.{IsOk, IsTrue};
 ghost use Rattle.dw_cfa.specs.Inner.ByOpcode.{def_cfa_at, def_cfa_sf_at, def_cfa_register_at, def_cfa_offset_at, def_cfa_offset_sf_at, def_cfa_expression_at};
 ghost use Rattle.dw_cfa.specs.Inner.Turns.{IsWithinLimit, Taken};
 
@@ -115,21 +114,19 @@ pub(crate) fn run_def_cfa_offset_sf<'a, K: Keep<'a>>(
     keep.def_cfa_offset(offset, at, fault)
 }
 
-/// The CFA is what an expression gives. One that is known to be accepted is not judged again.
+/// The CFA is what an expression gives.
 #[tactic(auto, unfolding(crate::specs::Inner::ByOpcode::def_cfa_expression_at))]
 #[inline(never)]
 pub(crate) fn run_def_cfa_expression<'a, K: Keep<'a>>(
     cursor: &mut Cursor<'a>,
     keep: &mut K,
     at: u64,
-    known: bool,
     fault: &mut Refusal,
 ) -> End
-    requires location { IsWithinLimit (K.machine keep.old) }
-    requires known { IsTrue known → IsOk (def_cfa_expression_at cursor.old) }
+    requires { IsWithinLimit (K.machine keep.old) }
     ensures { Taken K.takes (def_cfa_expression_at cursor.old) at keep.old result fault.new cursor.new keep.new }
 {
-    let expression = match block(cursor, known) {
+    let expression = match block(cursor) {
         Ok(expression) => expression,
         Err(refusal) => return refused(refusal, fault),
     };

@@ -63,7 +63,7 @@ pub(crate) fn lacks_rule<'a>(
     let mut fault = Refusal { code, at: 0 };
     'instrs: while cursor.left() > 0 {
         let low = machine.location;
-        match turn(cursor, factors, machine, false, &mut fault) {
+        match turn(cursor, factors, machine, &mut fault) {
             End::On => {}
             End::Moved => {
                 lacks = lacks_now(lacks, machine.states.row(), end, low, machine.location);

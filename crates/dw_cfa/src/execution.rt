@@ -1,6 +1,6 @@
 //! Programs that are run instruction by instruction (6.4.3).
 
-ghost use Rattle.std.specs.Prelude.{◌≡◌, ◌<◌, ◌≤◌, None, Some, Ok, Err, length, OnOk, IfErr, IfOk, IsOk, IsTrue, false};
+ghost use Rattle.std.specs.Prelude.{◌≡◌, ◌<◌, ◌≤◌, Some, Ok, Err, length, OnOk, IfErr, IfOk, false};
 ghost use Rattle.dw_num.specs.Refusals.{Refuses};
 ghost use Rattle.dw_cfa.specs.{Rows.blank, declared.instr.{Factors.{Factors as TheFactors}, Instr.TheVariants.Nop}, Inner.{FrontInstr.instr_at, RowWalk.{IsLed, RanUpTo}}};
 ghost use Rattle.dw_cfa.specs.Inner.{Runs.{RunsSo, GivesRow, StopsAbove, rows_left, stop_left, initial_row, placed}, Turns.{Does, Entered, Stays}};
@@ -23,17 +23,15 @@ pub struct LocatedRow<'a> {
 }
 
 /// Runs a program up to the end of a row, which the machine has then. Answers where the row starts, and whether
-/// the program goes on behind it. Where it is known that the program has no fault, no expression is judged again.
+/// the program goes on behind it.
 #[tactic(auto, using(crate::proofs::RunSteps::rows_end))]
 #[inline(always)]
 pub(crate) fn next_row<'a>(
     cursor: &mut Cursor<'a>,
     factors: Factors,
     machine: &mut Machine<'a>,
-    known: bool,
 ) -> Result<(u128, bool), ReadError>
-    requires so { RunsSo machine.old cursor.old }
-    requires known { IsTrue known → (rows_left factors cursor.old machine.old).fault ≡ None }
+    requires { RunsSo machine.old cursor.old }
     ensures row { GivesRow (rows_left factors cursor.old machine.old) factors cursor.new machine.new result }
     ensures initial { machine.new.initial ≡ machine.old.initial }
     ensures kept { machine.new.states.kept ≡ machine.old.states.kept }
@@ -42,7 +40,7 @@ pub(crate) fn next_row<'a>(
     let mut fault = Refusal { code, at: 0 };
     'instrs: while cursor.left() > 0 {
         let location = machine.location;
-        match turn(cursor, factors, machine, known, &mut fault) {
+        match turn(cursor, factors, machine, &mut fault) {
             End::On => {}
             End::Moved => return Ok((location, true)),
             End::Refused => return Err(ReadError::Refused(fault)),
@@ -53,7 +51,7 @@ pub(crate) fn next_row<'a>(
 }
 
 /// Runs a program up to the end of the last row that starts at or below an address, which the machine has then. Answers
-/// whether the program goes on behind it. Where it is known that the program has no fault, no expression is judged again.
+/// whether the program goes on behind it.
 #[tactic(auto, using(crate::proofs::RowsTo::ends_above, crate::proofs::RunSteps::rows_end, crate::proofs::StopsTo::not_below))]
 #[inline(always)]
 pub(crate) fn run_to<'a, K: Keep<'a>>(
@@ -61,11 +59,9 @@ pub(crate) fn run_to<'a, K: Keep<'a>>(
     factors: Factors,
     keep: &mut K,
     address: u64,
-    known: bool,
 ) -> Result<bool, ReadError>
     requires fde { Does false K.machine K.takes }
     requires so { RunsSo (K.machine keep.old) cursor.old }
-    requires known { IsTrue known → (rows_left factors cursor.old (K.machine keep.old)).fault ≡ None }
     requires start { (K.machine keep.old).location ≤ address }
     ensures ran { IfOk result (RanUpTo address (rows_left factors cursor.old (K.machine keep.old)) factors cursor.new (K.machine keep.new)) }
     ensures none { OnOk result (StopsAbove (rows_left factors cursor.old (K.machine keep.old)).fault (stop_left factors cursor.old (K.machine keep.old)) address) }
@@ -75,7 +71,7 @@ pub(crate) fn run_to<'a, K: Keep<'a>>(
     let code = Code::Truncated;
     let mut refusal = Refusal { code, at: 0 };
     'instrs: while cursor.left() > 0 {
-        match turn(cursor, factors, keep, known, &mut refusal) {
+        match turn(cursor, factors, keep, &mut refusal) {
             End::On => {}
             End::Moved => {
                 if keep.is_above(address) {
@@ -103,17 +99,15 @@ fn pass_nop(cursor: &mut Cursor<'_>) -> bool
 }
 
 // Runs an instruction of a CIE's program.
-#[tactic(auto, using(crate::proofs::RunSteps::initial_read, crate::proofs::Turns::entered, crate::proofs::Turns::in_limit))]
+#[tactic(auto, using(crate::proofs::Turns::entered, crate::proofs::Turns::in_limit))]
 #[inline(always)]
 fn write_one<'a>(
     cursor: &mut Cursor<'a>,
     factors: Factors,
     row: &mut Row<'a>,
-    known: bool,
     fault: &mut Refusal,
 ) -> End
-    requires some { 0 < length cursor.old.bytes }
-    requires known { IsTrue known → IsOk (initial_row (placed factors cursor.old) row.old) }
+    requires { 0 < length cursor.old.bytes }
     ensures { Entered factors cursor.old row.old result fault.new cursor.new row.new }
 {
     are_bytes(cursor.rest());
@@ -121,18 +115,16 @@ fn write_one<'a>(
     if pass_nop(cursor) {
         return row.nop(at, fault);
     }
-    execute(cursor, factors, row, known, fault)
+    execute(cursor, factors, row, fault)
 }
 
-/// Runs a CIE's program, whose row it is then. Where it is known that the program has no fault, no expression is judged again.
+/// Runs a CIE's program, whose row it is then.
 #[tactic(auto, using(crate::proofs::RunSteps::initial_end))]
 pub(crate) fn run_initial<'a>(
     cursor: &mut Cursor<'a>,
     factors: Factors,
     row: &mut Row<'a>,
-    known: bool,
 ) -> Result<(), ReadError>
-    requires { IsTrue known → IsOk (initial_row (placed factors cursor.old) blank) }
     ensures ok { OnOk result (initial_row (placed factors cursor.old) blank ≡ Ok row.new) }
     ensures err { IfErr result (Refuses (λ r. initial_row (placed factors cursor.old) blank ≡ Err r)) }
 {
@@ -140,7 +132,7 @@ pub(crate) fn run_initial<'a>(
     let code = Code::Truncated;
     let mut fault = Refusal { code, at: 0 };
     'instrs: while cursor.left() > 0 {
-        match write_one(cursor, factors, row, known, &mut fault) {
+        match write_one(cursor, factors, row, &mut fault) {
             End::On | End::Moved => {}
             End::Refused => return Err(ReadError::Refused(fault)),
             End::OutOfMemory => return Err(ReadError::OutOfMemory),
@@ -154,15 +146,13 @@ pub(crate) fn lead<'a>(
     cie: &mut Cursor<'a>,
     factors: Factors,
     machine: &mut Machine<'a>,
-    known: bool,
 ) -> Result<(), ReadError>
-    requires { IsTrue known → IsOk (initial_row (placed factors cie.old) blank) }
     ensures ok { OnOk result (IsLed factors cie.old machine.old machine.new) }
     ensures err { IfErr result (Refuses (λ r. initial_row (placed factors cie.old) blank ≡ Err r)) }
     ensures kept { machine.new.states.kept ≡ machine.old.states.kept }
 {
     machine.states.untrack();
-    run_initial(cie, factors, &mut machine.initial, known)?;
+    run_initial(cie, factors, &mut machine.initial)?;
     machine.states.rewind(&machine.initial)?;
     Ok(())
 }

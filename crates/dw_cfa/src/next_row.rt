@@ -1,6 +1,6 @@
 //! The next row of a walk whose program runs (6.4.3).
 
-ghost use Rattle.std.specs.Prelude.{◌≡◌, None};
+ghost use Rattle.std.specs.Prelude.{◌≡◌};
 ghost use Rattle.dw_cfa.specs.Inner.{NextRow.GoesOn, Runs.{RunsSo, rows_left}};
 
 use crate::instr::Factors;
@@ -9,7 +9,7 @@ use crate::steps::Progress;
 use crate::turn::turn;
 use dw_num::{Code, Cursor, ReadError, Refusal};
 
-/// Runs a program that is known to have no fault up to the end of a row, which the machine has then, and answers where the row
+/// Runs a program up to the end of a row, which the machine has then, and answers where the row
 /// starts. Only behind the last row is a walk's progress another one.
 #[tactic(auto, using(crate::proofs::RunSteps::rows_end))]
 #[inline(always)]
@@ -21,7 +21,6 @@ pub(crate) fn go_on_row<'a>(
 ) -> Result<Option<u128>, ReadError>
     requires running { progress.old ≡ Progress.Running }
     requires so { RunsSo machine.old cursor.old }
-    requires known { (rows_left factors cursor.old machine.old).fault ≡ None }
     ensures row { GoesOn (rows_left factors cursor.old machine.old) factors cursor.new machine.new progress.new result }
     ensures initial { machine.new.initial ≡ machine.old.initial }
     ensures kept { machine.new.states.kept ≡ machine.old.states.kept }
@@ -30,7 +29,7 @@ pub(crate) fn go_on_row<'a>(
     let mut fault = Refusal { code, at: 0 };
     let start = machine.location;
     'instrs: while cursor.left() > 0 {
-        match turn(cursor, factors, machine, true, &mut fault) {
+        match turn(cursor, factors, machine, &mut fault) {
             End::On => {}
             End::Moved => return Ok(Some(start)),
             End::Refused => return Err(ReadError::Refused(fault)),

@@ -112,7 +112,7 @@ pub(crate) fn read_instr<'a>(
     let mut noted = Noted { instr: Instr::Nop };
     let code = Code::Truncated;
     let mut fault = Refusal { code, at: 0 };
-    match execute(cursor, factors, &mut noted, false, &mut fault) {
+    match execute(cursor, factors, &mut noted, &mut fault) {
         End::On => Ok(noted.instr),
         End::Refused => Err(fault),
         End::Moved | End::OutOfMemory => unreachable!(),

@@ -1,6 +1,6 @@
 //! Opcodes (7.24), and the operands of instructions.
 
-ghost use Rattle.std.specs.Prelude.{◌≡◌, ◌+◌, ◌*◌, ◌<◌, ◌^◌, ◌*ℤ◌, length, unsigned_abs, IsTrue, IsOk};
+ghost use Rattle.std.specs.Prelude.{◌≡◌, ◌+◌, ◌*◌, ◌<◌, ◌^◌, ◌*ℤ◌, length, unsigned_abs};
 ghost use Rattle.dw_num.specs.Inner.Front.{Gives};
 ghost use Rattle.dw_cfa.specs.Inner.{ByOpcode.{offset_in, plain_at, factored_at, signed_at}, FrontInstr.{expression_in, block_at}, Operands.opcode_of};
 
@@ -132,21 +132,12 @@ pub(crate) fn signed(cursor: &mut Cursor<'_>, factors: Factors, at: u64) -> Resu
 }
 
 // The expression of a block that stands at this place, with its faults at places of the section.
-#[tactic(auto, using(crate::proofs::Expressions::expression_known, dw_op::proofs::Lent::FaultPlaces::fault_within, crate::proofs::Expressions::expression_found, crate::proofs::Expressions::expression_refused))]
-fn accept_at<'a>(
-    block: &'a [u8],
-    at: u64,
-    target: Target,
-    known: bool,
-) -> Result<ExprRef<'a>, Refusal>
-    requires room { at + length block.now < 2 ^ 63 }
-    requires known { IsTrue known → IsOk (expression_in at target block.now) }
+#[tactic(auto, using(dw_op::proofs::Lent::FaultPlaces::fault_within, crate::proofs::Expressions::expression_found, crate::proofs::Expressions::expression_refused))]
+fn accept_at<'a>(block: &'a [u8], at: u64, target: Target) -> Result<ExprRef<'a>, Refusal>
+    requires { at + length block.now < 2 ^ 63 }
     ensures { result ≡ expression_in at target block.now }
 {
     are_bytes(block);
-    if known {
-        return Ok(ExprRef::known(block, target));
-    }
     match ExprRef::accept(block, target) {
         Ok(expression) => Ok(expression),
         Err(fault) => Err(Refusal {
@@ -157,15 +148,14 @@ fn accept_at<'a>(
 }
 
 #[tactic(auto, unfolding(crate::specs::Inner::FrontInstr::block_at))]
-pub(crate) fn block<'a>(cursor: &mut Cursor<'a>, known: bool) -> Result<ExprRef<'a>, Refusal>
-    requires { IsTrue known → IsOk (block_at cursor.old) }
+pub(crate) fn block<'a>(cursor: &mut Cursor<'a>) -> Result<ExprRef<'a>, Refusal>
     ensures { Gives (λ e. e) result (block_at cursor.old) cursor.new }
 {
     let target = cursor.target();
     let len = cursor.uleb()?;
     let at = cursor.at();
     let block = cursor.take(len as usize)?;
-    accept_at(block, at, target, known)
+    accept_at(block, at, target)
 }
 
 // ---- advances

@@ -1,6 +1,5 @@
 //! Instructions that say how a register of the caller is found (6.4.2.3).
 
-ghost use Rattle.std.specs.Prelude.{IsOk, IsTrue};
 ghost use Rattle.dw_cfa.specs.Inner.ByOpcode.{undefined_at, same_value_at, offset_at, offset_extended_at, offset_extended_sf_at, val_offset_at};
 ghost use Rattle.dw_cfa.specs.Inner.{ByOpcode.{val_offset_sf_at, register_rule_at, expression_at, restore_at}, Turns.{IsWithinLimit, Taken}};
 
@@ -204,7 +203,7 @@ pub(crate) fn run_register<'a, K: Keep<'a>>(
     keep.set(register, RegRule::Register(other), at, fault)
 }
 
-/// A register is saved where an expression says, or is what that gives. One that is known to be accepted is not judged again.
+/// A register is saved where an expression says, or is what that gives.
 #[tactic(auto, unfolding(crate::specs::Inner::ByOpcode::expression_at))]
 #[inline(never)]
 pub(crate) fn run_expression<'a, K: Keep<'a>>(
@@ -212,18 +211,16 @@ pub(crate) fn run_expression<'a, K: Keep<'a>>(
     is_value: bool,
     keep: &mut K,
     at: u64,
-    known: bool,
     fault: &mut Refusal,
 ) -> End
-    requires location { IsWithinLimit (K.machine keep.old) }
-    requires known { IsTrue known → IsOk (expression_at is_value cursor.old) }
+    requires { IsWithinLimit (K.machine keep.old) }
     ensures { Taken K.takes (expression_at is_value cursor.old) at keep.old result fault.new cursor.new keep.new }
 {
     let register = match cursor.register() {
         Ok(register) => register,
         Err(refusal) => return refused(refusal, fault),
     };
-    let expression = match block(cursor, known) {
+    let expression = match block(cursor) {
         Ok(expression) => expression,
         Err(refusal) => return refused(refusal, fault),
     };

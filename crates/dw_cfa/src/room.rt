@@ -28,8 +28,8 @@ fn run_both<'a>(
     requires start { machine.old.location ≤ address }
     ensures { FoundAt address factors cie.old fde.old machine.old.location machine.new.states.row result }
 {
-    lead(cie, factors, machine, false)?;
-    let _ = run_to(fde, factors, machine, address, false)?;
+    lead(cie, factors, machine)?;
+    let _ = run_to(fde, factors, machine, address)?;
     Ok(())
 }
 
@@ -48,9 +48,9 @@ fn run_look_up<'a>(
     requires start { begin ≤ address }
     ensures { FoundAt address factors cie.old fde.old begin look.new.row result }
 {
-    run_initial(cie, factors, &mut look.row, false)?;
+    run_initial(cie, factors, &mut look.row)?;
     look.begin(begin, fde.target().size);
-    let _ = run_to(fde, factors, look, address, false)?;
+    let _ = run_to(fde, factors, look, address)?;
     Ok(())
 }
 

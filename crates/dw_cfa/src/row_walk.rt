@@ -56,7 +56,7 @@ fn run_cie<'a>(leading: Leading<'a>, machine: &mut Machine<'a>) -> Result<(), Re
 {
     let program = leading.program;
     let mut cursor = Cursor::new(program.bytes, program.at, leading.target);
-    lead(&mut cursor, leading.factors, machine, true)?;
+    lead(&mut cursor, leading.factors, machine)?;
     machine.states.track(machine.initial.is_wide());
     Ok(())
 }
@@ -102,7 +102,7 @@ fn first_row<'a>(
     are_bytes(fde.rest());
     ready(*leading, machine, *kept)?;
     *kept = true;
-    next_row(fde, leading.factors, machine, true)
+    next_row(fde, leading.factors, machine)
 }
 
 // Brings a CIE's row about, and runs an FDE's program up to the end of the last row that starts at or below an address.
@@ -128,7 +128,7 @@ fn first_to<'a>(
     are_bytes(fde.rest());
     ready(leading, machine, *kept)?;
     *kept = true;
-    run_to(fde, leading.factors, machine, address, true)
+    run_to(fde, leading.factors, machine, address)
 }
 
 // The same from where a walk stands.
@@ -152,7 +152,7 @@ fn walk_to<'a>(
 {
     match progress {
         Progress::Begun => first_to(leading, fde, machine, kept, address),
-        Progress::Running => run_to(fde, leading.factors, machine, address, true),
+        Progress::Running => run_to(fde, leading.factors, machine, address),
         Progress::Finished => Ok(false),
         Progress::Failed(error) => Err(error),
     }
@@ -183,7 +183,7 @@ fn keep_ready<'a>(
 }
 
 /// The rows (6.4.1, 6.4.3) of one FDE after another, in room that is kept, where it is known that their programs
-/// (`initial_instructions`, `instructions`) give rows to their end: no expression is judged again. A CIE's program is run where
+/// (`initial_instructions`, `instructions`) give rows to their end. A CIE's program is run where
 /// the FDE before had another CIE; else what the FDE before changed is taken back. A row can be kept, and the rows behind it are
 /// compared with it by what was set since. A contract sees what it sees of `RowSteps`, the row that was kept, and the CIE's row
 /// while rows are to come behind another.

@@ -44,8 +44,8 @@ fn first_row<'a>(
     requires { RunsSo machine.old fde.old }
     ensures { GivesRow (run_rows factors cie.old fde.old machine.old.location) factors fde.new machine.new result }
 {
-    lead(cie, factors, machine, false)?;
-    next_row(fde, factors, machine, false)
+    lead(cie, factors, machine)?;
+    next_row(fde, factors, machine)
 }
 
 // Runs a CIE's program on a row.
@@ -59,7 +59,7 @@ fn run_cie<'a>(
     ensures err { IfErr result (Refuses (λ r. initial_row (placed factors (program_input cie_program.entry target)) blank ≡ Err r)) }
 {
     let mut cursor = Cursor::new(cie_program.bytes, cie_program.at, target);
-    run_initial(&mut cursor, factors, row, false)
+    run_initial(&mut cursor, factors, row)
 }
 
 impl<'a> Row<'a> {
@@ -155,7 +155,7 @@ impl<'a> RowSteps<'a> {
                 let (cie, fde) = (&mut self.cie, &mut self.fde);
                 first_row(cie, fde, self.factors, &mut self.machine)
             }
-            Progress::Running => { next_row(&mut self.fde, self.factors, &mut self.machine, false) }
+            Progress::Running => next_row(&mut self.fde, self.factors, &mut self.machine),
             Progress::Finished => return Ok(None),
             Progress::Failed(error) => return Err(error),
         };

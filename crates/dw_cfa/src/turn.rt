@@ -1,9 +1,9 @@
 //! One turn of the loop that runs a program: an opcode is read, and its instruction applied to what is kept while its
 //! operands are read.
 
-ghost use Rattle.std.specs.Prelude.{◌≡◌, ◌<◌, ◌≤◌, None, length, IsOk, IsTrue, false};
+ghost use Rattle.std.specs.Prelude.{◌<◌, ◌≤◌, length, false};
 ghost use Rattle.dw_num.specs.Target.{address_limit};
-ghost use Rattle.dw_cfa.specs.Inner.{ByOpcode.operands_at, FrontInstr.instr_at, Runs.{RunsSo, rows_left}, Turns.{Does, IsWithinLimit, Stays, Taken, Turned}};
+ghost use Rattle.dw_cfa.specs.Inner.{ByOpcode.operands_at, FrontInstr.instr_at, Runs.RunsSo, Turns.{Does, IsWithinLimit, Stays, Taken, Turned}};
 
 use crate::advance::{run_advance, run_fixed_advance, run_long_advance, run_set_loc};
 use crate::cfa::{
@@ -29,12 +29,10 @@ fn apply<'a, K: Keep<'a>>(
     factors: Factors,
     keep: &mut K,
     at: u64,
-    known: bool,
     fault: &mut Refusal,
 ) -> End
     requires location { IsWithinLimit (K.machine keep.old) }
     requires limit { address_limit cursor.old.target.size ≤ (K.machine keep.old).limit }
-    requires known { IsTrue known → IsOk (operands_at factors at opcode cursor.old) }
     ensures { Taken K.takes (operands_at factors at opcode cursor.old) at keep.old result fault.new cursor.new keep.new }
 {
     match opcode {
@@ -49,7 +47,7 @@ fn apply<'a, K: Keep<'a>>(
         Opcode::DefCfaRegister => run_def_cfa_register(cursor, keep, at, fault),
         Opcode::DefCfaOffset => run_def_cfa_offset(cursor, keep, at, fault),
         Opcode::DefCfaOffsetSf => run_def_cfa_offset_sf(cursor, factors, keep, at, fault),
-        Opcode::DefCfaExpression => run_def_cfa_expression(cursor, keep, at, known, fault),
+        Opcode::DefCfaExpression => run_def_cfa_expression(cursor, keep, at, fault),
         Opcode::Undefined => run_undefined(cursor, keep, at, fault),
         Opcode::SameValue => run_same_value(cursor, keep, at, fault),
         Opcode::Offset(register) => run_offset(cursor, factors, keep, at, register, fault),
@@ -58,8 +56,8 @@ fn apply<'a, K: Keep<'a>>(
         Opcode::ValOffset => run_val_offset(cursor, factors, keep, at, fault),
         Opcode::ValOffsetSf => run_val_offset_sf(cursor, factors, keep, at, fault),
         Opcode::Register => run_register(cursor, keep, at, fault),
-        Opcode::Expression => run_expression(cursor, false, keep, at, known, fault),
-        Opcode::ValExpression => run_expression(cursor, true, keep, at, known, fault),
+        Opcode::Expression => run_expression(cursor, false, keep, at, fault),
+        Opcode::ValExpression => run_expression(cursor, true, keep, at, fault),
         Opcode::Restore(register) => keep.restore(register, at, fault),
         Opcode::RestoreExtended => run_restore_extended(cursor, keep, at, fault),
         Opcode::RememberState => keep.remember(at, fault),
@@ -67,20 +65,17 @@ fn apply<'a, K: Keep<'a>>(
     }
 }
 
-/// Runs the instruction at the front of a program. A refusal is written where the caller says. Where it is known to be read,
-/// its expression is not judged again.
+/// Runs the instruction at the front of a program. A refusal is written where the caller says.
 #[tactic(auto, using(crate::proofs::Tabled::opened), unfolding(crate::specs::Inner::FrontInstr::instr_at))]
 #[inline(always)]
 pub(crate) fn execute<'a, K: Keep<'a>>(
     cursor: &mut Cursor<'a>,
     factors: Factors,
     keep: &mut K,
-    known: bool,
     fault: &mut Refusal,
 ) -> End
     requires within { IsWithinLimit (K.machine keep.old) }
     requires limit { address_limit cursor.old.target.size ≤ (K.machine keep.old).limit }
-    requires known { IsTrue known → IsOk (instr_at factors cursor.old) }
     ensures { Taken K.takes (instr_at factors cursor.old) cursor.old.at keep.old result fault.new cursor.new keep.new }
 {
     let at = cursor.at();
@@ -89,29 +84,26 @@ pub(crate) fn execute<'a, K: Keep<'a>>(
         Err(refusal) => return refused(refusal, fault),
     };
     match known_opcode(code) {
-        Some(opcode) => apply(opcode, cursor, factors, keep, at, known, fault),
+        Some(opcode) => apply(opcode, cursor, factors, keep, at, fault),
         None => refuse(Code::UnknownInstruction, at, fault),
     }
 }
 
-/// The same of an FDE's program, in the rows still to come. Where it is known that these have no fault, no expression is judged
-/// again.
-#[tactic(auto, using(crate::proofs::RunSteps::rows_read, crate::proofs::Turns::stays, crate::proofs::Turns::turned))]
+/// The same of an FDE's program, in the rows still to come.
+#[tactic(auto, using(crate::proofs::Turns::stays, crate::proofs::Turns::turned))]
 #[inline(always)]
 pub(crate) fn turn<'a, K: Keep<'a>>(
     cursor: &mut Cursor<'a>,
     factors: Factors,
     keep: &mut K,
-    known: bool,
     fault: &mut Refusal,
 ) -> End
     requires fde { Does false K.machine K.takes }
     requires some { 0 < length cursor.old.bytes }
     requires so { RunsSo (K.machine keep.old) cursor.old }
-    requires known { IsTrue known → (rows_left factors cursor.old (K.machine keep.old)).fault ≡ None }
     ensures turned { Turned factors cursor.old (K.machine keep.old) result fault.new cursor.new (K.machine keep.new) }
     ensures same { Stays (K.machine keep.old) (K.machine keep.new) }
 {
     are_bytes(cursor.rest());
-    execute(cursor, factors, keep, known, fault)
+    execute(cursor, factors, keep, fault)
 }
