@@ -102,10 +102,6 @@ accepted_ops t bytes h = h.1 ∙ ap answered (sym (ops_are t bytes h.0 h.1))
 pub accepted_block : (t : Target) (bytes : List ℕ) → AreBytes bytes → IsAccepted t bytes → FrameBlock t (ops_of t bytes) bytes
 accepted_block t bytes are h = block_found Frame t bytes (ops_of t bytes) are (accepted_ops t bytes h)
 
--- a block is accepted
-pub accepted_is : (t : Target) (bytes : List ℕ) (ops : List Op) → FrameBlock t ops bytes → IsAccepted t bytes
-accepted_is t bytes ops h = (ops, block_only Frame t bytes ops h)
-
 pub block_ops : (t : Target) (bytes : List ℕ) (ops : List Op) → FrameBlock t ops bytes → ops_of t bytes ≡ ops
 block_ops t bytes ops h = ops_are t bytes ops (block_only Frame t bytes ops h)
 

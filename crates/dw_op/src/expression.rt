@@ -110,16 +110,6 @@ impl<'a> ExprRef<'a> {
         Ok(ExprRef { target, bytes })
     }
 
-    /// The expression (2.5) of a block (7.7.1) that was accepted before, which is not judged again.
-    pub fn known(bytes: &'a [u8], target: Target) -> ExprRef<'a>
-        requires { (ops : List Op) × FrameBlock target ops bytes.now }
-        ensures target { result.target ≡ target }
-        ensures ops { FrameBlock target result.ops bytes.entry.now }
-    {
-        are_bytes(bytes);
-        ExprRef { target, bytes }
-    }
-
     /// The target that the expression is for: the size of its addresses (`DW_OP_addr`, 2.5.1.1), and the order of its bytes.
     pub fn target(&self) -> Target
         ensures value { result ≡ self.now.target }
