@@ -20,46 +20,35 @@ pub fn are_bytes(bytes: &[u8])
     let _ = bytes;
 }
 
-// The number that all of these bytes spell in one order.
+// The number that the first bytes spell in one order, 2, 4 or 8 of them. The length of each slice is known where this is compiled,
+// so no byte is tested alone.
 #[inline(always)]
-fn ordered_in<B: ByteOrder>(bytes: &[u8]) -> u64
-    requires some { 1 ≤ length bytes.now }
-    requires most { length bytes.now ≤ 8 }
-    ensures { result ≡ B.number_of (length bytes.now) bytes.now }
+fn ordered_in<B: ByteOrder>(bytes: &[u8], n: usize) -> u64
+    requires width { IsWidth n }
+    requires some { 1 < n }
+    requires room { n ≤ length bytes.now }
+    ensures { result ≡ B.number_of n (take n bytes.now) }
 {
-    match bytes.len() {
-        2 => u64::from(B::read_u16(bytes)),
-        4 => u64::from(B::read_u32(bytes)),
-        8 => B::read_u64(bytes),
-        n => B::read_uint(bytes, n),
+    match n {
+        2 => u64::from(B::read_u16(&bytes[..2])),
+        4 => u64::from(B::read_u32(&bytes[..4])),
+        _ => B::read_u64(&bytes[..8]),
     }
 }
 
-// The number that all of these bytes spell.
-#[inline(always)]
-fn spelled(order: Order, bytes: &[u8]) -> u64
-    requires some { 1 ≤ length bytes.now }
-    requires most { length bytes.now ≤ 8 }
-    ensures { result ≡ fixed_number order (length bytes.now) bytes.now }
-{
-    match order {
-        Order::Little => ordered_in::<LittleEndian>(bytes),
-        Order::Big => ordered_in::<BigEndian>(bytes),
-    }
-}
-
-// The number that the first n bytes spell. The length of each slice is known where this is compiled, so no byte is tested alone.
+// The number that the first bytes spell.
 #[inline(always)]
 fn number_in(order: Order, bytes: &[u8], n: usize) -> u64
     requires width { IsWidth n }
     requires room { n ≤ length bytes.now }
     ensures { result ≡ fixed_number order n bytes.now }
 {
-    match n {
-        1 => u64::from(bytes[0]),
-        2 => spelled(order, &bytes[..2]),
-        4 => spelled(order, &bytes[..4]),
-        _ => spelled(order, &bytes[..8]),
+    if n == 1 {
+        return u64::from(bytes[0]);
+    }
+    match order {
+        Order::Little => ordered_in::<LittleEndian>(bytes, n),
+        Order::Big => ordered_in::<BigEndian>(bytes, n),
     }
 }
 
