@@ -1,6 +1,6 @@
 //! Programs that are run instruction by instruction (6.4.3).
 
-ghost use Rattle.std.specs.Prelude.{◌≡◌, ◌<◌, ◌≤◌, Some, Ok, Err, length, OnOk, IfErr, IfOk, false};
+ghost use Rattle.std.specs.Prelude.{◌≡◌, ◌<◌, ◌≤◌, Some, Ok, Err, length, OnOk, IfErr, IfOk, false, IsTrue};
 ghost use Rattle.dw_num.specs.Refusals.{Refuses};
 ghost use Rattle.dw_cfa.specs.{Rows.blank, declared.instr.{Factors.{Factors as TheFactors}, Instr.TheVariants.Nop}, Inner.{FrontInstr.instr_at, RowWalk.{IsLed, RanUpTo}}};
 ghost use Rattle.dw_cfa.specs.Inner.{Runs.{RunsSo, GivesRow, StopsAbove, rows_left, stop_left, initial_row, placed}, Turns.{Does, Entered, Stays}};
