@@ -1,12 +1,12 @@
 //! Two programs that are run: the rows that they give, and the first refusal.
 
-ghost use Rattle.std.specs.Prelude.{◌<◌};
+ghost use Rattle.std.specs.Prelude.{◌≡◌, ◌<◌, None};
 ghost use Rattle.dw_num.specs.Target.{address_limit};
 
 use crate::lines::{compare, number, parts, sides};
 use crate::targets::{BIG, LITTLE, PLAIN, SHORT};
 use crate::texts::{located_text, refusal_text, row_text};
-use dw_cfa::{CieMachine, Factors, LocatedRow, RowSteps, RowWalk, run};
+use dw_cfa::{Factors, LocatedRow, RowSteps, RowWalk, run};
 use dw_num::{Program, ReadError, Target};
 use std::alloc::Global;
 use std::test::Fail;
@@ -122,17 +122,17 @@ pub fn lent_rows(alloc: Global, walk: &mut RowWalk<'_>) -> Result<String, Fail> 
     Err(Fail::new("no last row"))
 }
 
-/// Goes to the rows of two programs, which `run` says that they give.
-pub fn go_to<'a>(alloc: Global, walk: &mut RowWalk<'a>, pair: Pair<'a>) -> Result<(), Fail> {
-    let Pair { cie, fde, .. } = pair;
-    let _rows = run(alloc, cie, fde, pair.begin, pair.factors, pair.target)?;
-    walk.go_to(cie, fde, pair.begin, pair.factors, pair.target);
-    Ok(())
+/// Goes to the rows of two programs.
+pub fn go_to<'a>(walk: &mut RowWalk<'a>, pair: Pair<'a>)
+    ensures { walk.new.steps.error ≡ None }
+{
+    walk.lead(pair.cie, pair.factors, pair.target);
+    walk.go_to(pair.fde, pair.begin);
 }
 
 fn one_by_one_lent(alloc: Global, pair: Pair<'_>) -> Result<String, Fail> {
     let mut walk = RowWalk::new(alloc, pair.target);
-    go_to(alloc, &mut walk, pair)?;
+    go_to(&mut walk, pair);
     lent_rows(alloc, &mut walk)
 }
 
@@ -366,7 +366,7 @@ fn agree_ends(alloc: Global, walk: &mut RowWalk<'_>) -> Result<(), Fail> {
 fn tells_where_a_row_ends(rt: HostRuntime) -> Result<(), Fail> {
     let pair = pair_of(CIE, b"\x0a\x0e\x10\x44\x0b\x44", 0x1000, PLAIN, LITTLE)?;
     let mut walk = RowWalk::new(rt.alloc(), LITTLE);
-    go_to(rt.alloc(), &mut walk, pair)?;
+    go_to(&mut walk, pair);
     agree_ends(rt.alloc(), &mut walk)
 }
 
@@ -387,7 +387,7 @@ const FOLLOWING: [(&[u8], &str); 3] = [
 // Goes to the FDEs one after another, and fails where the rows of one are others.
 fn agree_following(alloc: Global, walk: &mut RowWalk<'_>) -> Result<(), Fail> {
     for (fde, wanted) in FOLLOWING {
-        go_to(alloc, walk, pair_of(CIE, fde, 0x1000, PLAIN, LITTLE)?)?;
+        go_to(walk, pair_of(CIE, fde, 0x1000, PLAIN, LITTLE)?);
         compare("an FDE", lent_rows(alloc, walk)?.as_str(), wanted)?;
     }
     Ok(())
@@ -413,16 +413,9 @@ const LACKS: [(&[u8], Option<bool>); 8] = [
     (b"\x0a\x0c\x07\x08\x4f\x0b", Some(true)),
 ];
 
-// The machine of a CIE's program.
-fn machine_of(alloc: Global, cie: &[u8]) -> Result<CieMachine<'_>, Fail> {
-    let mut machine = CieMachine::new(alloc, LITTLE);
-    machine.go_to(program(cie, 0xf)?, PLAIN, LITTLE)?;
-    Ok(machine)
-}
-
-fn lacks_rule<'a>(machine: &mut CieMachine<'a>, fde: &'a [u8]) -> Result<Option<bool>, Fail> {
-    machine.begin(program(fde, 0x28)?, 0x1000)?;
-    match machine.lacks_rule(0x1010) {
+fn lacks_rule<'a>(walk: &mut RowWalk<'a>, fde: &'a [u8]) -> Result<Option<bool>, Fail> {
+    go_to(walk, pair_of(b"\0", fde, 0x1000, PLAIN, LITTLE)?);
+    match walk.lacks_rule(0x1010) {
         Ok(lacks) => Ok(Some(lacks)),
         Err(ReadError::Refused(_)) => Ok(None),
         Err(ReadError::OutOfMemory) => Err(Fail::new("out of memory")),
@@ -430,9 +423,9 @@ fn lacks_rule<'a>(machine: &mut CieMachine<'a>, fde: &'a [u8]) -> Result<Option<
 }
 
 // Runs the FDEs one after another, and fails where another answer is given.
-fn agree_on_lacking(machine: &mut CieMachine<'_>) -> Result<(), Fail> {
+fn agree_on_lacking(walk: &mut RowWalk<'_>) -> Result<(), Fail> {
     for (fde, wanted) in LACKS {
-        if lacks_rule(machine, fde)? != wanted {
+        if lacks_rule(walk, fde)? != wanted {
             return Err(Fail::new(format_args!("{fde:?}")));
         }
     }
@@ -441,8 +434,5 @@ fn agree_on_lacking(machine: &mut CieMachine<'_>) -> Result<(), Fail> {
 
 #[test]
 fn asks_rows_for_the_cfa(rt: HostRuntime) -> Result<(), Fail> {
-    let mut machine = machine_of(rt.alloc(), b"\0")?;
-    agree_on_lacking(&mut machine)?;
-    let initial = row_text(rt.alloc(), machine.initial())?;
-    compare("the initial row", initial.as_str(), "cfa=unset")
+    agree_on_lacking(&mut RowWalk::new(rt.alloc(), LITTLE))
 }

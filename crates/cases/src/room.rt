@@ -1,13 +1,10 @@
 //! Room for rows that is kept: the row of an address, and rows that a walk goes on to.
 
-ghost use Rattle.std.specs.Prelude.{List};
-ghost use Rattle.dw_cfa.specs.{Gives.Gives, RowSteps.program_input, declared.execution.LocatedRow.{LocatedRow as TheRow}};
-
 use crate::lines::compare;
-use crate::programs::{CIE, Pair, pair_of};
+use crate::programs::{CIE, Pair, go_to, pair_of};
 use crate::targets::{LITTLE, PLAIN};
 use crate::texts::row_text;
-use dw_cfa::{RowRoom, RowWalk, run};
+use dw_cfa::{RowRoom, RowWalk};
 use std::alloc::Global;
 use std::test::Fail;
 
@@ -23,13 +20,12 @@ fn run_to(alloc: Global, pair: Pair<'_>, address: u64) -> Result<String, Fail> {
 }
 
 // The first row of an FDE that a walk goes to and then goes on to, and whether it is the one that the walk kept at first.
-fn walked<'a>(alloc: Global, pair: Pair<'a>, walk: &mut RowWalk<'a>) -> Result<String, Fail>
-    requires { (rows : List TheRow) × Gives pair.factors (program_input pair.cie pair.target) (program_input pair.fde pair.target) pair.begin rows }
-{
-    walk.go_to(pair.cie, pair.fde, pair.begin, pair.factors, pair.target);
+fn walked<'a>(alloc: Global, pair: Pair<'a>, walk: &mut RowWalk<'a>) -> Result<String, Fail> {
+    walk.lead(pair.cie, pair.factors, pair.target);
+    walk.go_to(pair.fde, pair.begin);
     let _ = walk.advance()?;
     walk.keep()?;
-    walk.go_on(pair.fde, pair.begin);
+    walk.go_to(pair.fde, pair.begin);
     let _ = walk.advance()?;
     let row = row_text(alloc, walk.row())?;
     Ok(format!(in alloc; "{row} {}", walk.is_kept())?)
@@ -41,10 +37,8 @@ fn walked_to<'a>(
     pair: Pair<'a>,
     walk: &mut RowWalk<'a>,
     address: u64,
-) -> Result<String, Fail>
-    requires { (rows : List TheRow) × Gives pair.factors (program_input pair.cie pair.target) (program_input pair.fde pair.target) pair.begin rows }
-{
-    walk.go_to(pair.cie, pair.fde, pair.begin, pair.factors, pair.target);
+) -> Result<String, Fail> {
+    go_to(walk, pair);
     let is_kept = walk.keep_initial()?;
     let initial = row_text(alloc, walk.kept())?;
     walk.advance_to(address)?;
@@ -52,10 +46,8 @@ fn walked_to<'a>(
     Ok(format!(in alloc; "{is_kept} {initial}; {row} to {:?}", walk.next_start())?)
 }
 
-// The same of programs that are known to give rows, since they gave them once.
-fn walked_known(alloc: Global, pair: Pair<'_>) -> Result<String, Fail> {
-    let Pair { cie, fde, .. } = pair;
-    let _rows = run(alloc, cie, fde, pair.begin, pair.factors, pair.target)?;
+// Both, one after the other.
+fn walked_twice(alloc: Global, pair: Pair<'_>) -> Result<String, Fail> {
     let mut walk = RowWalk::new(alloc, pair.target);
     let first = walked(alloc, pair, &mut walk)?;
     let second = walked_to(alloc, pair, &mut walk, 0x1005)?;
@@ -67,7 +59,7 @@ fn keeps_room(rt: HostRuntime) -> Result<(), Fail> {
     let pair = pair_of(CIE, b"\x0a\x0e\x10\x44\x0b\x44", 0x1000, PLAIN, LITTLE)?;
     let row = run_to(rt.alloc(), pair, 0x1003)?;
     compare("a row", row.as_str(), "cfa=r7+16 r16=[cfa-8]")?;
-    let text = walked_known(rt.alloc(), pair)?;
+    let text = walked_twice(rt.alloc(), pair)?;
     compare(
         "a walk",
         text.as_str(),

@@ -51,7 +51,7 @@ const SUMMARIES: [&str; 4] = [
 
 // Goes to the FDE, and fails where one of its rows is another.
 fn agree_summaries<'a>(alloc: Global, walk: &mut RowWalk<'a>, pair: Pair<'a>) -> Result<(), Fail> {
-    go_to(alloc, walk, pair)?;
+    go_to(walk, pair);
     for wanted in SUMMARIES {
         compare("a row", next_summary(alloc, walk)?.as_str(), wanted)?;
     }

@@ -1,7 +1,7 @@
 -- A run up to the last row that starts at or below an address, and what is left behind it.
-use Rattle.dw_cfa.proofs.Words.{◌≡◌, ℕ, ◌<◌, ◌≤◌, Bool, true, false, List, [], ◌∷◌, length, Option, Some, None, Result, Ok, Err, refl, sym, ap, ◌∙◌, subst, arith, le-leb, le-ltb, lt-ltb, Factors, Input}
-use Rattle.dw_cfa.proofs.Words.{Leading, LocatedRow, Machine, Outcome, Progress, ReadError, Refusal, Refuses, Rules, IfErr, IfOk, Refused, OutOfMemory, or_here, last_at, left_above, rows_above, NeverFalls}
-use Rattle.dw_cfa.proofs.{Words.{finished, row_then, RanTo, RunsSo, here, rows_left, state_of, AllSpecify, AreLeft, RanUpTo, WalkedTo}, Lent.RowsAt.none_at, Lent.RunLaws.left_from, RunSteps.rows_end}
+use Rattle.dw_cfa.proofs.Words.{◌≡◌, ℕ, ◌<◌, ◌≤◌, Bool, true, false, List, [], ◌∷◌, length, Option, Some, None, refl, sym, ap, ◌∙◌, subst, arith, le-leb, le-ltb, lt-ltb, Factors, Input}
+use Rattle.dw_cfa.proofs.Words.{LocatedRow, Machine, Outcome, Rules, or_here, last_at, left_above, rows_above, NeverFalls}
+use Rattle.dw_cfa.proofs.{Words.{finished, row_then, RanTo, RunsSo, here, rows_left, state_of, AllSpecify, RanUpTo}, Lent.RowsAt.none_at, Lent.RunLaws.left_from, RunSteps.rows_end}
 
 -- a row is the last one where no later one is
 here_is : (a : ℕ) (first : LocatedRow) (rows : List LocatedRow) → first.location ≤ a → last_at a rows ≡ None → last_at a (first ∷ rows) ≡ Some first.row
@@ -63,25 +63,3 @@ module _ (f : Factors) (i : Input) (m : Machine) (a : ℕ) (old : Outcome) (p : 
         fault = p.fault;
         keeps = p.keeps;
       }
-
--- ---- a walk, where no fault is to come
-
-pub walked : {E : Type 0} (a : ℕ) (p : Progress) (old : Outcome) (was : Machine) (l : Leading) (i : Input) (m : Machine) (result : Result Bool E) → IfOk result (RanUpTo a old l.factors i m) → old.fault ≡ None
-    → (initial : Rules) → m.initial ≡ initial → AllSpecify initial old.rows → AreLeft l (Some initial) → IfOk result (WalkedTo a p old was l i m)
-walked a p old was l i m (Err e) ran none initial same all left = tt
-walked a p old was l i m (Ok more) ran none initial same all left = record {
-  found = λ row e. let one = sym ran.last ∙ e in cc;
-  stays = λ e. let bad = sym ran.last ∙ e in absurd cc;
-  behind = ran.behind;
-  first = ran.so.first;
-  none = λ e. let bad = sym ran.last ∙ e in absurd cc;
-  so = λ t. ran.so;
-  known = λ t. ran.fault ∙ none;
-  keeps = λ t. subst (λ (r : Rules). AllSpecify r (rows_left l.factors i m).rows) (sym same) (ran.keeps initial all);
-  left = λ t. subst (λ (r : Rules). AreLeft l (Some r)) (sym same) left;
-}
-
-pub only_memory : {X : Type 0} (result : Result X ReadError) (old : Option Refusal) (P : Refusal → Type 0) → old ≡ None → IfErr result (Refuses (λ r. (old ≡ Some r) × P r)) → IfErr result (λ e. e ≡ OutOfMemory)
-only_memory (Ok x) old P none h = tt
-only_memory (Err OutOfMemory) old P none h = refl
-only_memory (Err (Refused r)) old P none h = let bad = sym h.0 ∙ none in absurd cc

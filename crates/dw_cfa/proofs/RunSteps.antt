@@ -1,5 +1,5 @@
 -- One instruction of a program, in the rows still to come.
-use Rattle.dw_cfa.proofs.Words.{◌≡◌, ℕ, ◌<◌, List, [], length, Option, None, Some, Result, Ok, Err, IsOk, false, refl, sym, ap, ◌∙◌, subst, IsTrue, AreBytes, Code, Factors, Input, Instr, Machine, Outcome, Refusal, RegRule, Rules}
+use Rattle.dw_cfa.proofs.Words.{◌≡◌, ℕ, ◌<◌, List, [], length, Option, None, Some, Result, Ok, Err, IsOk, false, refl, sym, ap, ◌∙◌, subst, IsTrue, AreBytes, Code, Factors, Input, Instr, Leading, Machine, Outcome, Read, Refusal, RegRule, Rules, led_rows, program_input}
 use Rattle.dw_cfa.proofs.Words.{State, address_limit, SetLoc, Advance, moves_location, instr_at, blank, written, after, cie_fault, fde_fault, BeganWith, IsLed, state_of, IsAfter, placed, cie_run, initial_row, on_initial, here, row_if}
 use Rattle.dw_cfa.proofs.Words.{fault_or, fde_rows, fde_stop, rows_left, rows_behind, run_rows, run_stop, stop_left, stop_or, RunsSo, RanTo, WroteTo, fails, finished, row_then, program_fault}
 use Rattle.dw_cfa.proofs.{Lent.RowsAt.stays, Placings.{reads, placed_end, placed_step, placed_stuck}}
@@ -76,14 +76,10 @@ pub run_stuck : (f : Factors) (cie fde : Input) (begin : ℕ) (r : Refusal) → 
 unfolding run_rows run_stop
 run_stuck f cie fde begin r is = (rw is refl, rw is refl)
 
-pub run_ran : (f : Factors) (cie fde : Input) (old m : Machine) → RunsSo old fde → IsLed f cie old m → (rows_left f fde m ≡ run_rows f cie fde old.location) × (stop_left f fde m ≡ run_stop f cie fde old.location)
+pub run_ran : (l : Leading) (fde : Input) (old m : Machine) → RunsSo old fde → IsLed l old m
+    → (rows_left l.factors fde m ≡ led_rows l fde old.location) × (stop_left l.factors fde m ≡ run_stop l.factors (program_input l.program l.target) fde old.location)
 unfolding run_rows rows_left run_stop stop_left
-run_ran f cie fde old m so led = (rw (led.initial, led.row, led.none, led.location, led.limit ∙ so.limit) refl, rw (led.initial, led.row, led.none, led.location, led.limit ∙ so.limit) refl)
-
--- a run that has no fault has an initial row
-pub initial_left : (r : Result Rules Refusal) (go : Rules → Outcome) → (on_initial r go).fault ≡ None → IsOk r
-initial_left (Ok row) go none = refl
-initial_left (Err r) go none = absurd cc
+run_ran l fde old m so led = (rw (led.initial, led.row, led.none, led.location, led.limit ∙ so.limit) refl, rw (led.initial, led.row, led.none, led.location, led.limit ∙ so.limit) refl)
 
 pub started : (f : Factors) (fde fde' : Input) (m : Machine) (initial : Rules) (begin : ℕ) → fde ≡ fde' → m.initial ≡ initial → m.states.row ≡ initial → m.states.stack ≡ [] → m.location ≡ begin
     → m.limit ≡ address_limit fde'.target.size → rows_left f fde m ≡ rows_behind f initial fde' begin

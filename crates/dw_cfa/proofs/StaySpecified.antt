@@ -1,9 +1,9 @@
 -- What a CIE's program specifies is specified in every row of its FDEs.
-use Rattle.dw_cfa.specs.declared.steps.Progress.TheVariants as progress
-use Rattle.dw_cfa.proofs.Words.{◌≡◌, ℕ, Bool, true, List, [], ◌∷◌, Option, Some, None, Ok, Result, refl, sym, ap, ◌∙◌, subst, arith, inl, inr, IsTrue, AllZip, AreBytes, Factors, Input, Instr}
-use Rattle.dw_cfa.proofs.Words.{Leading, LocatedRow, Machine, Outcome, Progress, ReadError, Refusal, RegRule, Rules, Stepping, is_kept, kept, IsRowAfter, GivesUpTo, ends, is_specified}
-use Rattle.dw_cfa.proofs.Words.{rule, GivesRow, RunsSo, rows_behind, rows_left, program_input, progress_after, AllKeep, AllSpecify, Readied, WalkKeeps, finished, initial_of, walk_of}
-use Rattle.dw_cfa.proofs.{Lent.FaultLaws.initial_leaves, Lent.Given.behind_runs, Lent.Narrowed.left_too, Lent.Openings.{AllSet, all_set, stays_specified}, Lent.RowLists.Entry, RunSteps.started, Walks.KeptWhere}
+use Rattle.dw_cfa.specs.declared.next_row.Progress.TheVariants as progress
+use Rattle.dw_cfa.proofs.Words.{◌≡◌, ℕ, Bool, List, [], ◌∷◌, Option, Some, None, refl, sym, ap, ◌∙◌, subst, arith, inl, inr, IsTrue, AllZip, AreBytes, Factors, Input, Instr}
+use Rattle.dw_cfa.proofs.Words.{Leading, LocatedRow, Machine, Outcome, Progress, Refusal, RegRule, Rules, Stepping, is_kept, kept, IsRowAfter, GivesUpTo, ends, is_specified}
+use Rattle.dw_cfa.proofs.Words.{rule, RunsSo, rows_behind, rows_left, program_input, AllKeep, AllSpecify, IsLed, WalkKeeps, WalksSo, finished, initial_of, walk_of}
+use Rattle.dw_cfa.proofs.{Lent.FaultLaws.initial_leaves, Lent.Given.behind_runs, Lent.Narrowed.left_too, Lent.Openings.{AllSet, all_set, stays_specified}, Lent.RowLists.Entry, RunSteps.started, Walks.{KeptWhere, row_left}}
 
 -- ---- a run
 
@@ -25,7 +25,7 @@ module _ (f : Factors) (initial : Rules) (fde : Input) (begin : ℕ) where
 -- ---- a walk
 
 -- behind a CIE's row that is run or brought back
-pub led_keeps : (l : Leading) (fde : Input) (old m : Machine) → AreBytes l.program.bytes.now → AreBytes fde.bytes → RunsSo old fde → Readied l old m → AllSpecify m.initial (rows_left l.factors fde m).rows
+pub led_keeps : (l : Leading) (fde : Input) (old m : Machine) → AreBytes l.program.bytes.now → AreBytes fde.bytes → RunsSo old fde → IsLed l old m → AllSpecify m.initial (rows_left l.factors fde m).rows
 led_keeps l fde old m bytes fb so r =
     let listed = (initial_leaves l.factors (program_input l.program l.target) m.initial bytes r.initial).1.listed in
     let limit = r.limit ∙ so.limit in
@@ -33,11 +33,13 @@ led_keeps l fde old m bytes fb so r =
     let runs = behind_runs l.factors m.initial fde m.location fb listed (omega (arith, r.location, r.limit, so.within, limit)) in
     subst (λ (o : Outcome). AllSpecify m.initial o.rows) (sym same) (up_to_specifies l.factors m.initial fde m.location (rows_behind l.factors m.initial fde m.location).fault (rows_behind l.factors m.initial fde m.location).rows runs)
 
-module _ (l : Leading) (fde : Input) (m : Machine) where
-  -- behind the end of a row
-  pub row_behind : (old : Outcome) (result : Result (ℕ × Bool) ReadError) → AllSpecify m.initial old.rows → GivesRow old l.factors fde m result → WalkKeeps (progress_after result) l fde m
-  row_behind old (Ok (start, true)) h g = let rest = subst (λ (o : Outcome). AllSpecify m.initial o.rows) g.1 h in rest.1
-  row_behind old result h g = tt
+pub led_so : (l : Leading) (fde : Input) (old m : Machine) (kept : Bool) → AreBytes l.program.bytes.now → AreBytes fde.bytes → RunsSo old fde → IsLed l old m → WalksSo progress.Running kept l fde m
+led_so l fde old m kept bytes fb so led = record {
+  stands = record { limit = led.limit ∙ so.limit; within = omega (arith, led.location, led.limit, so.within); first = led.first };
+  initial = λ _. led.initial;
+  keeps = led_keeps l fde old m bytes fb so led;
+  left = row_left l m m bytes led.initial refl;
+}
 
 -- ---- a row to keep
 

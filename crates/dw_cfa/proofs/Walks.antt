@@ -1,10 +1,11 @@
 -- A walk from one FDE's program to another's, behind a CIE's row that is run or brought back.
-use Rattle.dw_cfa.specs.Inner.NextRow.{GoesOn}
-use Rattle.dw_cfa.specs.declared.steps.Progress.TheVariants as progress
-use Rattle.dw_cfa.proofs.Words.{◌≡◌, ◌⊎◌, ℕ, Bool, true, false, Option, Some, None, Ok, Result, IsOk, refl, sym, ap, subst, ◌∙◌, inl, inr, ◌↔◌, IsTrue, MatchOption, OnOk, AreBytes}
-use Rattle.dw_cfa.proofs.Words.{Factors, Input, Leading, Machine, Outcome, Progress, ReadError, Rules, Stepping, Target, ProgramSpells, blank, finished, RunsSo, initial_row, placed}
-use Rattle.dw_cfa.proofs.Words.{rows_left, run_rows, program_input, left_of, progress_after, kept, StandsOn, AreLeft, HasInitial, Readied, WalksSo, initial_of, led_of, led_rows, walk_of}
-use Rattle.dw_cfa.proofs.{Lent.FaultLaws.initial_leaves, Lent.Given.{leaves_to, to_leaves}, Lent.RowsAt.RowsFrom, Lent.RunLaws.{left_from, next_from, run_from}, RunSteps.{initial_left, run_ran}}
+use Rattle.dw_cfa.specs.RowSteps.{Advances}
+use Rattle.dw_cfa.specs.Inner.RowWalk.{GoesOn}
+use Rattle.dw_cfa.specs.declared.next_row.Progress.TheVariants as progress
+use Rattle.dw_cfa.proofs.Words.{◌≡◌, ◌⊎◌, ℕ, Bool, true, false, Option, Some, None, Ok, Result, Err, refl, sym, ap, subst, ◌∙◌, inl, inr, ◌↔◌, IsTrue, MatchOption, AreBytes}
+use Rattle.dw_cfa.proofs.Words.{Factors, Input, Leading, Machine, Outcome, Progress, ReadError, Refuses, Rules, Stepping, Target, ProgramSpells, blank, fails, finished, RunsSo, initial_row, placed}
+use Rattle.dw_cfa.proofs.Words.{rows_left, program_input, kept, StandsOn, AllSpecify, AreLeft, HasInitial, RanUpTo, WalksSo, initial_of, led_of, led_row, led_rows, walk_of}
+use Rattle.dw_cfa.proofs.{Lent.FaultLaws.initial_leaves, Lent.Given.{leaves_to, refusal_weaker, to_leaves}, Lent.RowsAt.RowsFrom, Lent.RunLaws.{left_from, run_from}, RunSteps.run_stuck}
 
 -- ---- the CIE's half
 
@@ -15,22 +16,18 @@ initial_elsewhere f i j row bytes same target is =
     let program : ProgramSpells j.target f here.0 j.bytes = subst (λ (t : Target). ProgramSpells t f here.0 j.bytes) target (subst (ProgramSpells i.target f here.0) same here.1.program) in
     sym (to_leaves f j (subst AreBytes same bytes) (Ok row) (here.0, record { program = program; kept = here.1.kept; cfa = here.1.cfa; rules = here.1.rules; listed = here.1.listed }))
 
--- a run that has no fault leaves an initial row
-pub led_initial : (l : Leading) (fde : Input) (begin : ℕ) → (led_rows l fde begin).fault ≡ None → IsOk (initial_row (placed l.factors (program_input l.program l.target)) blank)
-unfolding run_rows
-led_initial l fde begin none = initial_left (initial_row (placed l.factors (program_input l.program l.target)) blank) _ none
+-- it is refused where that one is
+pub led_stuck : (l : Leading) (fde : Input) (begin : ℕ) (e : ReadError) → Refuses (λ r. led_row l ≡ Err r) e → Refuses (λ r. led_rows l fde begin ≡ fails r) e
+led_stuck l fde begin e stuck = refusal_weaker e _ _ (λ r is. (run_stuck l.factors (program_input l.program l.target) fde begin r is).0) stuck
 
 -- ---- the FDE's half
-
-pub led_ran : (l : Leading) (fde : Input) (old m : Machine) → RunsSo old fde → Readied l old m → rows_left l.factors fde m ≡ led_rows l fde old.location
-led_ran l fde old m so r = (run_ran l.factors (program_input l.program l.target) fde old m so r).0
 
 -- ---- where the next row starts
 
 pub walk_from : (p : Progress) (l : Leading) (fde : Input) (m : Machine) (s : Stepping) → (p ≡ progress.Begun) ⊎ (p ≡ progress.Running) → walk_of p l fde m ≡ s → RowsFrom m.location s.outcome
-walk_from p l fde m s (inl is) e =
-    subst (λ (x : Stepping). RowsFrom m.location x.outcome) (ap (λ (q : Progress). walk_of q l fde m) (sym is) ∙ e) (run_from l.factors (program_input l.program l.target) fde m.location)
-walk_from p l fde m s (inr is) e = next_from l.factors fde fde m p s (inr is) (ap (λ (q : Progress). left_of q l.factors fde fde m) is ∙ ap (λ (q : Progress). walk_of q l fde m) (sym is) ∙ e)
+walk_from progress.Begun l fde m s is e = subst (λ (x : Stepping). RowsFrom m.location x.outcome) e (run_from l.factors (program_input l.program l.target) fde m.location)
+walk_from progress.Running l fde m s is e = subst (λ (x : Stepping). RowsFrom m.location x.outcome) e (left_from l.factors fde m)
+walk_from p l fde m s is e = elim is [ inl e ↦ absurd cc | inr e ↦ absurd cc ]
 
 -- ---- a row that is kept changes no row to come
 
@@ -47,9 +44,9 @@ kept_so fde m kept h = record { limit = h.limit; within = h.within; first = h.fi
 
 pub kept_walks : (p : Progress) (has : Bool) (l : Leading) (fde : Input) (m : Machine) (kept : Rules) → WalksSo p has l fde m → WalksSo p has l fde (with_kept m kept)
 unfolding rows_left
-kept_walks progress.Begun has l fde m kept h = record { stands = kept_so fde m kept h.stands; no_fault = h.no_fault; initial = h.initial; keeps = tt; left = h.left }
-kept_walks progress.Running has l fde m kept h = record { stands = kept_so fde m kept h.stands; no_fault = h.no_fault; initial = h.initial; keeps = h.keeps; left = h.left }
-kept_walks p has l fde m kept h = record { stands = h.stands; no_fault = h.no_fault; initial = h.initial; keeps = tt; left = h.left }
+kept_walks progress.Begun has l fde m kept h = record { stands = kept_so fde m kept h.stands; initial = h.initial; keeps = tt; left = h.left }
+kept_walks progress.Running has l fde m kept h = record { stands = kept_so fde m kept h.stands; initial = h.initial; keeps = h.keeps; left = h.left }
+kept_walks p has l fde m kept h = record { stands = h.stands; initial = h.initial; keeps = tt; left = h.left }
 
 -- ---- the CIE's row, while the rows behind one are run
 
@@ -57,26 +54,31 @@ pub row_left : (l : Leading) (m m' : Machine) → AreBytes l.program.bytes.now �
 row_left l m m' bytes is same = subst (λ (r : Rules). AreLeft l (Some r)) (sym same) (leaves_to l.factors (program_input l.program l.target) bytes (Ok m.initial) is)
 
 -- it is kept
-pub left_kept : {X E : Type 0} → (l : Leading) (m : Machine) (kept : Rules) (r : Result X E) → AreBytes l.program.bytes.now → HasInitial l m → m.states.row ≡ m.initial → OnOk r (kept ≡ m.states.row) → OnOk r (AreLeft l (Some kept))
-left_kept l m kept (Ok x) bytes is row same = subst (λ (r : Rules). AreLeft l (Some r)) (sym (same ∙ row)) (row_left l m m bytes is refl)
-left_kept l m kept r bytes is row same = tt
+pub left_kept : (l : Leading) (m : Machine) (kept : Rules) → AreBytes l.program.bytes.now → HasInitial l m → m.states.row ≡ m.initial → kept ≡ m.states.row → AreLeft l (Some kept)
+left_kept l m kept bytes is row same = subst (λ (r : Rules). AreLeft l (Some r)) (sym (same ∙ row)) (row_left l m m bytes is refl)
 
-pub left_any : (p : Progress) (l : Leading) (initial : Rules) → AreLeft l (Some initial) → AreLeft l (initial_of p initial)
-left_any progress.Running l initial h = h
-left_any p l initial h = tt
+-- a walk that ran on stands as before
+pub runs_on : (a : ℕ) (p : Progress) (kept more : Bool) (l : Leading) (fde j : Input) (m m' : Machine) → p ≡ progress.Running → WalksSo p kept l fde m → RanUpTo a (rows_left l.factors fde m) l.factors j m' more → m'.initial ≡ m.initial → WalksSo progress.Running kept l j m'
+runs_on a progress.Running kept more l fde j m m' is so ran same = record {
+  stands = ran.so;
+  initial = λ t. so.initial t ∙ ap Ok (sym same);
+  keeps = subst (λ (r : Rules). AllSpecify r (rows_left l.factors j m').rows) (sym same) (ran.keeps m.initial so.keeps);
+  left = subst (λ (r : Rules). AreLeft l (Some r)) (sym same) so.left;
+}
+runs_on a p kept more l fde j m m' is so ran same = absurd cc
 
-module _ (l : Leading) (fde : Input) (m : Machine) where
-  stands_behind : (r : Result (ℕ × Bool) ReadError) → AreLeft l (initial_of (progress_after r) m.initial) → StandsOn (led_of l) (walk_of (progress_after r) l fde m).outcome (initial_of (progress_after r) m.initial)
-  stands_behind (Ok (start, true)) h = ((left_from l.factors fde m).some, h)
-  stands_behind r h = refl
+-- behind the end of a row
+pub goes_on_stands : (l : Leading) (fde : Input) (m : Machine) (p : Progress) (old : Outcome) (start : Option ℕ) → GoesOn old l.factors fde m p (Ok start) → AreLeft l (Some m.initial) → StandsOn (led_of l) (walk_of p l fde m).outcome (initial_of p m.initial)
+goes_on_stands l fde m p old (Some start) (true, so, rows, is) h = rw is ((left_from l.factors fde m).some, h)
+goes_on_stands l fde m p old (Some start) (false, so, rows, is) h = rw is refl
+goes_on_stands l fde m p old None gives h = absurd gives
 
-  -- behind the end of a row
-  pub stands_on : (p : Progress) (r : Result (ℕ × Bool) ReadError) → p ≡ progress_after r → AreLeft l (initial_of (progress_after r) m.initial) → StandsOn (led_of l) (walk_of p l fde m).outcome (initial_of p m.initial)
-  stands_on p r is h = subst (λ (q : Progress). StandsOn (led_of l) (walk_of q l fde m).outcome (initial_of q m.initial)) (sym is) (stands_behind r h)
-
-  pub goes_on_stands : (p : Progress) (old : Outcome) (start : Option ℕ) → GoesOn old l.factors fde m p (Ok start) → AreLeft l (Some m.initial) → StandsOn (led_of l) (walk_of p l fde m).outcome (initial_of p m.initial)
-  goes_on_stands p old (Some start) (more, gives, is) h = stands_on p (Ok (start, more)) is (left_any (progress_after (Ok (start, more))) l m.initial h)
-  goes_on_stands p old None gives h = absurd gives
+-- an error is answered again
+pub answered_again : (old : Stepping) (result : Result (Option ℕ) ReadError) (new : Stepping) → Advances old result new → (e : ReadError) → old.error ≡ Some e → result ≡ Err e
+answered_again old (Ok None) new (ended, same) e is = let none = ap (λ (s : Stepping). s.error) ended in absurd cc
+answered_again old (Ok (Some start)) new (none, more, rows) e is = absurd cc
+answered_again old (Err f) new (is_f, over, inl same) e is = let both : Some f ≡ Some e = sym is_f ∙ ap (λ (s : Stepping). s.error) (sym same) ∙ is in cc
+answered_again old (Err f) new (is_f, over, inr (none, refused)) e is = absurd cc
 
 -- ---- whether what it specifies is known to be kept
 

@@ -21,7 +21,7 @@ pub use Rattle.dw_op.specs.Inner.{Walk.{block_input, decode_at}, Walks.{ended, o
 pub use Rattle.dw_op.proofs.Lent.{Blocks.{block_found, block_only, fault_found, fault_only}, ReadingLaws.{EachEntry, above, looked_up, range_is, some_is, within}}
 unfoldable pub use Rattle.dw_cfa.specs.{Operands.form_for, Inner.Entries.listed_from, Inner.FrontInstr.{block_at, expression_in, instr_at}}
 unfoldable pub use Rattle.dw_cfa.specs.Inner.{Operands.opcode_of, Runs.{cie_run, fde_rows, fde_stop, placed, rows_behind, rows_left, run_rows, run_stop, stop_left}, States.rows_before}
-pub use Rattle.dw_cfa.specs.{Agreement.{InCommon, IsAgreed, is_kept, kept, without}, Behind.{GivesBefore, GivesBehind, GivesUpTo, HoldsBehind, IsRowAfter, Leaves, LeavesTo, RunsBehind, ends}, CieMachine.{Following, with_steps}}
+pub use Rattle.dw_cfa.specs.{Agreement.{InCommon, IsAgreed, is_kept, kept, without}, Behind.{GivesBefore, GivesBehind, GivesUpTo, HoldsBehind, IsRowAfter, Leaves, LeavesTo, RunsBehind, ends}}
 pub use Rattle.dw_cfa.specs.{Column.{cfa_after, cfa_change, look_back, rule_after, rule_change}, Difference.{DiffersFirst, FirstDifference, SameBetween, place_behind}, Faults.{BreaksHalf, CieBreaks, CieFault, FaultBehind, FaultUpTo}}
 pub use Rattle.dw_cfa.specs.{Faults.{FdeBreaks, FdeFault, FdeFaultBehind, FdeFaultUpTo, NoFaultUpTo, RunFault}, Gives.{Gives, RunsTo}, InstrSpells.{BlockSpells, InstrFormSpells, InstrSpells, IsOffset, OperandSpells, ProgramSpells}}
 pub use Rattle.dw_cfa.specs.{Kept.{CieKept, FdeKept, IsRegisterRule, in_cie, is_remember, is_restore, keeps_half, remembered, restored}, Listing.{Listing, ProgramFault, answers, answers_before, complete, faulty}}
@@ -31,12 +31,12 @@ pub use Rattle.dw_cfa.specs.{RowLaws.{LeavesWhereKept, NoneFalls, OneBehind, One
 pub use Rattle.dw_cfa.specs.{Rows.{AreSpecified, Rules, blank, is_specified, rule, rule_in}, RuleAt.{NeverFalls, last_at, left_above, or_here, rows_above}, RulesBehind.RulesBehind, Runs.{Outcome, fails, finished, row_then}}
 pub use Rattle.dw_cfa.specs.declared.{entries.Entries.Entries, execution.LocatedRow.LocatedRow, instr.Factors.Factors, instr.Instr.Instr, instr.Instr.TheVariants.{Advance, DefCfa, DefCfaExpression, DefCfaOffset, DefCfaRegister, Nop}}
 pub use Rattle.dw_cfa.specs.declared.{instr.Instr.TheVariants.{RememberState, Restore, RestoreState, Set, SetLoc}, machine.Machine.Machine, marks.Marks.Marks, opcode.Opcode.Opcode, opening.FirstRow.TheVariants.{CfaOffset, Initial, Other}}
-pub use Rattle.dw_cfa.specs.declared.{row_walk.Leading.Leading, rule.CfaRule.CfaRule, rule.CfaRule.TheVariants.Unset, rule.RegRule.RegRule, rule.RegRule.TheVariants.{SameValue, Unspecified}, slot.Slot.Slot, steps.Progress.Progress}
+pub use Rattle.dw_cfa.specs.declared.{lead.Leading.Leading, rule.CfaRule.CfaRule, rule.CfaRule.TheVariants.Unset, rule.RegRule.RegRule, rule.RegRule.TheVariants.{SameValue, Unspecified}, slot.Slot.Slot, next_row.Progress.Progress}
 pub use Rattle.dw_cfa.specs.Inner.{Agreement.{agreed, is_agreed, same_cfa, same_rule}, Coverage.{is_unset, lacks_from, leaves_one}, Difference.{SameUnset, start_behind}, Entries.{EntriesSo, FirstBit, FirstIn, Holds, IsSlotOf, LeavesAmong}}
 pub use Rattle.dw_cfa.specs.Inner.{Entries.{LeavesAt, LeavesBelow, SameOutside, SameSlots, entries_of, far_behind, left, listed_near, near_rule, no_slot, rule_if, slot_rule}, Exact.{BehindGives, GivesRows, InitialLeaves, LeavesInitial}}
 pub use Rattle.dw_cfa.specs.Inner.{FrontInstr.{after_code, after_length, block_in, expression_of, form_at, judged, known_at, leaving, operand_at, then_operand, with_instr}, LookUp.look_up_at, Machine.{State, after, begun, changed}}
 pub use Rattle.dw_cfa.specs.Inner.{Machine.{cie_fault, empty_fault, fde_fault, half_fault, moved, popped, program_fault, written}, Marks.{CopiedUpTo, IsAdded, KeptSo, MarksMore, MarksSo, SameUnlisted, SameUnmarked, Unmarked}}
 pub use Rattle.dw_cfa.specs.Inner.{Marks.{Watching, in_mask, in_tree, marked, watching}, Opening.{GivesOffset, answers_move, answers_row}, Operands.{form_of, opcode_table}, RowEquality.{cfa_tells, rows_tell, rule_tells, same_rows}}
-pub use Rattle.dw_cfa.specs.Inner.{RowSteps.{gives, left_of, progress_after}, RowWalk.{AllSpecify, AreLeft, HasInitial, IsLed, RanUpTo, Readied, WalkKeeps, WalkedTo, WalksSo, initial_of, led_of, led_rows, walk_of}}
-pub use Rattle.dw_cfa.specs.Inner.{Rows.{listed, put, with_cfa, with_rule}, RuleAt.{CountsFrom, FoundAt}, Runs.{GivesRow, Placed, Placing, RanTo, RunsSo, WroteTo, at_end, fault_or, here, initial_row, on_initial, place_of}}
+pub use Rattle.dw_cfa.specs.Inner.{RowSteps.gives, RowWalk.{AllSpecify, AreLeft, HasInitial, IsLed, RanUpTo, WalkKeeps, WalksSo, initial_of, led_of, led_row, led_rows, walk_of}}
+pub use Rattle.dw_cfa.specs.Inner.{Rows.{listed, put, with_cfa, with_rule}, RuleAt.{CountsFrom, FoundAt}, Runs.{Placed, Placing, RanTo, RunsSo, WroteTo, at_end, fault_or, here, initial_row, on_initial, place_of}}
 pub use Rattle.dw_cfa.specs.Inner.{Runs.{refused_at, row_if, stop_on, stop_or}, States.{BeganWith, Held, Restored, StatesSo, TakenBack, first_if, held, remembering, saved_if, shown, stacked, with_row}, Steps.{InLimit, IsAfter, state_of}}

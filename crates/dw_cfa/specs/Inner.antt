@@ -11,7 +11,6 @@ pub mod Entries
 pub mod Marks
 pub mod States
 pub mod RowSteps
-pub mod CieMachine
 pub mod RowWalk
 pub mod Steps
 pub mod Turns
@@ -22,4 +21,3 @@ pub mod Rows
 pub mod Coverage
 pub mod RowEquality
 pub mod RuleAt
-pub mod NextRow

@@ -1,4 +1,4 @@
--- Programs that are known to give rows, run one after another in one room.
+-- The programs of one FDE after another, run in one room.
 use Rattle.std.specs.{Prelude.{◌≡◌, pos, List, [], Option, Some, None, Ok, MatchOption}, List.AllByRecursion}
 use Rattle.dw_num.specs.{Input.Input, declared.target.Target.Target}
 use Rattle.dw_cfa.specs.{Agreement.kept, Behind.LeavesTo, RowSteps.Stepping, Rows.Rules, Runs.{Outcome, finished}}

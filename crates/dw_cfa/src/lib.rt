@@ -4,7 +4,6 @@
 mod advance;
 mod behind;
 mod cfa;
-mod cie_machine;
 mod coverage;
 mod debug;
 mod dropped;
@@ -17,6 +16,7 @@ mod instructions;
 mod keep;
 mod kept_row;
 mod laws;
+mod lead;
 mod look_up;
 mod machine;
 mod marks;
@@ -40,7 +40,6 @@ mod tree;
 mod turn;
 mod watched;
 
-pub use cie_machine::CieMachine;
 pub use execution::LocatedRow;
 pub use instr::{Factors, Instr};
 pub use instructions::Instructions;

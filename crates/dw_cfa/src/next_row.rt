@@ -1,19 +1,95 @@
-//! The next row of a walk whose program runs (6.4.3).
+//! How far the programs of a walk were run, and its next row (6.4.3).
 
-ghost use Rattle.std.specs.Prelude.{◌≡◌};
-ghost use Rattle.dw_cfa.specs.Inner.{NextRow.GoesOn, Runs.{RunsSo, rows_left}};
+ghost use Rattle.std.specs.Prelude.{◌≡◌, None};
+ghost use Rattle.dw_cfa.specs.Inner.{RowWalk.{GoesOn, IsEntered, WalksSo}, Runs.{RunsSo, rows_left}};
 
 use crate::instr::Factors;
+use crate::lead::{Leading, ready};
 use crate::machine::{End, Machine};
-use crate::steps::Progress;
 use crate::turn::turn;
-use dw_num::{Code, Cursor, ReadError, Refusal};
+use dw_num::{Code, Cursor, ReadError, Refusal, are_bytes};
 
-/// Runs a program up to the end of a row, which the machine has then, and answers where the row
-/// starts. Only behind the last row is a walk's progress another one.
+/// How far the programs were run.
+#[derive(Clone, Copy)]
+pub(crate) enum Progress {
+    Begun,
+    Running,
+    Finished,
+    Failed(ReadError),
+}
+
+/// Ends with an error, which is answered from then on.
+#[inline(never)]
+pub(crate) fn fail(
+    progress: &mut Progress,
+    machine: &mut Machine<'_>,
+    error: ReadError,
+) -> ReadError
+    ensures error { result ≡ error }
+    ensures progress { progress.new ≡ Progress.Failed error }
+    ensures first { machine.new.states.first ≡ None }
+    ensures initial { machine.new.initial ≡ machine.old.initial }
+    ensures kept { machine.new.states.kept ≡ machine.old.states.kept }
+{
+    machine.states.untrack();
+    *progress = Progress::Failed(error);
+    error
+}
+
+// Brings a CIE's row about, where no row of an FDE was gone on to yet. Out of line: room for its errors is cleared at each row else.
+#[tactic(auto, using(crate::proofs::RunSteps::run_ran))]
+#[inline(never)]
+fn begin<'a>(
+    progress: &mut Progress,
+    leading: &Leading<'a>,
+    fde: &Cursor<'a>,
+    machine: &mut Machine<'a>,
+    kept: &mut bool,
+) -> Result<bool, ReadError>
+    requires begun { progress.old ≡ Progress.Begun }
+    requires so { WalksSo Progress.Begun kept.old leading.now fde.now machine.old }
+    ensures so { WalksSo progress.new kept.new leading.now fde.now machine.new }
+    ensures entered { IsEntered Progress.Begun machine.old progress.new leading.now fde.now machine.new result }
+    ensures kept_row { machine.new.states.kept ≡ machine.old.states.kept }
+{
+    are_bytes(leading.program.bytes);
+    are_bytes(fde.rest());
+    match ready(leading, machine, kept) {
+        Ok(()) => {
+            *progress = Progress::Running;
+            Ok(true)
+        }
+        Err(error) => Err(fail(progress, machine, error)),
+    }
+}
+
+/// Brings a CIE's row about, where no row of an FDE was gone on to yet, and answers whether rows are to come.
+#[inline(always)]
+pub(crate) fn enter<'a>(
+    progress: &mut Progress,
+    leading: &Leading<'a>,
+    fde: &Cursor<'a>,
+    machine: &mut Machine<'a>,
+    kept: &mut bool,
+) -> Result<bool, ReadError>
+    requires { WalksSo progress.old kept.old leading.now fde.now machine.old }
+    ensures so { WalksSo progress.new kept.new leading.now fde.now machine.new }
+    ensures entered { IsEntered progress.old machine.old progress.new leading.now fde.now machine.new result }
+    ensures kept_row { machine.new.states.kept ≡ machine.old.states.kept }
+{
+    match *progress {
+        Progress::Begun => begin(progress, leading, fde, machine, kept),
+        Progress::Running => Ok(true),
+        Progress::Finished => Ok(false),
+        Progress::Failed(error) => Err(error),
+    }
+}
+
+/// Runs a program up to the end of a row, which the machine has then, and answers where the row starts. Only behind the last row is
+/// a walk's progress another one.
 #[tactic(auto, using(crate::proofs::RunSteps::rows_end))]
 #[inline(always)]
-pub(crate) fn go_on_row<'a>(
+pub(crate) fn next_row<'a>(
     progress: &mut Progress,
     cursor: &mut Cursor<'a>,
     factors: Factors,

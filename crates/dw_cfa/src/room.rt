@@ -5,8 +5,9 @@ ghost use Rattle.dw_num.specs.{Refusals.Refuses, Target.address_limit};
 ghost use Rattle.dw_cfa.specs.{Faults.{FaultUpTo, NoFaultUpTo}, Gives.RunsTo, RowSteps.program_input, Rows.blank};
 ghost use Rattle.dw_cfa.specs.{RuleAt.last_at, Runs.Outcome, Inner.RuleAt.FoundAt, Inner.Runs.RunsSo};
 
-use crate::execution::{lead, run_initial, run_to};
+use crate::execution::run_to;
 use crate::instr::Factors;
+use crate::lead::{Leading, lead, run_initial};
 use crate::look_up::LookUp;
 use crate::machine::Machine;
 use crate::row::Row;
@@ -18,18 +19,17 @@ use std::marker::Model;
 #[tactic(auto, using(crate::proofs::Words::err_from_is_err_and, crate::proofs::Lent::Given::refusal_weaker, crate::proofs::RunSteps::run_stuck, crate::proofs::RunSteps::run_ran))]
 #[inline(always)]
 fn run_both<'a>(
-    cie: &mut Cursor<'a>,
+    leading: &Leading<'a>,
     fde: &mut Cursor<'a>,
-    factors: Factors,
     machine: &mut Machine<'a>,
     address: u64,
 ) -> Result<(), ReadError>
     requires so { RunsSo machine.old fde.old }
     requires start { machine.old.location ≤ address }
-    ensures { FoundAt address factors cie.old fde.old machine.old.location machine.new.states.row result }
+    ensures { FoundAt address leading.now.factors (program_input leading.now.program leading.now.target) fde.old machine.old.location machine.new.states.row result }
 {
-    lead(cie, factors, machine)?;
-    let _ = run_to(fde, factors, machine, address)?;
+    lead(leading, machine)?;
+    let _ = run_to(fde, leading.factors, machine, address)?;
     Ok(())
 }
 
@@ -37,20 +37,19 @@ fn run_both<'a>(
 #[tactic(auto, using(crate::proofs::Words::err_from_is_err_and, crate::proofs::Lent::Given::refusal_weaker, crate::proofs::LookUps::look_up_ran, crate::proofs::RunSteps::run_stuck))]
 #[inline(always)]
 fn run_look_up<'a>(
-    cie: &mut Cursor<'a>,
+    leading: &Leading<'a>,
     fde: &mut Cursor<'a>,
-    factors: Factors,
     look: &mut LookUp<'a>,
     begin: u64,
     address: u64,
 ) -> Result<(), ReadError>
     requires begin { begin < address_limit fde.old.target.size }
     requires start { begin ≤ address }
-    ensures { FoundAt address factors cie.old fde.old begin look.new.row result }
+    ensures { FoundAt address leading.now.factors (program_input leading.now.program leading.now.target) fde.old begin look.new.row result }
 {
-    run_initial(cie, factors, &mut look.row)?;
+    run_initial(leading, &mut look.row)?;
     look.begin(begin, fde.target().size);
-    let _ = run_to(fde, factors, look, address)?;
+    let _ = run_to(fde, leading.factors, look, address)?;
     Ok(())
 }
 
@@ -86,21 +85,19 @@ impl<'a> RowRoom<'a> {
     #[inline(never)]
     fn run(
         &mut self,
-        cie_program: Program<'a>,
+        leading: &Leading<'a>,
         fde_program: Program<'a>,
         begin: u64,
-        factors: Factors,
-        target: Target,
         address: u64,
     ) -> Result<(), ReadError>
-        requires begin { begin < address_limit target.size }
+        requires begin { begin < address_limit leading.now.target.size }
         requires start { begin ≤ address }
-        ensures { FoundAt address factors (program_input cie_program.entry target) (program_input fde_program.entry target) begin self.new result }
+        ensures { FoundAt address leading.now.factors (program_input leading.now.program leading.now.target) (program_input fde_program.entry leading.now.target) begin self.new result }
     {
+        let target = leading.target;
         let mut machine = Machine::new(self.alloc, begin, target);
-        let mut cie = Cursor::new(cie_program.bytes, cie_program.at, target);
         let mut fde = Cursor::new(fde_program.bytes, fde_program.at, target);
-        let result = run_both(&mut cie, &mut fde, factors, &mut machine, address);
+        let result = run_both(leading, &mut fde, &mut machine, address);
         self.look.row = machine.states.into_row();
         result
     }
@@ -109,24 +106,18 @@ impl<'a> RowRoom<'a> {
     #[inline(always)]
     fn run_any(
         &mut self,
-        cie_program: Program<'a>,
+        leading: &Leading<'a>,
         fde_program: Program<'a>,
         begin: u64,
-        factors: Factors,
-        target: Target,
         address: u64,
     ) -> Result<(), ReadError>
-        requires begin { begin < address_limit target.size }
+        requires begin { begin < address_limit leading.now.target.size }
         requires start { begin ≤ address }
-        ensures { FoundAt address factors (program_input cie_program.entry target) (program_input fde_program.entry target) begin self.new result }
+        ensures { FoundAt address leading.now.factors (program_input leading.now.program leading.now.target) (program_input fde_program.entry leading.now.target) begin self.new result }
     {
-        let mut cie = Cursor::new(cie_program.bytes, cie_program.at, target);
-        let mut fde = Cursor::new(fde_program.bytes, fde_program.at, target);
-        let look = &mut self.look;
-        match run_look_up(&mut cie, &mut fde, factors, look, begin, address) {
-            Err(ReadError::OutOfMemory) => {
-                self.run(cie_program, fde_program, begin, factors, target, address)
-            }
+        let mut fde = Cursor::new(fde_program.bytes, fde_program.at, leading.target);
+        match run_look_up(leading, &mut fde, &mut self.look, begin, address) {
+            Err(ReadError::OutOfMemory) => self.run(leading, fde_program, begin, address),
             answer => answer,
         }
     }
@@ -155,7 +146,12 @@ impl<'a> RowRoom<'a> {
     {
         are_bytes(cie_program.bytes);
         are_bytes(fde_program.bytes);
-        self.run_any(cie_program, fde_program, begin, factors, target, address)
+        let leading = Leading {
+            program: cie_program,
+            factors,
+            target,
+        };
+        self.run_any(&leading, fde_program, begin, address)
     }
 
     /// The row (6.4.1) that was run to.

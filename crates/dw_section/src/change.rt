@@ -34,11 +34,10 @@ fn is_shown(steps: &mut RowWalk<'_>, kept: bool) -> bool
     ensures shown { IsTrue result ↔ (shown_if kept steps.old.kept ≡ Some steps.old.steps.current) }
     ensures same { steps.new ≡ steps.old }
 {
-    if !kept || !steps.is_kept() {
+    if !kept {
         return false;
     }
-    steps.keep_same();
-    true
+    steps.is_kept()
 }
 
 // Whether an address below the end shows the row that is lent, which starts here.
@@ -105,7 +104,9 @@ fn first_change(steps: &mut RowWalk<'_>, end: u128) -> Result<(Option<u128>, boo
     ensures led { steps.new.led ≡ steps.old.led }
     ensures stands { OnOk result (StandsOn steps.new.led steps.new.steps.outcome steps.new.initial) }
 {
-    let kept = steps.keep_initial()?;
+    let Ok(kept) = steps.keep_initial() else {
+        return Err(AllocError);
+    };
     let change = find_change(steps, false, end)?;
     Ok((change, kept))
 }

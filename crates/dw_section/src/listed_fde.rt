@@ -30,22 +30,34 @@ pub(crate) struct FoundFde<'a> {
     pub(crate) return_register: u16,
 }
 
-/// Goes to the rows of an FDE, whose programs are known to give rows.
+/// Goes to the rows of an FDE, whose programs are known to give rows, where the walk was led to its CIE.
 #[inline(always)]
 pub(crate) fn go_to_rows<'a>(steps: &mut RowWalk<'a>, fde: &FoundFde<'a>, target: Target)
     requires in_space { fde.now.begin < address_limit target.size }
     requires known { (rows : List LocatedRow) × AreRowsOf target fde.now rows }
+    requires led { steps.old.led ≡ led_to target fde.now }
     ensures steps { (rows : List LocatedRow) → AreRowsOf target fde.now rows → steps.new.steps ≡ stepping steps.old.steps.current (record { rows = rows; fault = None }) }
     ensures no_fault { steps.new.steps.outcome.fault ≡ None }
-    ensures led { steps.new.led ≡ led_to target fde.now }
+    ensures led { steps.new.led ≡ steps.old.led }
 {
     are_bytes(fde.cie_program.bytes);
     are_bytes(fde.program.bytes);
-    steps.go_to(fde.cie_program, fde.program, fde.begin, fde.factors, target);
+    steps.go_to(fde.program, fde.begin);
 }
 
-/// Goes to the rows of an FDE of a section, where the walk was led to the CIE at a place of it, if to any. No bytes are
-/// compared where the FDE names that CIE.
+// Leads a walk to the CIE of an FDE of a section, where it was led to the CIE at a place of it, if to any. No bytes are compared
+// where the FDE names that one.
+fn lead_to<'a>(steps: &mut RowWalk<'a>, behind: Option<u64>, fde: &FoundFde<'a>, target: Target)
+    requires { (s : Section) × (s.target ≡ target) × LedBy s fde.now.cie_at (led_to target fde.now) × LedSo s behind steps.old.led }
+    ensures { steps.new.led ≡ led_to target fde.now }
+{
+    match behind {
+        Some(cie_at) if cie_at == fde.cie_at => {}
+        _ => steps.lead(fde.cie_program, fde.factors, target),
+    }
+}
+
+/// The same where the walk was led to the CIE at a place of the FDE's section, if to any.
 pub(crate) fn lead<'a>(
     steps: &mut RowWalk<'a>,
     behind: Option<u64>,
@@ -55,18 +67,12 @@ pub(crate) fn lead<'a>(
     requires in_space { fde.now.begin < address_limit target.size }
     requires known { (rows : List LocatedRow) × AreRowsOf target fde.now rows }
     requires led { (s : Section) × (s.target ≡ target) × LedBy s fde.now.cie_at (led_to target fde.now) × LedSo s behind steps.old.led }
-    ensures steps { (rows : List LocatedRow) → AreRowsOf target fde.now rows → steps.new.steps ≡ stepping steps.old.steps.current (record { rows = rows; fault = None }) }
+    ensures rows { (rows : List LocatedRow) → AreRowsOf target fde.now rows → steps.new.steps.outcome.rows ≡ rows }
     ensures no_fault { steps.new.steps.outcome.fault ≡ None }
     ensures led { steps.new.led ≡ led_to target fde.now }
 {
-    match behind {
-        Some(cie_at) if cie_at == fde.cie_at => {
-            are_bytes(fde.cie_program.bytes);
-            are_bytes(fde.program.bytes);
-            steps.go_on(fde.program, fde.begin);
-        }
-        _ => go_to_rows(steps, fde, target),
-    }
+    lead_to(steps, behind, fde, target);
+    go_to_rows(steps, fde, target);
 }
 
 // The program of an FDE whose fields hold: what stands behind its pointer and its two addresses.

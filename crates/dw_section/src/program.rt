@@ -1,35 +1,34 @@
 //! Running the programs of a section's entries (6.4.2, 6.4.3).
 
-ghost use Rattle.std.specs.Prelude.{◌≡◌, ◌+◌, ◌<◌, ℕ, true, List, length, slice_index_or, map, Some, IfOk, IfErr, IfSome, OnOk};
+ghost use Rattle.std.specs.Prelude.{◌≡◌, ◌+◌, ◌<◌, ℕ, true, List, length, slice_index_or, map, None, Some, IfOk, IfErr, IfSome, OnOk};
 ghost use Rattle.std.specs.{Bool.MatchBool, List.AllByRecursion};
-ghost use Rattle.dw_num.specs.{Refusals.Refuses, Span.{span_of, input_of}, Target.address_limit};
+ghost use Rattle.dw_num.specs.{Refusals.Refuses, Span.span_of, Target.address_limit};
 ghost use Rattle.dw_num.specs.declared.target.{Form.{Form as TheForm}, Target.{Target as TheTarget}};
-ghost use Rattle.dw_cfa.specs.{CieMachine.with_steps, Coverage.Lacks, Faults.FdeFault, RulesBehind.RulesBehind};
-ghost use Rattle.dw_cfa.specs.declared.{execution.LocatedRow.LocatedRow, instr.Instr.Instr};
+ghost use Rattle.dw_cfa.specs.{Coverage.Lacks, Runs.Outcome};
 ghost use Rattle.dw_section.specs.{Among.IsAmong, Fields.is_among, Headers.Head, Programs.{CieRuns, CieBroken, FdeRuns, FdeBroken}, Stage.FirstStuck};
 ghost use Rattle.dw_section.specs.{declared.{header.Initial.{Initial as TheInitial}, program.Long.{Long as TheLong}}, Inner.Initials.{place_of, AreOf, IsLong}};
-ghost use Rattle.dw_section.specs.Inner.{Initials.{IsInitial, IsBehind, IsRunner, AreInitials, HasOrLacks}, PieceHeader.{entry_in, initial_in}, Places.Rises};
+ghost use Rattle.dw_section.specs.Inner.{Initials.{IsInitial, IsBehind, IsRunner, AreInitials, HasOrLacks, LedRuns}, PieceHeader.{entry_in, initial_in}, Places.Rises};
 
 use crate::header::{FdeEntry, Initial};
-use dw_cfa::{CieMachine, Row, behind_laws};
+use dw_cfa::{Row, RowWalk};
 use dw_num::{Program, ReadError, Target, are_bytes};
 use std::alloc::{AllocError, Global};
 
-// A CIE program of more bytes is run once, on a machine that is kept for it; others are run again.
+// A CIE program of more bytes is run once, by a walk that is kept for it; others are run again.
 const LONG: usize = 64;
 
-// A machine behind the program of the CIE at a place.
+// A walk that was led to the CIE at a place.
 #[derive(Drop)]
 struct Long<'a> {
     at: u64,
-    machine: CieMachine<'a>,
+    walk: RowWalk<'a>,
 }
 
-/// The machines that run the programs of FDEs: one that goes from CIE to CIE, and one for each CIE with a long
-/// program, in order of place.
+/// The walks that run the programs of FDEs: one that goes from CIE to CIE, and one for each CIE with a long program, in order of
+/// place.
 #[derive(Drop)]
 pub(crate) struct Runner<'a> {
-    machine: CieMachine<'a>,
+    walk: RowWalk<'a>,
     behind: Option<u64>,
     long: Vec<Long<'a>>,
 }
@@ -90,40 +89,31 @@ pub(crate) fn initial_at<'c, 'a>(
 
 // Runs an FDE's program, and says whether one of its addresses has no rule for the CFA.
 fn run_fde<'a>(
-    machine: &mut CieMachine<'a>,
+    walk: &mut RowWalk<'a>,
     program: Program<'a>,
     begin: u64,
     range: u64,
 ) -> Result<bool, ReadError>
-    requires { begin < address_limit machine.old.target.size }
-    ensures found { IfOk result (λ lacks. (instrs : List Instr) × (rows : List LocatedRow) × RulesBehind machine.old.factors machine.old.initial (input_of machine.old.target (span_of program.entry)) begin instrs rows × MatchBool lacks (Lacks (begin + range) rows) (Lacks (begin + range) rows → ⊥)) }
-    ensures stuck { IfErr result (Refuses (FdeFault machine.old.factors machine.old.initial.cfa (input_of machine.old.target (span_of program.entry)) begin)) }
-    ensures same { machine.new ≡ with_steps machine.old machine.new.steps }
+    requires { begin < address_limit walk.old.led.program.target.size }
+    ensures found { IfOk result (λ lacks. (o : Outcome) × LedRuns walk.old.led (span_of program.entry) begin o × (o.fault ≡ None) × MatchBool lacks (Lacks (begin + range) o.rows) (Lacks (begin + range) o.rows → ⊥)) }
+    ensures stuck { IfErr result (Refuses (λ r. (o : Outcome) × LedRuns walk.old.led (span_of program.entry) begin o × (o.fault ≡ Some r))) }
+    ensures led { walk.new.led ≡ walk.old.led }
 {
-    are_bytes(program.bytes);
-    behind_laws();
-    let _ = machine.initial().specified();
-    machine.begin(program, begin)?;
-    Ok(machine.lacks_rule(u128::from(begin) + u128::from(range))?)
+    walk.go_to(program, begin);
+    walk.lacks_rule(u128::from(begin) + u128::from(range))
 }
 
-// A machine behind a CIE's program, which ran before.
-fn machine_of<'a>(
-    alloc: Global,
-    initial: &Initial<'a>,
-    target: Target,
-) -> Result<CieMachine<'a>, AllocError>
-    ensures { (hs : List Head) → IsInitial target hs initial.now → IfOk result (IsBehind target hs (Some initial.now.at)) }
+// A walk that is led to a CIE.
+fn walk_of<'a>(alloc: Global, initial: &Initial<'a>, target: Target) -> RowWalk<'a>
+    ensures { (hs : List Head) → IsInitial target hs initial.now → IsBehind target hs (Some initial.now.at) result.led }
 {
     are_bytes(initial.program.bytes);
-    let mut machine = CieMachine::new(alloc, target);
-    match machine.go_to(initial.program, initial.factors, target) {
-        Ok(()) => Ok(machine),
-        Err(_) => Err(AllocError),
-    }
+    let mut walk = RowWalk::new(alloc, target);
+    walk.lead(initial.program, initial.factors, target);
+    walk
 }
 
-// Keeps a machine for a CIE. Out of line: else its room is cleared for each CIE.
+// Keeps a walk for a CIE. Out of line: else its room is cleared for each CIE.
 #[inline(never)]
 fn keep_long<'a>(
     long: &mut Vec<Long<'a>>,
@@ -132,17 +122,16 @@ fn keep_long<'a>(
 ) -> Result<(), AllocError>
     ensures { (hs : List Head) → IsInitial target hs initial.now → AllByRecursion (IsLong target hs) long.old.items → OnOk result (AllByRecursion (IsLong target hs) long.new.items) }
 {
-    let alloc = *long.allocator();
-    let machine = machine_of(alloc, initial, target)?;
+    let walk = walk_of(*long.allocator(), initial, target);
     long.push(Long {
         at: initial.at,
-        machine,
+        walk,
     })?;
     Ok(())
 }
 
-// A machine for each CIE with a long program.
-fn long_machines<'a>(
+// A walk for each CIE with a long program.
+fn long_walks<'a>(
     alloc: Global,
     initials: &[Initial<'a>],
     target: Target,
@@ -159,7 +148,7 @@ fn long_machines<'a>(
 }
 
 impl<'a> Runner<'a> {
-    /// The machines for the FDEs of these CIEs.
+    /// The walks for the FDEs of these CIEs.
     pub(crate) fn new(
         alloc: Global,
         initials: &[Initial<'a>],
@@ -168,41 +157,31 @@ impl<'a> Runner<'a> {
         ensures { (hs : List Head) → AllByRecursion (IsInitial target hs) initials.now → IfOk result (IsRunner target hs) }
     {
         Ok(Runner {
-            machine: CieMachine::new(alloc, target),
+            walk: RowWalk::new(alloc, target),
             behind: None,
-            long: long_machines(alloc, initials, target)?,
+            long: long_walks(alloc, initials, target)?,
         })
     }
 }
 
-// Puts the machine that goes from CIE to CIE behind the program of the one at a place.
-fn follow<'a>(
-    runner: &mut Runner<'a>,
-    initials: &[Initial<'a>],
-    place: u64,
-    target: Target,
-) -> Result<(), AllocError>
+// Leads the walk that goes from CIE to CIE to the one at a place.
+fn follow<'a>(runner: &mut Runner<'a>, initials: &[Initial<'a>], place: u64, target: Target)
     requires ascending { Rises 0 (map place_of initials.now) }
     requires among { is_among place (map place_of initials.now) ≡ true }
-    ensures { (hs : List Head) → AllByRecursion (IsInitial target hs) initials.now → IsRunner target hs runner.old → OnOk result ((runner.new.behind ≡ Some place) × IsRunner target hs runner.new) }
+    ensures { (hs : List Head) → AllByRecursion (IsInitial target hs) initials.now → IsRunner target hs runner.old → (runner.new.behind ≡ Some place) × IsRunner target hs runner.new }
 {
     if let Some(before) = runner.behind
         && before == place
     {
-        return Ok(());
+        return;
     }
     let cie = initial_at(initials, place, 0);
     are_bytes(cie.program.bytes);
-    match runner.machine.go_to(cie.program, cie.factors, target) {
-        Ok(()) => {
-            runner.behind = Some(place);
-            Ok(())
-        }
-        Err(_) => Err(AllocError),
-    }
+    runner.walk.lead(cie.program, cie.factors, target);
+    runner.behind = Some(place);
 }
 
-// Where the machine of the CIE at a place stands, if one is kept for it.
+// Where the walk of the CIE at a place stands, if one is kept for it.
 fn long_at(long: &[Long<'_>], place: u64) -> Option<usize>
     ensures { IfSome result (λ i. (i < length long.now) × ((d : TheLong) → (slice_index_or long.now i d).at ≡ place)) }
 {
@@ -214,7 +193,7 @@ fn long_at(long: &[Long<'_>], place: u64) -> Option<usize>
     }
 }
 
-// Runs an FDE's program on one of the machines that are kept.
+// Runs an FDE's program by one of the walks that are kept.
 fn run_long<'a>(
     long: &mut Vec<Long<'a>>,
     index: usize,
@@ -228,8 +207,9 @@ fn run_long<'a>(
     ensures stuck { (hs : List Head) (form : TheForm) → ((d : TheLong) → (slice_index_or long.old.items index d).at ≡ fde.now.cie_at) → AllByRecursion (IsLong target hs) long.old.items → IfErr result (Refuses (FdeBroken target hs (entry_in form fde.now))) }
     ensures each { (hs : List Head) → AllByRecursion (IsLong target hs) long.old.items → AllByRecursion (IsLong target hs) long.new.items }
 {
+    are_bytes(fde.program.bytes);
     let kept = &mut long[index];
-    run_fde(&mut kept.machine, fde.program, fde.begin, fde.range)
+    run_fde(&mut kept.walk, fde.program, fde.begin, fde.range)
 }
 
 /// Runs an FDE's program behind the program of the CIE at a place, and says whether one of its addresses has no rule for
@@ -251,6 +231,7 @@ pub(crate) fn run_behind<'a>(
     if let Some(index) = long_at(&runner.long, place) {
         return run_long(&mut runner.long, index, fde, target);
     }
-    follow(runner, initials, place, target)?;
-    run_fde(&mut runner.machine, program, begin, range)
+    follow(runner, initials, place, target);
+    are_bytes(program.bytes);
+    run_fde(&mut runner.walk, program, begin, range)
 }

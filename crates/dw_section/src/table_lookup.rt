@@ -21,6 +21,7 @@ fn row_in<'a>(
     requires { (s : List ℕ) × RunsTo target s address fde.now }
     ensures { (s : List ℕ) → RunsTo target s address fde.now → OnOk result (RulesAt target s address steps.new.steps.current) }
 {
+    steps.lead(fde.cie_program, fde.factors, target);
     go_to_rows(steps, fde, target);
     match steps.advance_to(address) {
         Ok(()) => Ok(()),

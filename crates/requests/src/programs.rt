@@ -5,9 +5,7 @@ ghost use Rattle.dw_num.specs.Target.{address_limit};
 
 use crate::Calls;
 use crate::expressions::on_expression;
-use dw_cfa::{
-    CfaRule, CieMachine, Factors, Instr, Instructions, RegRule, Row, RowSteps, RowWalk, run,
-};
+use dw_cfa::{CfaRule, Factors, Instr, Instructions, RegRule, Row, RowSteps, RowWalk, run};
 use dw_num::{Program, Target};
 use dw_section::{Header, headers};
 use std::io;
@@ -129,30 +127,15 @@ fn each_lent(rt: &impl Calls, walk: &mut RowWalk<'_>) -> Result<(), Fail> {
     Ok(())
 }
 
-// Goes to the rows of two programs, which `run` says that they give.
-fn gone_to<'a>(
-    rt: &impl Calls,
-    walk: &mut RowWalk<'a>,
-    entry: Entry<'a>,
-    begin: u64,
-    target: Target,
-) -> Result<(), Fail>
-    requires { begin < address_limit target.size }
-{
-    let (cie, factors) = (entry.cie, entry.factors);
-    let _rows = run(rt.alloc(), cie, entry.program, begin, factors, target)?;
-    walk.go_to(cie, entry.program, begin, factors, target);
-    Ok(())
-}
-
 // The FDE's rows are gone to twice, so that what its program changed is taken back, behind the CIE's row that is kept.
 fn lent_rows(rt: &impl Calls, entry: Entry<'_>, begin: u64, target: Target) -> Result<(), Fail>
     requires { begin < address_limit target.size }
 {
     let mut walk = RowWalk::new(rt.alloc(), target);
-    gone_to(rt, &mut walk, entry, begin, target)?;
+    walk.lead(entry.cie, entry.factors, target);
+    walk.go_to(entry.program, begin);
     walk.advance()?;
-    gone_to(rt, &mut walk, entry, begin, target)?;
+    walk.go_to(entry.program, begin);
     let _is_kept = walk.keep_initial()?;
     each_lent(rt, &mut walk)
 }
@@ -160,15 +143,15 @@ fn lent_rows(rt: &impl Calls, entry: Entry<'_>, begin: u64, target: Target) -> R
 // Whether one of the first 16 addresses of an FDE lacks a rule for the CFA.
 fn print_lacking<'a>(
     rt: &impl Calls,
-    machine: &mut CieMachine<'a>,
+    walk: &mut RowWalk<'a>,
     program: Program<'a>,
     begin: u64,
 ) -> Result<(), Fail>
-    requires { begin < address_limit machine.old.target.size }
-    ensures { machine.new.target ≡ machine.old.target }
+    requires { begin < address_limit walk.old.led.program.target.size }
+    ensures { walk.new.led ≡ walk.old.led }
 {
-    machine.begin(program, begin)?;
-    let lacks = machine.lacks_rule(u128::from(begin).saturating_add(16))?;
+    walk.go_to(program, begin);
+    let lacks = walk.lacks_rule(u128::from(begin).saturating_add(16))?;
     println!(rt; "{lacks}")?;
     Ok(())
 }
@@ -177,10 +160,10 @@ fn print_lacking<'a>(
 fn lacking(rt: &impl Calls, entry: Entry<'_>, begin: u64, target: Target) -> Result<(), Fail>
     requires { begin < address_limit target.size }
 {
-    let mut machine = CieMachine::new(rt.alloc(), target);
-    machine.go_to(entry.cie, entry.factors, target)?;
-    print_lacking(rt, &mut machine, entry.program, begin)?;
-    print_lacking(rt, &mut machine, entry.program, begin)
+    let mut walk = RowWalk::new(rt.alloc(), target);
+    walk.lead(entry.cie, entry.factors, target);
+    print_lacking(rt, &mut walk, entry.program, begin)?;
+    print_lacking(rt, &mut walk, entry.program, begin)
 }
 
 fn print_initial(rt: &impl Calls, entry: Entry<'_>, target: Target) -> Result<(), Fail> {

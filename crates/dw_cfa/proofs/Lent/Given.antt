@@ -2,7 +2,7 @@
 use Rattle.dw_cfa.specs.InitialRules.{initial_cfa}
 use Rattle.dw_cfa.proofs.Words.{◌≡◌, ℕ, suc, ◌<◌, ◌≤◌, Bool, true, false, List, [], ◌∷◌, ◌++◌, length, map, Option, Some, None, Result, Ok, Err, refl, sym, ap, ◌∙◌, subst, inl, inr, arith, if◌then◌else◌, IfErr, IfOk, MatchResult, OnOk}
 use Rattle.dw_cfa.proofs.Words.{AllZip, append-nil, AreBytes, CfaRule, Factors, Input, Instr, LocatedRow, Outcome, Placed, ReadError, Refusal, Refuses, RegRule, Rules, State, Stepping, address_limit, Refused, OutOfMemory, ProgramSpells}
-use Rattle.dw_cfa.proofs.Words.{cfa_after, rule_after, CieKept, FdeKept, NeverFalls, onto, location_back, moves_location, Counts, AreSpecified, blank, stepping, Following, with_steps, FdeFaultBehind, RunFault, Leaves, LeavesTo, ends}
+use Rattle.dw_cfa.proofs.Words.{cfa_after, rule_after, CieKept, FdeKept, NeverFalls, onto, location_back, moves_location, Counts, AreSpecified, blank, stepping, FdeFaultBehind, RunFault, Leaves, LeavesTo, ends}
 use Rattle.dw_cfa.proofs.Words.{HoldsBehind, IsRowAfter, GivesBehind, GivesBefore, GivesUpTo, RunsBehind, RunsTo, OneRun, RefusedWhereFault, RowsWhereKept, NoneFalls, LastHolds, OneInitial, OneBehind, BehindWhereFault, GivesWhereKept}
 use Rattle.dw_cfa.proofs.{Words.{LeavesWhereKept, RulesBehind, begun, after, fde_fault, placed, row_if, on_initial, initial_row, run_rows, rows_behind, fde_rows, gives, Gives}, Lent.BehindLaws.{behind_gives, gives_behind, gives_rows}}
 use Rattle.dw_cfa.proofs.Lent.{BehindLaws.{holds_behind, rows_are, run_behind}, FaultLaws.{leaves, initial_leaves, leaves_initial, stops_of, fde_fault_found, fde_fault_only, cie_fault_found, cie_fault_only, run_refused, refused_run}}
@@ -290,12 +290,3 @@ rules_behind f initial fde begin o fb listed le runs none =
 
 pub given_runs : (f : Factors) (cie fde : Input) (begin : ℕ) (row : Rules) (s : Stepping) → s ≡ stepping row (run_rows f cie fde begin) → AreBytes cie.bytes → AreBytes fde.bytes → begin < address_limit fde.target.size → RunsTo f cie fde begin s.outcome
 given_runs f cie fde begin row s e cb fb lt = subst (RunsTo f cie fde begin) (sym (ap (λ (x : Stepping). x.outcome) e)) (run_runs f cie fde begin cb fb (omega arith))
-
-pub faultless : (f : Factors) (cie fde : Input) (begin : ℕ) → (rows : List LocatedRow) × Gives f cie fde begin rows → AreBytes cie.bytes → AreBytes fde.bytes → begin < address_limit fde.target.size → (run_rows f cie fde begin).fault ≡ None
-faultless f cie fde begin given cb fb lt = gives_no_fault f cie fde begin cb fb (omega arith) given.0 given.1
-
-pub follow_runs : {X E : Type 0} (result : Result X E) (old new : Following) (fde : Input) (begin : ℕ) → AreBytes fde.bytes → AreSpecified 0 old.initial.registers → begin ≤ address_limit fde.target.size
-    → OnOk result (new ≡ with_steps old (stepping old.initial (rows_behind old.factors old.initial fde begin))) → OnOk result (RunsBehind old.factors old.initial fde begin new.steps.outcome)
-follow_runs (Ok x) old new fde begin fb listed le e =
-    subst (RunsBehind old.factors old.initial fde begin) (sym (ap (λ (m : Following). m.steps.outcome) e)) (behind_runs old.factors old.initial fde begin fb listed le)
-follow_runs (Err x) old new fde begin fb listed le e = tt

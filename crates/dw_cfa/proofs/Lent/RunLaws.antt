@@ -1,7 +1,6 @@
 -- The two halves of a run, and where its rows start.
-use Rattle.dw_cfa.specs.declared.steps.Progress.TheVariants as progress
-use Rattle.dw_cfa.proofs.Words.{◌≡◌, ◌⊎◌, ℕ, Result, Ok, Err, sym, ap, ◌∙◌, subst, inl, inr, Factors, Input, Machine, Outcome, Progress, Refusal, Rules, Stepping, address_limit}
-use Rattle.dw_cfa.proofs.{Words.{blank, begun, placed, initial_row, on_initial, rows_left, run_rows, left_of, state_of}, Lent.RowsAt.{RowsFrom, refused_from, rows_from}}
+use Rattle.dw_cfa.proofs.Words.{ℕ, Result, Ok, Err, Factors, Input, Machine, Outcome, Refusal, Rules, address_limit}
+use Rattle.dw_cfa.proofs.{Words.{blank, begun, placed, initial_row, on_initial, rows_left, run_rows, state_of}, Lent.RowsAt.{RowsFrom, refused_from, rows_from}}
 pub use Rattle.dw_cfa.proofs.Lent.Listings.{placed_program, program_placed}
 
 -- ---- where the next row of a machine starts
@@ -18,9 +17,3 @@ run_from f cie fde begin =
 pub left_from : (f : Factors) (i : Input) (m : Machine) → RowsFrom m.location (rows_left f i m)
 unfolding rows_left
 left_from f i m = rows_from m.limit m.initial (placed f i).items (placed f i).fault (state_of m)
-
-module _ (f : Factors) (cie fde : Input) (m : Machine) where
-  -- what is left begins where the machine stands
-  pub next_from : (p : Progress) (s : Stepping) → (p ≡ progress.Begun) ⊎ (p ≡ progress.Running) → left_of p f cie fde m ≡ s → RowsFrom m.location s.outcome
-  next_from p s (inl is) e = subst (λ (x : Stepping). RowsFrom m.location x.outcome) (ap (λ (q : Progress). left_of q f cie fde m) (sym is) ∙ e) (run_from f cie fde m.location)
-  next_from p s (inr is) e = subst (λ (x : Stepping). RowsFrom m.location x.outcome) (ap (λ (q : Progress). left_of q f cie fde m) (sym is) ∙ e) (left_from f fde m)

@@ -1,11 +1,11 @@
--- Programs that are known to give rows, run one after another in one room.
-use Rattle.std.specs.{Prelude.{◌≡◌, ℕ, Bool, false, if◌then◌else◌, IsTrue, IfSome, List, Option, Some, Ok, None, []}, List.AllByRecursion}
-use Rattle.dw_num.specs.Input.{Input}
-use Rattle.dw_cfa.specs.{Behind.LeavesTo, RowSteps.{Stepping, program_input, stepping}, RowWalk.Led, Rows.{Rules, blank, is_specified, rule}}
-use Rattle.dw_cfa.specs.{RuleAt.{last_at, left_above}, Runs.{Outcome, finished}, declared.execution.LocatedRow.LocatedRow}
-use Rattle.dw_cfa.specs.declared.{instr.Factors.Factors, machine.Machine.Machine, row_walk.Leading.Leading, steps.Progress.Progress}
-use Rattle.dw_cfa.specs.Inner.{RowSteps.left_of, Runs.{RunsSo, initial_row, placed, rows_left, run_rows}, States.BeganWith}
-use Rattle.dw_cfa.specs.declared.steps.Progress.TheVariants as progress
+-- How the code runs the programs of one FDE after another in one room.
+use Rattle.std.specs.{Prelude.{◌≡◌, ℕ, Bool, true, false, if◌then◌else◌, IsTrue, IfSome, List, Option, Some, Result, Ok, Err, None, []}, List.AllByRecursion}
+use Rattle.dw_num.specs.{Input.Input, Refusals.Refuses, declared.error.ReadError.ReadError, declared.refusal.Refusal.Refusal}
+use Rattle.dw_cfa.specs.{Behind.LeavesTo, RowSteps.{Failed, Stepping, program_input, stepping}, RowWalk.Led, Rows.{Rules, blank, is_specified, rule}}
+use Rattle.dw_cfa.specs.{RuleAt.{last_at, left_above}, Runs.{Outcome, fails, finished, row_then}, declared.execution.LocatedRow.LocatedRow}
+use Rattle.dw_cfa.specs.declared.{instr.Factors.Factors, lead.Leading.Leading, machine.Machine.Machine, next_row.Progress.Progress}
+use Rattle.dw_cfa.specs.Inner.{Runs.{RunsSo, initial_row, placed, rows_left, run_rows}, States.BeganWith}
+use Rattle.dw_cfa.specs.declared.next_row.Progress.TheVariants as progress
 
 abbrev pub led_of : Leading → Led
 led_of l = record { program = program_input l.program l.target; factors = l.factors }
@@ -19,13 +19,19 @@ initial_of other initial = None
 abbrev pub AreLeft : Leading → Option Rules → Type 0
 AreLeft l initial = IfSome initial (λ row. LeavesTo l.factors (program_input l.program l.target) (Ok row))
 
+-- the row that it leaves, or its first refusal
+abbrev pub led_row : Leading → Result Rules Refusal
+led_row l = initial_row (placed l.factors (program_input l.program l.target)) blank
+
 abbrev pub led_rows : Leading → Input → ℕ → Outcome
 led_rows l fde begin = run_rows l.factors (program_input l.program l.target) fde begin
 
 -- before its first row a walk runs both programs from their beginning
 abbrev pub walk_of : Progress → Leading → Input → Machine → Stepping
 walk_of progress.Begun l fde m = stepping m.states.row (led_rows l fde m.location)
-walk_of other l fde m = left_of other l.factors fde fde m
+walk_of progress.Running l fde m = stepping m.states.row (rows_left l.factors fde m)
+walk_of progress.Finished l fde m = stepping m.states.row finished
+walk_of (progress.Failed e) l fde m = record { outcome = finished; current = m.states.row; error = Some e }
 
 abbrev pub WalkStands : Progress → Input → Machine → Type 0
 WalkStands progress.Begun fde m = RunsSo m fde
@@ -34,7 +40,7 @@ WalkStands other fde m = BeganWith m.initial m.states.first
 
 -- the machine has the initial row of a CIE
 abbrev pub HasInitial : Leading → Machine → Type 0
-HasInitial l m = initial_row (placed l.factors (program_input l.program l.target)) blank ≡ Ok m.initial
+HasInitial l m = led_row l ≡ Ok m.initial
 
 -- both run a CIE's program alike
 abbrev pub LeadsSame : Leading → Leading → Type 0
@@ -56,25 +62,37 @@ WalkKeeps other l fde m = Unit {0}
 
 -- ---- how a walk stands
 
--- no fault comes, and what is kept of a CIE is its initial row
+-- what is kept of a CIE is its initial row
 pub record WalksSo (p : Progress) (kept : Bool) (l : Leading) (fde : Input) (m : Machine) : Type 0 where
   pub stands : WalkStands p fde m
-  pub no_fault : (walk_of p l fde m).outcome.fault ≡ None
   pub initial : IsTrue kept → HasInitial l m
   pub keeps : WalkKeeps p l fde m
   pub left : AreLeft l (initial_of p m.initial)
 
 -- the machine has the row of a CIE's program, and stands where it stood, at the front of an FDE's
-pub record IsLed (f : Factors) (cie : Input) (old new : Machine) : Type 0 where
-  pub initial : initial_row (placed f cie) blank ≡ Ok new.initial
+pub record IsLed (l : Leading) (old new : Machine) : Type 0 where
+  pub initial : HasInitial l new
   pub row : new.states.row ≡ new.initial
   pub none : new.states.stack ≡ []
   pub first : BeganWith new.initial new.states.first
   pub location : new.location ≡ old.location
   pub limit : new.limit ≡ old.limit
 
-abbrev pub Readied : Leading → Machine → Machine → Type 0
-Readied l old new = IsLed l.factors (program_input l.program l.target) old new
+-- ---- the next row
+
+-- an FDE's program runs behind the row of its CIE, or no row is to come, or an error is answered from then on
+abbrev pub IsEntered : Progress → Machine → Progress → Leading → Input → Machine → Result Bool ReadError → Type 0
+IsEntered old was p l fde m (Ok true) =
+    (p ≡ progress.Running) × RunsSo m fde × ((walk_of old l fde was).outcome ≡ rows_left l.factors fde m) × ((walk_of old l fde was).error ≡ None) × (m.location ≡ was.location)
+IsEntered old was p l fde m (Ok false) = (p ≡ progress.Finished) × (old ≡ progress.Finished) × (m ≡ was)
+IsEntered old was p l fde m (Err e) = (p ≡ progress.Failed e) × Failed (walk_of old l fde was) e (walk_of (progress.Failed e) l fde m)
+
+-- the machine has a row that starts there, and more are left or it is the last
+abbrev pub GoesOn : Outcome → Factors → Input → Machine → Progress → Result (Option ℕ) ReadError → Type 0
+GoesOn old f i m p (Ok (Some start)) =
+    (more : Bool) × RunsSo m i × (old ≡ row_then (record { location = start; row = m.states.row }) (if more then rows_left f i m else finished)) × (p ≡ (if more then progress.Running else progress.Finished))
+GoesOn old f i m p (Ok None) = ⊥
+GoesOn old f i m p (Err e) = Refuses (λ r. old ≡ fails r) e
 
 -- ---- up to the row of an address
 
@@ -85,15 +103,3 @@ pub record RanUpTo (a : ℕ) (old : Outcome) (f : Factors) (i : Input) (m : Mach
   pub behind : left_above a old ≡ (if more then rows_left f i m else finished)
   pub fault : (rows_left f i m).fault ≡ old.fault
   pub keeps : (other : Rules) → AllSpecify other old.rows → AllSpecify other (rows_left f i m).rows
-
--- a walk does, or it stays where no row is to come
-pub record WalkedTo (a : ℕ) (p : Progress) (old : Outcome) (was : Machine) (l : Leading) (i : Input) (m : Machine) (more : Bool) : Type 0 where
-  pub found : (row : Rules) → last_at a old.rows ≡ Some row → m.states.row ≡ row
-  pub stays : last_at a old.rows ≡ None → m.states.row ≡ was.states.row
-  pub behind : left_above a old ≡ (if more then rows_left l.factors i m else finished)
-  pub first : BeganWith m.initial m.states.first
-  pub none : last_at a old.rows ≡ None → (more ≡ false) × (initial_of p was.initial ≡ None)
-  pub so : IsTrue more → RunsSo m i
-  pub known : IsTrue more → (rows_left l.factors i m).fault ≡ None
-  pub keeps : IsTrue more → AllSpecify m.initial (rows_left l.factors i m).rows
-  pub left : IsTrue more → AreLeft l (Some m.initial)

@@ -123,11 +123,6 @@ pub record RanTo (f : Factors) (i : Input) (m : Machine) (moves : Bool) (i' : In
   pub same_location : moves ≡ false → m'.location ≡ m.location
   pub stop : stop_left f i m ≡ stop_left f i' m'
 
--- the machine has a row and more are left, or it is the last, or the refusal was answered
-abbrev pub GivesRow : Outcome → Factors → Input → Machine → Result (ℕ × Bool) ReadError → Type 0
-GivesRow old f i m (Ok x) = RunsSo m i × (old ≡ row_then (record { location = x.0; row = m.states.row }) (if x.1 then rows_left f i m else finished))
-GivesRow old f i m (Err e) = Refuses (λ r. old ≡ fails r) e
-
 -- the same for an instruction of a CIE's program
 pub record WroteTo (f : Factors) (i : Input) (row : Rules) (i' : Input) (row' : Rules) : Type 0 where
   pub shorter : length i'.bytes < length i.bytes

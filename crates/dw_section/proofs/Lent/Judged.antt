@@ -1,7 +1,8 @@
 -- What running programs tells of headers.
-use Rattle.dw_cfa.specs.{CieMachine.{Following, with_steps}, Coverage.Lacks}
+use Rattle.dw_cfa.specs.Coverage.{Lacks}
 use Rattle.dw_cfa.proofs.Lent.RowsAt.{last_from}
-use Rattle.dw_section.proofs.Words.{◌≡◌, ℕ, ◌+◌, ◌<◌, ◌≤◌, Bool, true, false, List, [], ◌∷◌, ◌++◌, map, length, get_or, set, Option, Some, None, refl, sym, ap, subst, ◌∙◌, append_assoc, arith, inl, inr, MatchBool, nat_lt}
+use Rattle.dw_section.proofs.Words.{◌≡◌, ℕ, ◌+◌, ◌<◌, ◌≤◌, Bool, true, false, List, [], ◌∷◌, ◌++◌, map, length, get_or, set, Option, Some, None, Ok, Err, refl, sym, ap, subst, ◌∙◌, append_assoc, arith, inl, inr, MatchBool, nat_lt}
+use Rattle.dw_section.proofs.Words.{AreBytes, Factors, Input, Led, LedRuns, Leaves, Outcome, RunsBehind, RunsTo, behind_where_fault, leaves_one, one_initial, rules_behind, span_of}
 use Rattle.dw_section.proofs.Words.{AllByRecursion, Refusal, Target, address_limit, Instr, CfaRule, Unset, LocatedRow, RulesBehind, cfa_after, FdeFault, FdeKept, initial_cfa, Counts, Rules, Initial, is_among, Head, fde, FdeHead}
 use Rattle.dw_section.proofs.Words.{head_at, or_place, place_of, IsInitial, IsBehind, HasOrLacks, initial_head, Rises, InitialInstrs, Instrs, FdeRuns, FdeBroken, HasRules, LacksRule, input_of, IsNonDecreasingBy, ltb-true}
 use Rattle.dw_section.proofs.{Words.{ltb-false, cases_lt, get_or-map, length-map, All-from_recursion, All-set, recursion_from_All, NoCfaRule, FirstLacking, counts_exists}, Places.{rises-at, among_place}, Stages.all_push}
@@ -30,11 +31,6 @@ all_get P xs i d h lt = All-from_recursion P xs h i d lt
 
 pub all_at : {X : Type 0} (P : X → Type 0) (xs : List X) (i : ℕ) (x : X) → x ≡ get_or xs i x → i < length xs → AllByRecursion P xs → P x
 all_at P xs i x is lt h = subst P (sym is) (all_get P xs i x h lt)
-
--- ---- a machine that ran an FDE's program
-
-pub behind_stays : (target : Target) (hs : List Head) (place : ℕ) (m n : Following) → n ≡ with_steps m n.steps → IsBehind target hs (Some place) m → IsBehind target hs (Some place) n
-behind_stays target hs place m n same is = subst (IsBehind target hs (Some place)) (sym same) is
 
 pub all_get_map : {X Y : Type 0} (P : Y → Type 0) (view : X → Y) (xs : List X) (i : ℕ) (d : X) → AllByRecursion P (map view xs) → i < length xs → P (view (get_or xs i d))
 all_get_map P view xs i d h lt = subst P (get_or-map view xs i d (view d) lt) (all_get P (map view xs) i (view d) h (omega (arith, lt, length-map xs view)))
@@ -76,17 +72,26 @@ module _ (target : Target) (hs : List Head) (c : Initial) (is : IsInitial target
     has_or_lacks true w = lacks_so w
     has_or_lacks false none = (is.1, instrs, instrs_so, has_at none)
 
--- what a run on a machine behind a CIE's row tells
-module _ (target : Target) (hs : List Head) (m : Following) (f : FdeHead) (is : IsBehind target hs (Some f.cie_at) m) where
-  pub behind_found : (lacks : Bool) → (instrs : List Instr) × (rows : List LocatedRow) × RulesBehind m.factors m.initial (input_of m.target f.program) f.begin instrs rows × MatchBool lacks (Lacks (f.begin + f.range) rows) (Lacks (f.begin + f.range) rows → ⊥)
-      → FdeRuns target hs (fde f) × HasOrLacks target hs (fde f) lacks
-  behind_found lacks ran =
-      let c = is.0 in
-      let y = rw (is.3, is.4, is.5) at ran in
-      (fde_runs target hs c is.2 f is.1 y.0 y.1 y.2, has_or_lacks target hs c is.2 f is.1 y.0 y.1 y.2 lacks y.3)
+-- behind a CIE's program that leaves a row, both programs run as the FDE's does behind that row
+behind_of : (f : Factors) (i own : Input) (begin : ℕ) (instrs : List Instr) (row : Rules) (o : Outcome) → AreBytes i.bytes → Leaves f i instrs row → RunsTo f i own begin o → RunsBehind f row own begin o
+behind_of f i own begin instrs row o cb l (inl (r, fault, is)) = let one = one_initial f i cb in let no : Ok row ≡ Err r = one.2 (Ok row) (instrs, l) ∙ sym (one.2 (Err r) fault) in absurd cc
+behind_of f i own begin instrs row o cb l (inr (others, initial, left, runs)) = subst (λ (x : Rules). RunsBehind f x own begin o) (leaves_one f i others instrs initial row cb left l) runs
 
-  pub behind_broken : (r : Refusal) → FdeFault m.factors m.initial.cfa (input_of m.target f.program) f.begin r → FdeBroken target hs (fde f) r
-  behind_broken r fault = fde_broken target hs is.0 is.2 f is.1 r (rw (is.3, is.4, is.5) at fault)
+-- what a walk that was led to a CIE tells
+module _ (target : Target) (hs : List Head) (led : Led) (f : FdeHead) (is : IsBehind target hs (Some f.cie_at) led) (fb : AreBytes f.program.bytes) (lt : f.begin < address_limit target.size) where
+  ran : (o : Outcome) → LedRuns led f.program f.begin o → RunsBehind is.0.factors is.2.3 (input_of target f.program) f.begin o
+  ran o runs = behind_of is.0.factors (input_of target (span_of is.0.program)) (input_of target f.program) f.begin is.2.1 is.2.3 o is.4 is.2.4 (subst (λ (l : Led). LedRuns l f.program f.begin o) is.3 runs)
+
+  pub behind_found : (lacks : Bool) → (o : Outcome) × LedRuns led f.program f.begin o × (o.fault ≡ None) × MatchBool lacks (Lacks (f.begin + f.range) o.rows) (Lacks (f.begin + f.range) o.rows → ⊥)
+      → FdeRuns target hs (fde f) × HasOrLacks target hs (fde f) lacks
+  behind_found lacks (o, runs, none, found) =
+      let c = is.0 in
+      let y = rules_behind c.factors is.2.3 (input_of target f.program) f.begin o fb is.2.4.listed (omega (arith, lt)) (ran o runs) none in
+      (fde_runs target hs c is.2 f is.1 y.0 o.rows y.1, has_or_lacks target hs c is.2 f is.1 y.0 o.rows y.1 lacks found)
+
+  pub behind_broken : (r : Refusal) → (o : Outcome) × LedRuns led f.program f.begin o × (o.fault ≡ Some r) → FdeBroken target hs (fde f) r
+  behind_broken r (o, runs, fault) =
+      fde_broken target hs is.0 is.2 f is.1 r ((behind_where_fault is.0.factors is.2.3 (input_of target f.program) f.begin fb is.2.4.listed (omega (arith, lt)) o (ran o runs) r).0 fault)
 
 -- ---- the first that lacks one
 

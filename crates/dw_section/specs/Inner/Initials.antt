@@ -1,7 +1,7 @@
 -- What the code keeps of CIEs, and what it finds out about FDEs.
 use Rattle.std.specs.{Prelude.{◌≡◌, ℕ, List, [], ◌∷◌, Bool, true, false, Option, Some, None, map}, List.{AllByRecursion, AllZip, filter_map}}
-use Rattle.dw_num.specs.{Span.{span_of, input_of}, declared.refusal.Code.TheVariants.NoCfaRule, declared.target.Form.Form, declared.target.Target.Target}
-use Rattle.dw_cfa.specs.{Behind.Leaves, CieMachine.Following, Rows.Rules, declared.instr.Instr.Instr}
+use Rattle.dw_num.specs.{Input.AreBytes, Span.{Span, span_of, input_of}, declared.refusal.Code.TheVariants.NoCfaRule, declared.target.Form.Form, declared.target.Target.Target}
+use Rattle.dw_cfa.specs.{Behind.Leaves, Gives.RunsTo, RowWalk.Led, Rows.Rules, Runs.Outcome, declared.instr.Instr.Instr}
 use Rattle.dw_section.specs.{Among.IsAmong, Cut.Piece, Headers.{Head, cie, fde, Has, CieHolds}, Places.cie_places, Programs.{CieRuns, HasRules, LacksRule}}
 use Rattle.dw_section.specs.{Stage.FirstStuck, declared.entry.Kind.Kind, declared.header.Initial.Initial, declared.program.Long.Long}
 use Rattle.dw_section.specs.{declared.program.Runner.Runner, Inner.Heads.{head_at, cie_ats}, Inner.PieceHeader.{initial_head, initial_in}}
@@ -39,18 +39,23 @@ abbrev pub IsInitial : Target → List Head → Initial → Type 0
 IsInitial target hs c =
     (form : Form) × (instrs : List Instr) × IsAmong (cie (initial_head form c)) hs × (row : Rules) × Leaves c.factors (input_of target (span_of c.program)) instrs row
 
--- a machine has the row of the CIE at a place
-abbrev pub IsBehind : Target → List Head → Option ℕ → Following → Type 0
-IsBehind target hs None m = Unit {0}
-IsBehind target hs (Some place) m = (c : Initial) × (c.at ≡ place) × (is : IsInitial target hs c) × (m.initial ≡ is.3) × (m.factors ≡ c.factors) × (m.target ≡ target)
+-- a walk was led to the CIE at a place
+abbrev pub IsBehind : Target → List Head → Option ℕ → Led → Type 0
+IsBehind target hs None led = Unit {0}
+IsBehind target hs (Some place) led =
+    (c : Initial) × (c.at ≡ place) × IsInitial target hs c × (led ≡ record { program = input_of target (span_of c.program); factors = c.factors }) × AreBytes c.program.bytes.now
 
--- so has one that is kept for its CIE alone
+-- so was one that is kept for its CIE alone
 abbrev pub IsLong : Target → List Head → Long → Type 0
-IsLong target hs l = IsBehind target hs (Some l.at) l.machine
+IsLong target hs l = IsBehind target hs (Some l.at) l.walk.led
 
--- each machine has the row of its CIE
+-- each walk was led to its CIE
 abbrev pub IsRunner : Target → List Head → Runner → Type 0
-IsRunner target hs r = IsBehind target hs r.behind r.machine × AllByRecursion (IsLong target hs) r.long.items
+IsRunner target hs r = IsBehind target hs r.behind r.walk.led × AllByRecursion (IsLong target hs) r.long.items
+
+-- an FDE's program runs to this behind the CIE to which a walk was led
+abbrev pub LedRuns : Led → Span → ℕ → Outcome → Type 0
+LedRuns led program begin o = RunsTo led.factors led.program (input_of led.program.target program) begin o
 
 -- the programs of these run, and this is kept of the CIEs among them
 pub record AreInitials (target : Target) (hs front : List Head) (cs : List Initial) : Type 0 where

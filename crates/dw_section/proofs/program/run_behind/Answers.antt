@@ -1,4 +1,4 @@
-use Rattle.dw_section.proofs.{Words.{Option, ℕ, sym, subst, IfOk-weaker, IfErr-weaker, span_of, IsBehind, refuses_by}, Lent.Judged.{behind_stays, behind_found, behind_broken}}
+use Rattle.dw_section.proofs.{Words.{Option, ℕ, subst, IfOk-weaker, IfErr-weaker, span_of, IsBehind, refuses_by}, Lent.Judged.{behind_found, behind_broken}}
 use Rattle.dw_section.proofs.program.run_behind.Goals as goal
 
 pub returns-in-Some-clause-found : goal.returns-in-Some-clause-found
@@ -15,18 +15,17 @@ pub returns-clause-found : goal.returns-clause-found
 returns-clause-found c = λ hs form all runner.
     let a = c.args in
     let e = a.fde.now in
-    let m = c.follow.new.runner.machine in
-    let n = c.run_fde.new.machine in
-    let follows = c.in_ok-follow.ensures hs all runner in
-    let here = subst (λ (b : Option ℕ). IsBehind a.target hs b m) follows.0 follows.1.0 in
-    let stays = subst (λ (b : Option ℕ). IsBehind a.target hs b n) (sym follows.0) (behind_stays a.target hs a.fde.now.cie_at m n c.run_fde.ensures.same here) in
-    IfOk-weaker c.run_fde.result _ _ (λ lacks ran. let y = behind_found a.target hs m (record { at = e.at; form = form; cie_at = e.cie_at; begin = e.begin; range = e.range; program = span_of e.program }) here lacks ran in (y.0, y.1, (stays, follows.1.1))) c.run_fde.ensures.found
+    let led = c.follow.new.runner.walk.led in
+    let follows = c.follow.ensures hs all runner in
+    let here = subst (λ (b : Option ℕ). IsBehind a.target hs b led) follows.0 follows.1.0 in
+    let stays : IsBehind a.target hs c.follow.new.runner.behind c.run_fde.new.walk.led = rw c.run_fde.ensures.led follows.1.0 in
+    IfOk-weaker c.run_fde.result _ _ (λ lacks ran. let y = behind_found a.target hs led (record { at = e.at; form = form; cie_at = e.cie_at; begin = e.begin; range = e.range; program = span_of e.program }) here c.are_bytes.ensures c.requires.begin lacks ran in (y.0, y.1, (stays, follows.1.1))) c.run_fde.ensures.found
 
 pub returns-clause-stuck : goal.returns-clause-stuck
 returns-clause-stuck c = λ hs form all runner.
     let a = c.args in
     let e = a.fde.now in
-    let m = c.follow.new.runner.machine in
-    let follows = c.in_ok-follow.ensures hs all runner in
-    let here = subst (λ (b : Option ℕ). IsBehind a.target hs b m) follows.0 follows.1.0 in
-    IfErr-weaker c.run_fde.result _ _ (λ error y. refuses_by error _ _ (λ r h. behind_broken a.target hs m (record { at = e.at; form = form; cie_at = e.cie_at; begin = e.begin; range = e.range; program = span_of e.program }) here r h) y) c.run_fde.ensures.stuck
+    let led = c.follow.new.runner.walk.led in
+    let follows = c.follow.ensures hs all runner in
+    let here = subst (λ (b : Option ℕ). IsBehind a.target hs b led) follows.0 follows.1.0 in
+    IfErr-weaker c.run_fde.result _ _ (λ error y. refuses_by error _ _ (λ r h. behind_broken a.target hs led (record { at = e.at; form = form; cie_at = e.cie_at; begin = e.begin; range = e.range; program = span_of e.program }) here c.are_bytes.ensures c.requires.begin r h) y) c.run_fde.ensures.stuck

@@ -1,5 +1,5 @@
 use Rattle.dw_section.specs.declared.change.Changes.TheInside.{Inside}
-use Rattle.dw_section.proofs.{Words.{◌≡◌, ◌+◌, ◌∙◌, ap, arith, subst, sym, AreRowsOf, Changing, Section, Stepping, changing}, change.Changes.go_on.Goals.{then-self, else-self+else-long}}
+use Rattle.dw_section.proofs.{Words.{◌≡◌, ◌+◌, ◌∙◌, ap, arith, subst, sym, AreRowsOf, Changing, List, LocatedRow, Section, changing}, change.Changes.go_on.Goals.{then-self, else-self+else-long}}
 use Rattle.dw_section.proofs.change.Changes.go_on.Goals as goal
 
 abbrev section_of : Inside → Section
@@ -15,4 +15,4 @@ returns c = λ rows give.
     let given = subst (λ (s : Section). AreRowsOf s.target c.args.fde.now rows) (sym same) give in
     let end = c.from.result + c.from-2.result in
     let ends : end ≡ c.args.fde.now.begin + c.args.fde.now.range = omega (arith, c.from.ensures, c.from-2.ensures) in
-    ap (λ (s : Stepping). changing here s.outcome.rows end) (c.lead.ensures.steps rows given) ∙ ap (λ (s : Section). changing s rows end) same ∙ ap (changing c.args.self.now.section rows) ends
+    ap (λ (rows : List LocatedRow). changing here rows end) (c.lead.ensures.rows rows given) ∙ ap (λ (s : Section). changing s rows end) same ∙ ap (changing c.args.self.now.section rows) ends

@@ -1,5 +1,5 @@
-use Rattle.dw_section.proofs.{Words.IsInitial, Lent.Judged.all_at, program.long_machines.Goals.{then-initial-gt-LONG+in_ok-keep_long, else-initial-gt-LONG}}
-use Rattle.dw_section.proofs.program.long_machines.Goals as goal
+use Rattle.dw_section.proofs.{Words.IsInitial, Lent.Judged.all_at, program.long_walks.Goals.{then-initial-gt-LONG+in_ok-keep_long, else-initial-gt-LONG}}
+use Rattle.dw_section.proofs.program.long_walks.Goals as goal
 
 pub loop-initial-preserved : goal.loop-initial-preserved
 loop-initial-preserved c = λ hs all.

@@ -2,7 +2,7 @@ use Rattle.std.proofs.Common.{◌≡◌, ℕ, Ok, Err, Result, IsTrue, is_ok}
 use Rattle.dw_num.specs.{Front.{Reads, fixed_at}, declared.refusal.Refusal.Refusal}
 use Rattle.dw_cfa.specs.{declared.instr.Instr.TheVariants.{Nop}, Inner.FrontInstr.instr_at}
 use Rattle.dw_cfa.proofs.Tabled.{nop_passed}
-use Rattle.dw_cfa.proofs.execution.pass_nop.Goals as goal
+use Rattle.dw_cfa.proofs.lead.pass_nop.Goals as goal
 
 pub returns-clause-passed : goal.returns-clause-passed
 returns-clause-passed c is f = by_read c.byte.result c.byte.ensures.exact (rw c.is_ok.ensures.value at is)
