@@ -1,10 +1,11 @@
-//! Laws of rows, for the layers above. The functions do nothing: their contracts are proved.
+//! Laws of rows, for the layers above.
 
 ghost use Rattle.dw_cfa.specs.{FaultPlaces.{CieFaultsWithin, FdeFaultsWithin, RunFaultsWithin}, Match.{MatchExists, RestoresMatched}};
 ghost use Rattle.dw_cfa.specs.RowLaws.{OneRun, RefusedWhereFault, RowsWhereKept, NoneFalls, LastHolds, OneHolds, OneListing, OneCount};
 ghost use Rattle.dw_cfa.specs.RowLaws.{FirstRowIsBegin, OneInitial, LeavesWhereKept, OneBehind, GivesWhereKept, RulesWhereGiven, BehindWhereFault};
 
-/// What holds of the rows that two programs give, and of their refusal.
+/// What holds of the rows that two programs give, of the row that a CIE's program leaves, and of the rows of an FDE's program behind
+/// an initial row; and of their refusals. It does nothing: its contract is proved.
 pub fn row_laws()
     ensures run { OneRun }
     ensures refused { RefusedWhereFault }
@@ -18,20 +19,12 @@ pub fn row_laws()
     ensures within { RunFaultsWithin }
     ensures matched { RestoresMatched }
     ensures found { MatchExists }
-{}
-
-/// What holds of the row that a CIE's program leaves, and of its refusal.
-pub fn initial_laws()
-    ensures one { OneInitial }
-    ensures kept { LeavesWhereKept }
-    ensures within { CieFaultsWithin }
-{}
-
-/// What holds of the rows of an FDE's program behind an initial row, and of its refusal.
-pub fn behind_laws()
-    ensures one { OneBehind }
-    ensures kept { GivesWhereKept }
-    ensures rules { RulesWhereGiven }
-    ensures refused { BehindWhereFault }
-    ensures within { FdeFaultsWithin }
+    ensures initial { OneInitial }
+    ensures initial_kept { LeavesWhereKept }
+    ensures initial_within { CieFaultsWithin }
+    ensures behind { OneBehind }
+    ensures behind_kept { GivesWhereKept }
+    ensures behind_rules { RulesWhereGiven }
+    ensures behind_refused { BehindWhereFault }
+    ensures behind_within { FdeFaultsWithin }
 {}

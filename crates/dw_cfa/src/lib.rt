@@ -43,7 +43,7 @@ mod watched;
 pub use execution::LocatedRow;
 pub use instr::{Factors, Instr};
 pub use instructions::Instructions;
-pub use laws::{behind_laws, initial_laws, row_laws};
+pub use laws::row_laws;
 pub use opening::{FirstRow, first_row};
 pub use register_set::RegisterSet;
 pub use room::RowRoom;

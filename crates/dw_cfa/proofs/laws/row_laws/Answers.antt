@@ -1,4 +1,5 @@
-use Rattle.dw_cfa.proofs.{Words.{sym, ◌∙◌, FirstRowIsBegin, OneHolds, OneCount, rule}, Lent.FaultPlaces.run_within, Lent.Given.{one_run, refused_where_fault, given_where_kept, given_falls, given_holds}}
+use Rattle.dw_cfa.proofs.{Words.{sym, ◌∙◌, FirstRowIsBegin, OneHolds, OneCount, rule}, Lent.FaultPlaces.{cie_within, fde_within, run_within}}
+use Rattle.dw_cfa.proofs.Lent.Given.{behind_where_fault, given_falls, given_holds, given_where_kept, gives_where_kept, leaves_where_kept, one_behind, one_initial, one_run, refused_where_fault, rules_behind}
 use Rattle.dw_cfa.proofs.{Lent.InstrCounts.{counts_exists, one_count}, Lent.Openings.{first_cfa, first_rule}, Lent.SameRows.same_rows, Match.{restores_matched, match_exists}}
 use Rattle.dw_cfa.proofs.laws.row_laws.Goals as goal
 
@@ -26,4 +27,12 @@ returns c = record {
   within = run_within;
   matched = restores_matched;
   found = match_exists;
+  initial = one_initial;
+  initial_kept = leaves_where_kept;
+  initial_within = cie_within;
+  behind = one_behind;
+  behind_kept = gives_where_kept;
+  behind_rules = λ f initial fde begin fb listed le o. rules_behind f initial fde begin o fb listed le;
+  behind_refused = behind_where_fault;
+  behind_within = fde_within;
 }
