@@ -1,13 +1,13 @@
 -- What the table reads of an opcode is what the code reads.
-use Rattle.dw_cfa.proofs.Words.{◌≡◌, ℕ, ◌^◌, Bool, true, false, Option, Some, Ok, Err, refl, sym, ap, ◌∙◌, ℤ, pos, ◌*ℤ◌, unsigned_abs, nat_lt, Factors, Input, Instr, Opcode, Read, fixed_at, register_at, uleb_at, sleb_at, ◌>>=◌, DefCfa}
-use Rattle.dw_cfa.proofs.Words.{DefCfaOffset, opcode_of, form_of, offset_of, leaving, block_at, with_instr, form_at, judged, known_at, instr_at}
 use Rattle.std.proofs.Common.{get_or}
 use Rattle.dw_num.proofs.Lent.FixedLaws.{byte_found}
 use Rattle.dw_cfa.specs.declared.instr.Instr.TheVariants.{Nop}
+use Rattle.dw_cfa.proofs.Words.{◌≡◌, ℕ, ◌^◌, Bool, true, false, Option, Some, Ok, Err, refl, sym, ap, ◌∙◌, ℤ, pos, ◌*ℤ◌, unsigned_abs, nat_lt, Factors, Input, Instr, Opcode, Read, RegRule, fixed_at, register_at, uleb_at, sleb_at, ◌>>=◌, DefCfa}
+use Rattle.dw_cfa.proofs.Words.{DefCfaOffset, Set, opcode_of, form_of, offset_of, leaving, block_at, with_instr, form_at, judged, known_at, instr_at}
 use Rattle.dw_cfa.specs.Inner.ByOpcode.{offset_in, plain_in, plain_at, factored_in, factored_at, signed_in, signed_at, set_loc_at, advance_at, def_cfa_register_at, def_cfa_offset_at, def_cfa_offset_sf_at, def_cfa_expression_at, then_plain}
-use Rattle.dw_cfa.specs.Inner.ByOpcode.{def_cfa_at, then_signed, def_cfa_sf_at, restore_at, undefined_at, same_value_at, set_offset, set_val_offset, set_register, set_expression, offset_at, then_offset}
-use Rattle.dw_cfa.specs.Inner.ByOpcode.{offset_extended_at, offset_extended_sf_at, then_factored, val_offset_at, val_offset_sf_at, then_register, register_rule_at, then_block, expression_at, operands_at}
+use Rattle.dw_cfa.specs.Inner.ByOpcode.{def_cfa_at, then_signed, def_cfa_sf_at, restore_at, set_offset, offset_at, with_rule, rule_at, then_rule, set_at, operands_at}
 use Rattle.dw_cfa.specs.declared.opcode.Opcode.TheVariants as opcodes
+use Rattle.dw_cfa.specs.declared.rule.RegRule.TheVariants as rules
 
 module _ (at : ℕ) where
   -- an instruction without an offset is not judged
@@ -31,25 +31,43 @@ module _ (at : ℕ) where
   behind (Err r) table code is = refl
   behind (Ok x) table code is = is x
 
+-- a rule that is read behind a register, and one with an offset
+module _ (f : Factors) (at : ℕ) (opcode : Opcode) (i : Input) where
+  abbrev Reads : {X : Type 0} → (Input → Read X) → (X → RegRule) → Type 0
+  Reads read make = (j : Input) → rule_at f at opcode j ≡ read j >>= with_rule make
+
+  ruled : {X : Type 0} (read : Read X) (make : X → RegRule) (r : ℕ) → (read >>= with_rule make) >>= with_instr (Set r) ≡ read >>= with_instr (λ x. Set r (make x))
+  ruled (Err e) make r = refl
+  ruled (Ok x) make r = refl
+
+  sets : {X : Type 0} (read : Input → Read X) (make : X → RegRule) → Reads read make → ((r : ℕ) (x : X) → offset_of (Set r (make x)) ≡ pos 0)
+      → (register_at i >>= (λ r. read r.1 >>= with_instr (λ x. Set r.0 (make x)))) >>= judged at ≡ register_at i >>= then_rule f at opcode
+  sets read make is none = behind at (register_at i) _ (then_rule f at opcode) (λ r. unjudged at (read r.1) (λ x. Set r.0 (make x)) (none r.0) ∙ sym (ap (λ (x : Read RegRule). x >>= with_instr (Set r.0)) (is r.1) ∙ ruled (read r.1) make r.0))
+
+  sets_offset : {X : Type 0} (read : Input → Read X) (value : X → ℤ) (within : X × Input → Read ℤ) (make : ℤ → RegRule) → Reads (λ j. read j >>= within) make
+      → ((x : X × Input) → within x ≡ leaving x.1 (offset_in at (value x.0))) → ((r : ℕ) (z : ℤ) → offset_of (Set r (make z)) ≡ z)
+      → (register_at i >>= (λ r. read r.1 >>= with_instr (λ x. Set r.0 (make (value x))))) >>= judged at ≡ register_at i >>= then_rule f at opcode
+  sets_offset read value within make is so has =
+      behind at (register_at i) _ (then_rule f at opcode)
+      (λ r. with_offset at (read r.1) value (λ z. Set r.0 (make z)) within so (has r.0) ∙ sym (ap (λ (x : Read RegRule). x >>= with_instr (Set r.0)) (is r.1) ∙ ruled (read r.1 >>= within) make r.0))
+
 pub form_is : (f : Factors) (at : ℕ) (opcode : Opcode) (i : Input) → form_at (form_of f opcode) i >>= judged at ≡ operands_at f at opcode i
-unfolding operands_at set_loc_at advance_at def_cfa_register_at def_cfa_offset_at def_cfa_offset_sf_at def_cfa_expression_at def_cfa_at def_cfa_sf_at restore_at undefined_at same_value_at offset_at offset_extended_at offset_extended_sf_at val_offset_at val_offset_sf_at register_rule_at expression_at plain_at factored_at signed_at
+unfolding operands_at set_loc_at advance_at def_cfa_register_at def_cfa_offset_at def_cfa_offset_sf_at def_cfa_expression_at def_cfa_at def_cfa_sf_at restore_at offset_at rule_at set_at plain_at factored_at signed_at
 form_is f at (opcodes.Offset r) i = with_offset at (uleb_at i) (λ n. pos n *ℤ f.data_factor) (set_offset r) (factored_in f at) (λ x. refl) (λ z. refl)
-form_is f at opcodes.OffsetExtended i =
-    behind at (register_at i) _ (then_offset f at) (λ r. with_offset at (uleb_at r.1) (λ n. pos n *ℤ f.data_factor) (set_offset r.0) (factored_in f at) (λ x. refl) (λ z. refl))
-form_is f at opcodes.OffsetExtendedSf i =
-    behind at (register_at i) _ (then_signed set_offset f at) (λ r. with_offset at (sleb_at r.1) (λ z. z *ℤ f.data_factor) (set_offset r.0) (signed_in f at) (λ x. refl) (λ z. refl))
-form_is f at opcodes.Register i = behind at (register_at i) _ then_register (λ r. unjudged at (register_at r.1) (set_register r.0) (λ x. refl))
+form_is f at opcodes.OffsetExtended i = sets_offset f at opcodes.OffsetExtended i uleb_at (λ n. pos n *ℤ f.data_factor) (factored_in f at) rules.Offset (λ j. refl) (λ x. refl) (λ r z. refl)
+form_is f at opcodes.OffsetExtendedSf i = sets_offset f at opcodes.OffsetExtendedSf i sleb_at (λ z. z *ℤ f.data_factor) (signed_in f at) rules.Offset (λ j. refl) (λ x. refl) (λ r z. refl)
+form_is f at opcodes.ValOffset i = sets_offset f at opcodes.ValOffset i uleb_at (λ n. pos n *ℤ f.data_factor) (factored_in f at) rules.ValOffset (λ j. refl) (λ x. refl) (λ r z. refl)
+form_is f at opcodes.ValOffsetSf i = sets_offset f at opcodes.ValOffsetSf i sleb_at (λ z. z *ℤ f.data_factor) (signed_in f at) rules.ValOffset (λ j. refl) (λ x. refl) (λ r z. refl)
+form_is f at opcodes.Register i = sets f at opcodes.Register i register_at rules.Register (λ j. refl) (λ r x. refl)
+form_is f at opcodes.Expression i = sets f at opcodes.Expression i block_at rules.Expression (λ j. refl) (λ r x. refl)
+form_is f at opcodes.ValExpression i = sets f at opcodes.ValExpression i block_at rules.ValExpression (λ j. refl) (λ r x. refl)
+form_is f at opcodes.Undefined i = behind at (register_at i) _ (then_rule f at opcodes.Undefined) (λ r. refl)
+form_is f at opcodes.SameValue i = behind at (register_at i) _ (then_rule f at opcodes.SameValue) (λ r. refl)
 form_is f at opcodes.DefCfa i = behind at (register_at i) _ (then_plain at) (λ r. with_offset at (uleb_at r.1) (λ n. pos n) (DefCfa r.0) (plain_in at) (λ x. refl) (λ z. refl))
 form_is f at opcodes.DefCfaSf i =
     behind at (register_at i) _ (then_signed DefCfa f at) (λ r. with_offset at (sleb_at r.1) (λ z. z *ℤ f.data_factor) (DefCfa r.0) (signed_in f at) (λ x. refl) (λ z. refl))
 form_is f at opcodes.DefCfaOffset i = with_offset at (uleb_at i) (λ n. pos n) DefCfaOffset (plain_in at) (λ x. refl) (λ z. refl)
 form_is f at opcodes.DefCfaOffsetSf i = with_offset at (sleb_at i) (λ z. z *ℤ f.data_factor) DefCfaOffset (signed_in f at) (λ x. refl) (λ z. refl)
-form_is f at opcodes.Expression i = behind at (register_at i) _ (then_block (set_expression false)) (λ r. unjudged at (block_at r.1) (set_expression false r.0) (λ x. refl))
-form_is f at opcodes.ValOffset i =
-    behind at (register_at i) _ (then_factored set_val_offset f at) (λ r. with_offset at (uleb_at r.1) (λ n. pos n *ℤ f.data_factor) (set_val_offset r.0) (factored_in f at) (λ x. refl) (λ z. refl))
-form_is f at opcodes.ValOffsetSf i =
-    behind at (register_at i) _ (then_signed set_val_offset f at) (λ r. with_offset at (sleb_at r.1) (λ z. z *ℤ f.data_factor) (set_val_offset r.0) (signed_in f at) (λ x. refl) (λ z. refl))
-form_is f at opcodes.ValExpression i = behind at (register_at i) _ (then_block (set_expression true)) (λ r. unjudged at (block_at r.1) (set_expression true r.0) (λ x. refl))
 form_is f at opcodes.Nop i = refl
 form_is f at (opcodes.AdvanceLoc delta) i = refl
 form_is f at (opcodes.Restore r) i = refl

@@ -2,7 +2,7 @@
 
 ghost use Rattle.std.specs.Prelude.{◌≤◌};
 ghost use Rattle.dw_num.specs.{Fixed.IsWidth, Target.address_limit};
-ghost use Rattle.dw_cfa.specs.{Operands.advanced, Inner.ByOpcode.{advance_at, set_loc_at}, Inner.Turns.{IsWithinLimit, Taken}};
+ghost use Rattle.dw_cfa.specs.Inner.{ByOpcode.{advance_at, set_loc_at}, Turns.{IsWithinLimit, Taken}};
 
 use crate::instr::Factors;
 use crate::keep::Keep;
@@ -10,22 +10,7 @@ use crate::machine::{End, refused};
 use crate::opcode::distance;
 use dw_num::{Cursor, Refusal};
 
-/// Moves the location on by a delta that is still to be factored.
-#[inline(always)]
-pub(crate) fn run_advance<'a, K: Keep<'a>>(
-    factors: Factors,
-    keep: &mut K,
-    at: u64,
-    delta: u64,
-    fault: &mut Refusal,
-) -> End
-    requires { IsWithinLimit (K.machine keep.old) }
-    ensures { K.takes keep.old (advanced factors delta) at result fault.new keep.new }
-{
-    keep.advance(distance(delta, factors), at, fault)
-}
-
-/// The same by a delta of so many bytes.
+/// Moves the location on by a delta of so many bytes, which is still to be factored.
 #[tactic(auto, unfolding(crate::specs::Inner::ByOpcode::advance_at))]
 #[inline(always)]
 pub(crate) fn run_fixed_advance<'a, K: Keep<'a>>(
@@ -44,7 +29,7 @@ pub(crate) fn run_fixed_advance<'a, K: Keep<'a>>(
         Ok(delta) => delta,
         Err(refusal) => return refused(refusal, fault),
     };
-    run_advance(factors, keep, at, delta, fault)
+    keep.advance(distance(delta, factors), at, fault)
 }
 
 /// The same out of line, for advances that are rare, so that the loop that runs a program stays small.

@@ -1,12 +1,12 @@
 //! Instructions that say how a register of the caller is found (6.4.2.3).
 
-ghost use Rattle.dw_cfa.specs.Inner.ByOpcode.{undefined_at, same_value_at, offset_at, offset_extended_at, offset_extended_sf_at, val_offset_at};
-ghost use Rattle.dw_cfa.specs.Inner.{ByOpcode.{val_offset_sf_at, register_rule_at, expression_at, restore_at}, Turns.{IsWithinLimit, Taken}};
+ghost use Rattle.dw_num.specs.Inner.Front.{Gives};
+ghost use Rattle.dw_cfa.specs.Inner.{ByOpcode.{offset_at, restore_at, rule_at, set_at}, Turns.{IsWithinLimit, Taken}};
 
 use crate::instr::Factors;
 use crate::keep::Keep;
 use crate::machine::{End, refused};
-use crate::opcode::{block, factored, signed};
+use crate::opcode::{Opcode, block, factored, signed};
 use crate::rule::RegRule;
 use dw_num::{Cursor, Refusal};
 
@@ -27,44 +27,6 @@ pub(crate) fn run_restore_extended<'a, K: Keep<'a>>(
         Err(refusal) => return refused(refusal, fault),
     };
     keep.restore(register, at, fault)
-}
-
-/// A register has no value in the caller.
-#[tactic(auto, unfolding(crate::specs::Inner::ByOpcode::undefined_at))]
-#[inline(never)]
-pub(crate) fn run_undefined<'a, K: Keep<'a>>(
-    cursor: &mut Cursor<'a>,
-    keep: &mut K,
-    at: u64,
-    fault: &mut Refusal,
-) -> End
-    requires { IsWithinLimit (K.machine keep.old) }
-    ensures { Taken K.takes (undefined_at cursor.old) at keep.old result fault.new cursor.new keep.new }
-{
-    let register = match cursor.register() {
-        Ok(register) => register,
-        Err(refusal) => return refused(refusal, fault),
-    };
-    keep.set(register, RegRule::Undefined, at, fault)
-}
-
-/// A register has the value that it has here.
-#[tactic(auto, unfolding(crate::specs::Inner::ByOpcode::same_value_at))]
-#[inline(never)]
-pub(crate) fn run_same_value<'a, K: Keep<'a>>(
-    cursor: &mut Cursor<'a>,
-    keep: &mut K,
-    at: u64,
-    fault: &mut Refusal,
-) -> End
-    requires { IsWithinLimit (K.machine keep.old) }
-    ensures { Taken K.takes (same_value_at cursor.old) at keep.old result fault.new cursor.new keep.new }
-{
-    let register = match cursor.register() {
-        Ok(register) => register,
-        Err(refusal) => return refused(refusal, fault),
-    };
-    keep.set(register, RegRule::SameValue, at, fault)
 }
 
 /// A register is saved at the CFA plus an offset, which is factored.
@@ -88,10 +50,34 @@ pub(crate) fn run_offset<'a, K: Keep<'a>>(
     keep.set(register, RegRule::Offset(offset), at, fault)
 }
 
-/// The same for any register.
-#[tactic(auto, unfolding(crate::specs::Inner::ByOpcode::offset_extended_at))]
+// The rule that an instruction gives the register that was read: its operands behind that.
+#[tactic(auto, unfolding(crate::specs::Inner::ByOpcode::rule_at))]
+fn rule_behind<'a>(
+    opcode: Opcode,
+    cursor: &mut Cursor<'a>,
+    factors: Factors,
+    at: u64,
+) -> Result<RegRule<'a>, Refusal>
+    ensures { Gives (λ rule. rule) result (rule_at factors at opcode cursor.old) cursor.new }
+{
+    match opcode {
+        Opcode::Undefined => Ok(RegRule::Undefined),
+        Opcode::SameValue => Ok(RegRule::SameValue),
+        Opcode::OffsetExtended => Ok(RegRule::Offset(factored(cursor, factors, at)?)),
+        Opcode::OffsetExtendedSf => Ok(RegRule::Offset(signed(cursor, factors, at)?)),
+        Opcode::ValOffset => Ok(RegRule::ValOffset(factored(cursor, factors, at)?)),
+        Opcode::ValOffsetSf => Ok(RegRule::ValOffset(signed(cursor, factors, at)?)),
+        Opcode::Register => Ok(RegRule::Register(cursor.register()?)),
+        Opcode::Expression => Ok(RegRule::Expression(block(cursor)?)),
+        _ => Ok(RegRule::ValExpression(block(cursor)?)),
+    }
+}
+
+/// Gives a register the rule that the operands behind it tell.
+#[tactic(auto, unfolding(crate::specs::Inner::ByOpcode::set_at))]
 #[inline(never)]
-pub(crate) fn run_offset_extended<'a, K: Keep<'a>>(
+pub(crate) fn set<'a, K: Keep<'a>>(
+    opcode: Opcode,
     cursor: &mut Cursor<'a>,
     factors: Factors,
     keep: &mut K,
@@ -99,135 +85,14 @@ pub(crate) fn run_offset_extended<'a, K: Keep<'a>>(
     fault: &mut Refusal,
 ) -> End
     requires { IsWithinLimit (K.machine keep.old) }
-    ensures { Taken K.takes (offset_extended_at factors at cursor.old) at keep.old result fault.new cursor.new keep.new }
+    ensures { Taken K.takes (set_at factors at opcode cursor.old) at keep.old result fault.new cursor.new keep.new }
 {
     let register = match cursor.register() {
         Ok(register) => register,
         Err(refusal) => return refused(refusal, fault),
     };
-    run_offset(cursor, factors, keep, at, register, fault)
-}
-
-/// The same with an offset that is signed.
-#[tactic(auto, unfolding(crate::specs::Inner::ByOpcode::offset_extended_sf_at))]
-#[inline(never)]
-pub(crate) fn run_offset_extended_sf<'a, K: Keep<'a>>(
-    cursor: &mut Cursor<'a>,
-    factors: Factors,
-    keep: &mut K,
-    at: u64,
-    fault: &mut Refusal,
-) -> End
-    requires { IsWithinLimit (K.machine keep.old) }
-    ensures { Taken K.takes (offset_extended_sf_at factors at cursor.old) at keep.old result fault.new cursor.new keep.new }
-{
-    let register = match cursor.register() {
-        Ok(register) => register,
-        Err(refusal) => return refused(refusal, fault),
-    };
-    let offset = match signed(cursor, factors, at) {
-        Ok(offset) => offset,
-        Err(refusal) => return refused(refusal, fault),
-    };
-    keep.set(register, RegRule::Offset(offset), at, fault)
-}
-
-/// A register is the CFA plus an offset, which is factored.
-#[tactic(auto, unfolding(crate::specs::Inner::ByOpcode::val_offset_at))]
-#[inline(never)]
-pub(crate) fn run_val_offset<'a, K: Keep<'a>>(
-    cursor: &mut Cursor<'a>,
-    factors: Factors,
-    keep: &mut K,
-    at: u64,
-    fault: &mut Refusal,
-) -> End
-    requires { IsWithinLimit (K.machine keep.old) }
-    ensures { Taken K.takes (val_offset_at factors at cursor.old) at keep.old result fault.new cursor.new keep.new }
-{
-    let register = match cursor.register() {
-        Ok(register) => register,
-        Err(refusal) => return refused(refusal, fault),
-    };
-    let offset = match factored(cursor, factors, at) {
-        Ok(offset) => offset,
-        Err(refusal) => return refused(refusal, fault),
-    };
-    keep.set(register, RegRule::ValOffset(offset), at, fault)
-}
-
-/// The same with an offset that is signed.
-#[tactic(auto, unfolding(crate::specs::Inner::ByOpcode::val_offset_sf_at))]
-#[inline(never)]
-pub(crate) fn run_val_offset_sf<'a, K: Keep<'a>>(
-    cursor: &mut Cursor<'a>,
-    factors: Factors,
-    keep: &mut K,
-    at: u64,
-    fault: &mut Refusal,
-) -> End
-    requires { IsWithinLimit (K.machine keep.old) }
-    ensures { Taken K.takes (val_offset_sf_at factors at cursor.old) at keep.old result fault.new cursor.new keep.new }
-{
-    let register = match cursor.register() {
-        Ok(register) => register,
-        Err(refusal) => return refused(refusal, fault),
-    };
-    let offset = match signed(cursor, factors, at) {
-        Ok(offset) => offset,
-        Err(refusal) => return refused(refusal, fault),
-    };
-    keep.set(register, RegRule::ValOffset(offset), at, fault)
-}
-
-/// A register is in another one.
-#[tactic(auto, unfolding(crate::specs::Inner::ByOpcode::register_rule_at))]
-#[inline(never)]
-pub(crate) fn run_register<'a, K: Keep<'a>>(
-    cursor: &mut Cursor<'a>,
-    keep: &mut K,
-    at: u64,
-    fault: &mut Refusal,
-) -> End
-    requires { IsWithinLimit (K.machine keep.old) }
-    ensures { Taken K.takes (register_rule_at cursor.old) at keep.old result fault.new cursor.new keep.new }
-{
-    let register = match cursor.register() {
-        Ok(register) => register,
-        Err(refusal) => return refused(refusal, fault),
-    };
-    let other = match cursor.register() {
-        Ok(other) => other,
-        Err(refusal) => return refused(refusal, fault),
-    };
-    keep.set(register, RegRule::Register(other), at, fault)
-}
-
-/// A register is saved where an expression says, or is what that gives.
-#[tactic(auto, unfolding(crate::specs::Inner::ByOpcode::expression_at))]
-#[inline(never)]
-pub(crate) fn run_expression<'a, K: Keep<'a>>(
-    cursor: &mut Cursor<'a>,
-    is_value: bool,
-    keep: &mut K,
-    at: u64,
-    fault: &mut Refusal,
-) -> End
-    requires { IsWithinLimit (K.machine keep.old) }
-    ensures { Taken K.takes (expression_at is_value cursor.old) at keep.old result fault.new cursor.new keep.new }
-{
-    let register = match cursor.register() {
-        Ok(register) => register,
-        Err(refusal) => return refused(refusal, fault),
-    };
-    let expression = match block(cursor) {
-        Ok(expression) => expression,
-        Err(refusal) => return refused(refusal, fault),
-    };
-    let rule = if is_value {
-        RegRule::ValExpression(expression)
-    } else {
-        RegRule::Expression(expression)
-    };
-    keep.set(register, rule, at, fault)
+    match rule_behind(opcode, cursor, factors, at) {
+        Ok(rule) => keep.set(register, rule, at, fault),
+        Err(refusal) => refused(refusal, fault),
+    }
 }

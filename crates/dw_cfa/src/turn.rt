@@ -5,7 +5,7 @@ ghost use Rattle.std.specs.Prelude.{◌<◌, ◌≤◌, length, false};
 ghost use Rattle.dw_num.specs.Target.{address_limit};
 ghost use Rattle.dw_cfa.specs.Inner.{ByOpcode.operands_at, FrontInstr.instr_at, Runs.RunsSo, Turns.{Does, IsWithinLimit, Stays, Taken, Turned}};
 
-use crate::advance::{run_advance, run_fixed_advance, run_long_advance, run_set_loc};
+use crate::advance::{run_fixed_advance, run_long_advance, run_set_loc};
 use crate::cfa::{
     run_def_cfa, run_def_cfa_expression, run_def_cfa_offset, run_def_cfa_offset_sf,
     run_def_cfa_register, run_def_cfa_sf,
@@ -13,11 +13,8 @@ use crate::cfa::{
 use crate::instr::Factors;
 use crate::keep::Keep;
 use crate::machine::{End, refuse, refused};
-use crate::opcode::{Opcode, known_opcode};
-use crate::registers::{
-    run_expression, run_offset, run_offset_extended, run_offset_extended_sf, run_register,
-    run_restore_extended, run_same_value, run_undefined, run_val_offset, run_val_offset_sf,
-};
+use crate::opcode::{Opcode, distance, known_opcode};
+use crate::registers::{run_offset, run_restore_extended, set};
 use dw_num::{Code, Cursor, Refusal, are_bytes};
 
 // Reads the operands behind an opcode, and applies the instruction to the machine.
@@ -38,7 +35,9 @@ fn apply<'a, K: Keep<'a>>(
     match opcode {
         Opcode::Nop => keep.nop(at, fault),
         Opcode::SetLoc => run_set_loc(cursor, keep, at, fault),
-        Opcode::AdvanceLoc(delta) => run_advance(factors, keep, at, u64::from(delta), fault),
+        Opcode::AdvanceLoc(delta) => {
+            keep.advance(distance(u64::from(delta), factors), at, fault)
+        }
         Opcode::AdvanceLoc1 => run_fixed_advance(cursor, factors, keep, at, 1, fault),
         Opcode::AdvanceLoc2 => run_fixed_advance(cursor, factors, keep, at, 2, fault),
         Opcode::AdvanceLoc4 => run_long_advance(cursor, factors, keep, at, 4, fault),
@@ -48,20 +47,20 @@ fn apply<'a, K: Keep<'a>>(
         Opcode::DefCfaOffset => run_def_cfa_offset(cursor, keep, at, fault),
         Opcode::DefCfaOffsetSf => run_def_cfa_offset_sf(cursor, factors, keep, at, fault),
         Opcode::DefCfaExpression => run_def_cfa_expression(cursor, keep, at, fault),
-        Opcode::Undefined => run_undefined(cursor, keep, at, fault),
-        Opcode::SameValue => run_same_value(cursor, keep, at, fault),
         Opcode::Offset(register) => run_offset(cursor, factors, keep, at, register, fault),
-        Opcode::OffsetExtended => run_offset_extended(cursor, factors, keep, at, fault),
-        Opcode::OffsetExtendedSf => run_offset_extended_sf(cursor, factors, keep, at, fault),
-        Opcode::ValOffset => run_val_offset(cursor, factors, keep, at, fault),
-        Opcode::ValOffsetSf => run_val_offset_sf(cursor, factors, keep, at, fault),
-        Opcode::Register => run_register(cursor, keep, at, fault),
-        Opcode::Expression => run_expression(cursor, false, keep, at, fault),
-        Opcode::ValExpression => run_expression(cursor, true, keep, at, fault),
         Opcode::Restore(register) => keep.restore(register, at, fault),
         Opcode::RestoreExtended => run_restore_extended(cursor, keep, at, fault),
         Opcode::RememberState => keep.remember(at, fault),
         Opcode::RestoreState => keep.recall(at, fault),
+        Opcode::Undefined => set(Opcode::Undefined, cursor, factors, keep, at, fault),
+        Opcode::SameValue => set(Opcode::SameValue, cursor, factors, keep, at, fault),
+        Opcode::OffsetExtended => set(Opcode::OffsetExtended, cursor, factors, keep, at, fault),
+        Opcode::OffsetExtendedSf => set(Opcode::OffsetExtendedSf, cursor, factors, keep, at, fault),
+        Opcode::ValOffset => set(Opcode::ValOffset, cursor, factors, keep, at, fault),
+        Opcode::ValOffsetSf => set(Opcode::ValOffsetSf, cursor, factors, keep, at, fault),
+        Opcode::Register => set(Opcode::Register, cursor, factors, keep, at, fault),
+        Opcode::Expression => set(Opcode::Expression, cursor, factors, keep, at, fault),
+        Opcode::ValExpression => set(Opcode::ValExpression, cursor, factors, keep, at, fault),
     }
 }
 
