@@ -1,47 +1,25 @@
--- The registers that were set since a row was kept: those without a mark have the same rules in both rows.
-use Rattle.dw_cfa.proofs.Words.{◌≡◌, ◌↔◌, ℕ, suc, ◌+◌, ◌<◌, ◌≤◌, Bool, List, [], ◌∷◌, refl, sym, ap, ◌∙◌, subst, arith, inl, inr, ◌*◌, ◌%◌, ◌^◌, bit_or, IsTrue, Result, Ok, Err, OnOk, OnErr, bit_at, filter, nat_tests, cases_lt, IsAdded}
-use Rattle.dw_cfa.proofs.Words.{false, Marks, RegRule, Rules, Unspecified, SameValue, AreSpecified, rule_in, put, with_rule, DiffersFirst, SameBetween, SameUnset, CopiedUpTo, MarksMore, MarksSo, KeptSo, SameUnlisted, SameUnmarked, Unmarked}
-use Rattle.dw_cfa.proofs.{Difference.FromOn, Lent.Narrowed.{filter_keeps, filter_rule}, Lent.RowLists.{Entry, lower, other_rule, put_rule, same_rule_set, unlisted}, Lent.SameRows.one_row, Slots.{bit_set_other, bit_set_same, neither}}
+-- A row that was kept, and the registers that were set since: all others have the same rules in both rows.
+use Rattle.dw_cfa.proofs.Words.{◌≡◌, ◌↔◌, ◌||◌, ℕ, suc, ◌+◌, ◌<◌, ◌≤◌, Bool, List, [], ◌∷◌, refl, sym, ap, ◌∙◌, subst, arith, inl, inr, ◌*◌, ◌%◌, ◌^◌, bit_or, nat_eq, IsTrue, Result, OnOk, filter, nat_tests, cases_lt}
+use Rattle.dw_cfa.proofs.Words.{false, on_ok_weaker, KeptSo, Registers, has, RegRule, Rules, SameValue, AreSpecified, rule_in, put, DiffersFirst, SameBetween, CopiedUpTo, SameUnlisted}
+use Rattle.dw_cfa.specs.declared.kept_row.KeptRow.{KeptRow}
+use Rattle.dw_cfa.proofs.{Difference.FromOn, Lent.Narrowed.{filter_keeps, filter_rule}, Lent.RowLists.{Entry, lower, put_rule, unlisted}, Lent.SameRows.one_row, Slots.{bit_set_other, bit_set_same}}
 
--- ---- marks
+-- ---- a register that is put into a set
 
-pub near_marked : (near near' b r : ℕ) → r < 128 → b ≡ 1 * 2 ^ r % 2 ^ 128 → near' ≡ bit_or near b → bit_at near' r ≡ 0 → ⊥
-near_marked near near' b r lt bit is none = absurd (omega (arith, none, ap (λ (m : ℕ). bit_at m r) is, bit_set_same near r b lt bit))
-
-pub near_more : (near near' b q : ℕ) → near' ≡ bit_or near b → bit_at near' q ≡ 0 → bit_at near q ≡ 0
-near_more near near' b q is none = (neither near b q (sym (ap (λ (m : ℕ). bit_at m q) is) ∙ none)).0
-
-not_marked : SameValue ≡ Unspecified → ⊥
-not_marked e = absurd cc
-
-pub far_marked : (r : ℕ) (far far' : List Entry) → AreSpecified 128 far → far' ≡ put r SameValue far → rule_in far' r ≡ Unspecified → ⊥
-far_marked r far far' up e none = not_marked (sym (same_rule_set r r SameValue far (lower 128 0 far (omega arith) up) refl) ∙ sym (ap (λ (l : List Entry). rule_in l r) e) ∙ none)
-
-pub far_more : (r q : ℕ) (far far' : List Entry) → AreSpecified 128 far → far' ≡ put r SameValue far → rule_in far' q ≡ Unspecified → rule_in far q ≡ Unspecified
-far_more r q far far' up e none = grind (arith, nat_tests, put_rule r SameValue 128 far q up, ap (λ (l : List Entry). rule_in l q) e, not_marked)
-
-pub near_added : (near near' b r : ℕ) (far : List Entry) → r < 128 → b ≡ 1 * 2 ^ r % 2 ^ 128 → near' ≡ bit_or near b → IsAdded r (record { near = near; far = far }) (record { near = near'; far = far })
+pub near_added : (near near' b r : ℕ) (far : List Entry) → r < 128 → b ≡ 1 * 2 ^ r % 2 ^ 128 → near' ≡ bit_or near b → (q : ℕ) → has (record { near = near'; far = far }) q ≡ (nat_eq q r || has (record { near = near; far = far }) q)
 near_added near near' b r far lt bit is q = rw is (grind (arith, nat_tests, bit_set_same near r b lt bit, bit_set_other near r b lt bit q))
 
-pub far_added : (near r : ℕ) (far far' : List Entry) → 128 ≤ r → AreSpecified 128 far → far' ≡ put r SameValue far → IsAdded r (record { near = near; far = far }) (record { near = near; far = far' })
+pub far_added : (near r : ℕ) (far far' : List Entry) → 128 ≤ r → AreSpecified 128 far → far' ≡ put r SameValue far → (q : ℕ) → has (record { near = near; far = far' }) q ≡ (nat_eq q r || has (record { near = near; far = far }) q)
 far_added near r far far' le up e q = grind (arith, nat_tests, put_rule r SameValue 128 far q up, ap (λ (l : List Entry). rule_in l q) e)
 
--- ---- a register that is set
+-- a register that is marked may be set
+pub marked_so : {X E : Type 0} (result : Result X E) (k : KeptRow) (new : Registers) (r : ℕ) → OnOk result ((q : ℕ) → has new q ≡ (nat_eq q r || has k.changed q))
+    → OnOk result ((current : List Entry) (rule : RegRule) → AreSpecified 0 current → KeptSo k current → KeptSo (record { row = k.row; changed = new; watched = k.watched }) (put r rule current))
+marked_so result k new r = on_ok_weaker result (λ added current rule up same on q none. grind (arith, nat_tests, added q, none, same on q, put_rule r rule 0 current q up))
 
-pub more_so : (old new : Marks) (kept xs : List Entry) → KeptSo old kept xs → MarksSo new → MarksMore old new → KeptSo new kept xs
-more_so old new kept xs h so more = record { marks = so; same = λ q none. h.same q (more q none) }
-
--- where none is watched, any may have been set
-pub unwatched : (m : Marks) (kept xs : List Entry) → MarksSo m → m.watched ≡ false → KeptSo m kept xs
-unwatched m kept xs so off = record { marks = so; same = λ q none. let on = none.watched in absurd cc }
-
-pub set_so : {X E : Type 0} (result : Result X E) (old new : Marks) (kept : List Entry) (row row' : Rules) (r : ℕ) (rule : RegRule) → KeptSo old kept row.registers → AreSpecified 0 row.registers
-    → MarksSo new → MarksMore old new → (Unmarked new r → ⊥) → OnOk result (row' ≡ with_rule r rule row) → OnErr result (row' ≡ row) → KeptSo new kept row'.registers
-set_so (Ok x) old new kept row row' r rule h up so more marked is err = record {
-  marks = so;
-  same = λ q none. rw is (h.same q (more q none) ∙ sym (other_rule r q rule row.registers up (λ e. marked (subst (Unmarked new) e none))));
-}
-set_so (Err x) old new kept row row' r rule h up so more marked ok is = rw is (more_so old new kept row.registers h so more)
+-- where it is not watched, any may have been set
+pub unwatched : (k : KeptRow) (current : List Entry) → k.watched ≡ false → KeptSo k current
+unwatched k current off on = absurd cc
 
 -- ---- both rows
 
@@ -65,10 +43,6 @@ module _ (xs old new : List Entry) (k : ℕ) (h : CopiedUpTo k xs old new) where
 
 pub far_copied : (xs new left rest : List Entry) (q : ℕ) (rule : RegRule) → left ≡ (q, rule) ∷ rest → AreSpecified 0 new → SameUnlisted 0 left new xs → SameUnlisted 0 rest (put q (rule_in xs q) new) xs
 far_copied xs new left rest q rule e up same r le none = grind (arith, nat_tests, put_rule q (rule_in xs q) 0 new r up, ap (λ (l : List Entry). rule_in l r) e, same r le)
-
-module _ (m : Marks) (on : IsTrue m.watched) (kept row : List Entry) (same : SameUnmarked m kept row) where
-  pub unset : SameUnset m.near kept row
-  unset r lt none = same r (record { watched = on; near = λ l. none; far = λ le. absurd (omega arith) })
 
 -- ---- marked registers one after another
 

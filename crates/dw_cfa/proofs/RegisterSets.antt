@@ -1,16 +1,19 @@
 -- Sets of registers: one register more, all of another set, and what two rows have in common among them.
 use Rattle.dw_cfa.proofs.Words.{◌≡◌, ◌⊎◌, ℕ, suc, ◌<◌, ◌||◌, Bool, true, false, List, ◌∷◌, Result, Ok, Err, OnErr, OnOk, refl, sym, ap, ◌∙◌, subst, arith, inl, inr, if◌then◌else◌, bit_or, bit_at_or, nat_tests, cases_Bool, IsTrue, ◌↔◌}
-use Rattle.dw_cfa.proofs.Words.{CfaRule, RegRule, Rules, Unset, Unspecified, AreSpecified, rule, rule_in, with_cfa, with_rule, InCommon, IsAgreed, is_agreed, same_rule, rule_tells, left, LeavesAmong, LeavesAt, IsAdded, Marks, MarksMore}
-use Rattle.dw_cfa.proofs.Words.{MarksSo, Unmarked, Registers, is_specified, AgreesBeside, has, in_mask, in_tree, marked, bit_at-lt, on_err_weaker, on_ok_weaker}
+use Rattle.dw_cfa.proofs.Words.{CfaRule, RegRule, Rules, Unset, Unspecified, AreSpecified, rule, rule_in, with_cfa, with_rule, InCommon, IsAgreed, is_agreed, same_rule, rule_tells, left, LeavesAmong, LeavesAt}
+use Rattle.dw_cfa.proofs.Words.{[], nat_eq, bit_at-zero, Registers, AgreesBeside, has, in_mask, in_tree, bit_at-lt, on_err_weaker, on_ok_weaker}
 use Rattle.dw_cfa.proofs.Lent.{RowLists.{Entry, lower, unlisted}, Equal.{common_rule, test_of}, Narrowed.{leaves_none, none_left}}
 
 -- ---- registers that are put in
+
+pub none_in : (far : List Entry) → far ≡ [] → (r : ℕ) → has (record { near = 0; far = far }) r ≡ false
+none_in far e r = rw e (grind (arith, nat_tests, bit_at-zero r))
 
 pub rest_up : (xs rest : List Entry) (q : ℕ) (x : RegRule) → xs ≡ (q, x) ∷ rest → AreSpecified 128 xs → AreSpecified 128 rest
 rest_up xs rest q x e up = let here = subst (AreSpecified 128) e up in lower (suc q) 128 rest (omega (arith, here.0)) here.2
 
 -- one of a tree is put in: those of the rest are still to come
-pub tree_next : (all xs rest : List Entry) (q : ℕ) (x : RegRule) (was old new : Registers) → xs ≡ (q, x) ∷ rest → AreSpecified 128 xs → IsAdded q old new
+pub tree_next : (all xs rest : List Entry) (q : ℕ) (x : RegRule) (was old new : Registers) → xs ≡ (q, x) ∷ rest → AreSpecified 128 xs → ((r : ℕ) → has new r ≡ (nat_eq r q || has old r))
     → ((r : ℕ) → (in_tree xs r || has old r) ≡ (in_tree all r || has was r)) → (r : ℕ) → (in_tree rest r || has new r) ≡ (in_tree all r || has was r)
 tree_next all xs rest q x was old new e up added h r =
     let here = subst (AreSpecified 128) e up in let given = here.1 in
@@ -22,55 +25,29 @@ pub none_else : (all rest : List Entry) (was old new : Registers) → new ≡ ol
 none_else all rest was old new same h r is = let still = subst (λ (s : Registers). has s r ≡ true) same is in grind (arith, nat_tests, h r, still)
 
 -- and none that was in is out
-pub more_added : (q : ℕ) (was old new : Registers) → IsAdded q old new → ((r : ℕ) → has was r ≡ true → has old r ≡ true) → (r : ℕ) → has was r ≡ true → has new r ≡ true
+pub more_added : (q : ℕ) (was old new : Registers) → ((r : ℕ) → has new r ≡ (nat_eq r q || has old r)) → ((r : ℕ) → has was r ≡ true → has old r ≡ true) → (r : ℕ) → has was r ≡ true → has new r ≡ true
 more_added q was old new added h r is = let before = h r is in grind (arith, nat_tests, added r, before)
 
--- none is out that was in before those of a mask and of a tree came
-pub all_stay : {X E : Type 0} (result : Result X E) (m n : Marks) (old new : Registers) → marked m ≡ old
-    → OnErr result ((r : ℕ) → has (record { near = bit_or m.near n.near; far = m.far.entries }) r ≡ true → has new r ≡ true) → OnErr result ((r : ℕ) → has old r ≡ true → has new r ≡ true)
-all_stay (Ok x) m n old new one is = tt
-all_stay (Err x) m n old new one is = λ r before.
-    let was = subst (λ (x : Registers). has x r ≡ true) (sym one) before in
-    is r (grind (arith, nat_tests, was, bit_at_or m.near n.near r, bit_at-lt m.near r, bit_at-lt n.near r))
+-- all of a mask and of a tree, and no others; and none is out that was in
+module _ {X E : Type 0} (result : Result X E) (m n old other new : Registers) (one : m ≡ old) (two : n ≡ other) where
+  abbrev joined : Registers
+  joined = record { near = bit_or m.near n.near; far = m.far }
 
-module _ {X E : Type 0} (result : Result X E) (m n : Marks) (old other new : Registers) (one : marked m ≡ old) (two : marked n ≡ other) (so : MarksSo n) where
-  both_in : (r : ℕ) → (in_tree n.far.entries r || has (record { near = bit_or m.near n.near; far = m.far.entries }) r) ≡ (has other r || has old r)
-  both_in r =
-      let low = λ (lt : r < 128). unlisted r 128 n.far.entries so lt in
+  both_in : AreSpecified 128 n.far → (r : ℕ) → (in_tree n.far r || has joined r) ≡ (has other r || has old r)
+  both_in so r =
+      let low = λ (lt : r < 128). unlisted r 128 n.far so lt in
       rw (← one, ← two) (grind (arith, nat_tests, low, bit_at_or m.near n.near r, bit_at-lt m.near r, bit_at-lt n.near r))
 
-  -- all of a mask and of a tree
-  pub all_added : OnOk result ((r : ℕ) → has new r ≡ (in_tree n.far.entries r || has (record { near = bit_or m.near n.near; far = m.far.entries }) r)) → OnOk result ((r : ℕ) → has new r ≡ (has other r || has old r))
-  all_added = on_ok_weaker result (λ is r. is r ∙ both_in r)
+  pub all_added : AreSpecified 128 n.far → OnOk result ((r : ℕ) → has new r ≡ (in_tree n.far r || has joined r)) → OnOk result ((r : ℕ) → has new r ≡ (has other r || has old r))
+  all_added so = on_ok_weaker result (λ is r. is r ∙ both_in so r)
 
-  -- and no others
-  pub no_others : OnErr result ((r : ℕ) → has new r ≡ true → (in_tree n.far.entries r || has (record { near = bit_or m.near n.near; far = m.far.entries }) r) ≡ true)
-      → OnErr result ((r : ℕ) → has new r ≡ true → (has other r || has old r) ≡ true)
-  no_others = on_err_weaker result (λ is r now. sym (both_in r) ∙ is r now)
+  pub no_others : AreSpecified 128 n.far → OnErr result ((r : ℕ) → has new r ≡ true → (in_tree n.far r || has joined r) ≡ true) → OnErr result ((r : ℕ) → has new r ≡ true → (has other r || has old r) ≡ true)
+  no_others so = on_err_weaker result (λ is r now. sym (both_in so r) ∙ is r now)
 
--- ---- the same of marks
-
-no_rule : (x : RegRule) → is_specified x ≡ false → x ≡ Unspecified
-no_rule Unspecified e = refl
-no_rule x e = absurd cc
-
-not_had : (m : Marks) (r : ℕ) → Unmarked m r → has (marked m) r ≡ false
-not_had m r u = grind (arith, nat_tests, u.near, u.far)
-
-unmarked : (m : Marks) (r : ℕ) → IsTrue m.watched → has (marked m) r ≡ false → Unmarked m r
-unmarked m r on none = record { watched = on; near = λ lt. grind (arith, nat_tests, none, lt, bit_at-lt m.near r); far = λ le. no_rule (rule_in m.far.entries r) (grind (arith, nat_tests, none, le)) }
-
-had_more : (m new : Marks) → IsTrue m.watched → ((r : ℕ) → has (marked m) r ≡ true → has (marked new) r ≡ true) → MarksMore m new
-had_more m new on stays r u = elim (cases_Bool (has (marked m) r)) [ inl had ↦ absurd (let e = sym (stays r had) ∙ not_had new r u in cc) | inr none ↦ unmarked m r on none ]
-
-module _ {X E : Type 0} (m n new : Marks) (on : IsTrue m.watched) (so : MarksSo n) where
-  pub more_marked : (result : Result X E) → OnOk result ((r : ℕ) → has (marked new) r ≡ (in_tree n.far.entries r || has (record { near = bit_or m.near n.near; far = m.far.entries }) r))
-      → OnErr result ((r : ℕ) → has (record { near = bit_or m.near n.near; far = m.far.entries }) r ≡ true → has (marked new) r ≡ true) → MarksMore m new
-  more_marked (Ok x) added stay = had_more m new on (λ r had. let all = all_added {X = X} {E = E} (Ok x) m n (marked m) (marked n) (marked new) refl refl so added in grind (arith, all r, had))
-  more_marked (Err x) added stay = had_more m new on (all_stay {X = X} {E = E} (Err x) m n (marked m) (marked new) refl stay)
-
-  pub all_marked : (result : Result X E) → IsTrue n.watched → OnOk result ((r : ℕ) → has (marked new) r ≡ (in_tree n.far.entries r || has (record { near = bit_or m.near n.near; far = m.far.entries }) r)) → OnOk result (MarksMore n new)
-  all_marked result on' added = on_ok_weaker result (λ all. had_more n new on' (λ r had. grind (arith, all r, had))) (all_added result m n (marked m) (marked n) (marked new) refl refl so added)
+  pub all_stay : OnErr result ((r : ℕ) → has joined r ≡ true → has new r ≡ true) → OnErr result ((r : ℕ) → has old r ≡ true → has new r ≡ true)
+  all_stay = on_err_weaker result (λ is r before.
+      let was = subst (λ (x : Registers). has x r ≡ true) (sym one) before in
+      is r (grind (arith, nat_tests, was, bit_at_or m.near n.near r, bit_at-lt m.near r, bit_at-lt n.near r)))
 
 -- ---- registers that are dropped where another row gives them another rule
 
@@ -106,15 +83,15 @@ agrees_left : (other : List Entry) (r : ℕ) (x : RegRule) → (x ≡ Unspecifie
 agrees_left other r x (inl e) = rw e (none_left (is_agreed other) r)
 agrees_left other r x (inr e) = let same : same_rule x (rule_in other r) ≡ true = (rule_tells x (rule_in other r)).1 e in rw same refl
 
-module _ (m : Marks) (registers : Registers) (is : marked m ≡ registers) (old other : Rules) (beside : AgreesBeside registers old other) (mid : List Entry) (new : Rules)
-    (near : LeavesAmong (in_mask m.near 128) (is_agreed other.registers) old.registers mid) (far : LeavesAmong (in_tree m.far.entries) (is_agreed other.registers) mid new.registers) where
-  outside : (r : ℕ) → (in_mask m.near 128 r || in_tree m.far.entries r) ≡ false → has registers r ≡ false
+module _ (m registers : Registers) (is : m ≡ registers) (old other : Rules) (beside : AgreesBeside registers old other) (mid : List Entry) (new : Rules)
+    (near : LeavesAmong (in_mask m.near 128) (is_agreed other.registers) old.registers mid) (far : LeavesAmong (in_tree m.far) (is_agreed other.registers) mid new.registers) where
+  outside : (r : ℕ) → (in_mask m.near 128 r || in_tree m.far r) ≡ false → has registers r ≡ false
   outside r none = rw (sym is) (grind (arith, nat_tests, none))
 
   rule_left : (r : ℕ) → rule new r ≡ left (is_agreed other.registers) r (rule old r)
   rule_left r =
-      let both = both_leave (in_mask m.near 128 r) (in_tree m.far.entries r) (is_agreed other.registers) r (rule old r) (rule_in mid r) (rule new r) (near r) (far r) in
-      elim (cases_Bool (in_mask m.near 128 r || in_tree m.far.entries r)) [
+      let both = both_leave (in_mask m.near 128 r) (in_tree m.far r) (is_agreed other.registers) r (rule old r) (rule_in mid r) (rule new r) (near r) (far r) in
+      elim (cases_Bool (in_mask m.near 128 r || in_tree m.far r)) [
         | inl e ↦ both ∙ rw e refl
         | inr e ↦ both ∙ rw e (sym (agrees_left other.registers r (rule old r) (beside r (outside r e))))
       ]

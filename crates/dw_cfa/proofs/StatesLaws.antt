@@ -2,8 +2,8 @@
 use Rattle.std.proofs.lemmas.List.{nil_from_length, reverse-append}
 use Rattle.dw_cfa.specs.declared.{kept_row.KeptRow.KeptRow, states.Undo.Undo, states.Undo.TheVariants.{Remembered, Register}}
 use Rattle.dw_cfa.proofs.Words.{◌≡◌, ℕ, suc, ◌+◌, ◌-◌, ◌<◌, ◌≤◌, Bool, true, false, length-append, List, [], ◌∷◌, ◌++◌, length, reverse, Some, None, Result, OnOk, OnErr, Ok, Err, refl, sym, ap}
-use Rattle.dw_cfa.proofs.Words.{◌∙◌, subst, arith, append-nil, AreSpecified, CfaRule, IsTrue, Watching, watching, KeptSo, Marks, MarksSo, RegRule, Rules, rule_in, with_cfa, with_rule, Held, StatesSo}
-use Rattle.dw_cfa.proofs.{Words.{remembering, rows_before, with_row, first_if, shown, held, stacked, BeganWith, TakenBack, Restored, on_err_weaker, on_ok_weaker}, Lent.RowLists.Entry, Marked.unwatched, WideRows.{put_back, put_same}}
+use Rattle.dw_cfa.proofs.Words.{◌∙◌, subst, arith, append-nil, AreSpecified, CfaRule, IsTrue, KeptSo, RegRule, Rules, rule_in, with_cfa, with_rule, Held, StatesSo}
+use Rattle.dw_cfa.proofs.{Words.{saved_if, remembering, rows_before, with_row, first_if, shown, held, stacked, BeganWith, TakenBack, Restored}, Lent.RowLists.Entry, WideRows.{put_back, put_same}}
 
 abbrev Before : Type 0
 Before = List Rules × List Entry
@@ -16,15 +16,15 @@ none_before : (registers : List Entry) (items : List Undo) → items ≡ [] → 
 unfolding rows_before
 none_before registers items none = rw none refl
 
-pub begun_held : (tracked : Bool) (saved : KeptRow) (row kept : Rules) (items : List Undo) → items ≡ [] → saved.marks.watched ≡ false
+pub begun_held : (tracked : Bool) (saved : KeptRow) (row kept : Rules) (items : List Undo) → items ≡ [] → saved.watched ≡ false
     → held tracked saved row kept items ≡ record { row = row; stack = []; first = first_if tracked row.registers; kept = kept }
 begun_held tracked saved row kept items none off = ap (shown tracked saved row kept) (none_before row.registers items none) ∙ rw off refl
 
-pub begun_so : (tracked is_listed : Bool) → (is_listed ≡ false → tracked ≡ false) → (saved : KeptRow) (registers : List Entry) (items : List Undo) → items ≡ [] → saved.marks.watched ≡ false
-    → MarksSo saved.marks → StatesSo tracked is_listed saved 0 (rows_before registers (reverse items)) items
-begun_so tracked is_listed free saved registers items none off so =
+pub begun_so : (tracked is_listed : Bool) → (is_listed ≡ false → tracked ≡ false) → (saved : KeptRow) (registers : List Entry) (items : List Undo) → items ≡ [] → saved.watched ≡ false
+    → StatesSo tracked is_listed saved 0 (rows_before registers (reverse items)) items
+begun_so tracked is_listed free saved registers items none off =
     let is = none_before registers items none in
-    record { count = rw (is, off) refl; unlisted = λ e. (free e, none); untracked = λ e. absurd cc; since = unwatched saved.marks saved.row.registers (rows_before registers (reverse items)).1 so off }
+    record { count = rw (is, off) refl; unlisted = λ e. (free e, none); untracked = λ e. absurd cc; since = λ on. absurd cc }
 
 reversed_none : (items : List Undo) → reverse items ≡ [] → items ≡ []
 reversed_none [] e = refl
@@ -51,18 +51,12 @@ module _ (row : Rules) (items items' : List Undo) where
   mark_behind cfa same more = rw (last_first (Remembered cfa) items items' more, same) refl
 
   -- the rule that a register had is listed before it is given another one
-  pub listed_behind : {X E : Type 0} (result : Result X E) (r : ℕ) (older rule : RegRule) (kept lent : Rules) (rows' : Watching) → lent ≡ row → AreSpecified 0 lent.registers → older ≡ rule_in lent.registers r → items' ≡ items ++ Register r older ∷ []
-      → OnOk result (rows' ≡ watching (with_rule r rule row) kept) → OnErr result (rows' ≡ watching row kept) → rows_before rows'.row.registers (reverse items') ≡ rows_before row.registers (reverse items)
-  listed_behind (Ok x) r older rule kept lent rows' same up is more set err = change_behind r older rows'.row (rw (set, is, same) (ap (with_registers row.cfa) (put_back r rule row.registers (rw same at up)))) more
-  listed_behind (Err x) r older rule kept lent rows' same up is more set err = change_behind r older rows'.row (rw (err, is, same) (ap (with_registers row.cfa) (put_same r row.registers (rw same at up)))) more
+  pub listed_behind : {X E : Type 0} (result : Result X E) (r : ℕ) (older rule : RegRule) (row' : Rules) → AreSpecified 0 row.registers → older ≡ rule_in row.registers r → items' ≡ items ++ Register r older ∷ []
+      → OnOk result (row' ≡ with_rule r rule row) → OnErr result (row' ≡ row) → rows_before row'.registers (reverse items') ≡ rows_before row.registers (reverse items)
+  listed_behind (Ok x) r older rule row' up is more set err = change_behind r older row' (rw (set, is) (ap (with_registers row.cfa) (put_back r rule row.registers up))) more
+  listed_behind (Err x) r older rule row' up is more set err = change_behind r older row' (rw (err, is) (ap (with_registers row.cfa) (put_same r row.registers up))) more
 
 -- ---- the value of the code's states
-
-pub rows_set : {X E : Type 0} (result : Result X E) (rows : Watching) (row kept : Rules) → OnOk result (rows ≡ watching row kept) → OnOk result (rows.row ≡ row)
-rows_set result rows row kept = on_ok_weaker result (λ same. ap (λ (w : Watching). w.row) same)
-
-pub rows_same : {X E : Type 0} (result : Result X E) (rows old : Watching) → OnErr result (rows ≡ old) → OnErr result (rows.row ≡ old.row)
-rows_same result rows old = on_err_weaker result (λ same. ap (λ (w : Watching). w.row) same)
 
 module _ {tracked is_listed : Bool} {saved : KeptRow} {row kept : Rules} {items : List Undo} {now : Held} {depth : ℕ} (is : held tracked saved row kept items ≡ now)
     (so : StatesSo tracked is_listed saved depth (rows_before row.registers (reverse items)) items) where
@@ -73,12 +67,10 @@ module _ {tracked is_listed : Bool} {saved : KeptRow} {row kept : Rules} {items 
   depth_is = so.count ∙ ap (λ (h : Held). length h.stack) is
 
   -- a register is given a rule
-  pub ruled : {X E : Type 0} (result : Result X E) (new : Held) (rows' : Watching) (r : ℕ) (rule : RegRule) → OnOk result (rows' ≡ watching (with_rule r rule row) kept)
-      → new ≡ record { row = rows'.row; stack = now.stack; first = now.first; kept = rows'.kept } → OnOk result (new ≡ with_row (with_rule r rule now.row) now)
-  ruled (Ok x) new rows' r rule set same =
-      same ∙ ap (λ (w : Watching). let h : Held = record { row = w.row; stack = now.stack; first = now.first; kept = w.kept } in h) set
-      ∙ ap (λ (h : Held). let x : Held = record { row = with_rule r rule h.row; stack = now.stack; first = now.first; kept = h.kept } in x) is
-  ruled (Err x) new rows' r rule set same = tt
+  pub ruled : {X E : Type 0} (result : Result X E) (new : Held) (row' kept' : Rules) (r : ℕ) (rule : RegRule) → OnOk result (row' ≡ with_rule r rule row) → kept' ≡ kept
+      → new ≡ record { row = row'; stack = now.stack; first = now.first; kept = kept' } → OnOk result (new ≡ with_row (with_rule r rule now.row) now)
+  ruled (Ok x) new row' kept' r rule set stays same = rw (same, set, stays, ← is) refl
+  ruled (Err x) new row' kept' r rule set stays same = tt
 
   module _ (row' kept' : Rules) (items' : List Undo) where
     abbrev before' : Before
@@ -89,7 +81,7 @@ module _ {tracked is_listed : Bool} {saved : KeptRow} {row kept : Rules} {items 
     same_held same = ap (shown tracked saved row' kept') same ∙ ap (λ (h : Held). let x : Held = record { row = row'; stack = h.stack; first = h.first; kept = kept' } in x) is
 
     pub same_so : before' ≡ before → StatesSo tracked true saved depth before' items'
-    same_so same = record { count = so.count ∙ ap (λ (b : Before). length (stacked saved b.0)) (sym same); unlisted = λ e. absurd cc; untracked = so.untracked; since = subst (λ (b : Before). KeptSo saved.marks saved.row.registers b.1) (sym same) so.since }
+    same_so same = record { count = so.count ∙ ap (λ (b : Before). length (stacked saved b.0)) (sym same); unlisted = λ e. absurd cc; untracked = so.untracked; since = subst (λ (b : Before). KeptSo saved b.1) (sym same) so.since }
 
   -- one row more
   module _ (items' : List Undo) (one : rows_before row.registers (reverse items') ≡ (row ∷ before.0, before.1)) where
@@ -99,45 +91,48 @@ module _ {tracked is_listed : Bool} {saved : KeptRow} {row kept : Rules} {items 
     pub listed_so : StatesSo tracked true saved (depth + 1) (rows_before row.registers (reverse items')) items'
     listed_so =
         let more : length (stacked saved (rows_before row.registers (reverse items')).0) ≡ suc (length (stacked saved before.0)) = ap (λ (b : Before). length (stacked saved b.0)) one in
-        record { count = omega (arith, so.count, more); unlisted = λ e. absurd cc; untracked = so.untracked; since = subst (λ (b : Before). KeptSo saved.marks saved.row.registers b.1) (sym one) so.since }
+        record { count = omega (arith, so.count, more); unlisted = λ e. absurd cc; untracked = so.untracked; since = subst (λ (b : Before). KeptSo saved b.1) (sym one) so.since }
 
   -- nothing is listed: a register that is set is marked
-  module _ (marks : Marks) (row' kept' : Rules) (free : is_listed ≡ false) (same : marks.watched ≡ saved.marks.watched) where
-    abbrev marked : KeptRow
-    marked = record { row = saved.row; marks = marks }
-
+  module _ (marked : KeptRow) (row' kept' : Rules) (free : is_listed ≡ false) (own : marked.row ≡ saved.row) (same : marked.watched ≡ saved.watched) where
     pub set_held : held tracked marked row' kept' items ≡ record { row = row'; stack = now.stack; first = now.first; kept = kept' }
     set_held =
         let none = (so.unlisted free).1 in let off = (so.unlisted free).0 in
         let new = none_before row'.registers items none in let old = none_before row.registers items none in
-        rw (new, ← is, old, off, same) refl
+        rw (new, ← is, old, off, same, own) refl
 
-    pub marked_so : KeptSo marks saved.row.registers row'.registers → StatesSo tracked is_listed marked depth (rows_before row'.registers (reverse items)) items
+    pub marked_so : KeptSo marked row'.registers → StatesSo tracked is_listed marked depth (rows_before row'.registers (reverse items)) items
     marked_so since =
         let none = (so.unlisted free).1 in
         let new = none_before row'.registers items none in let old = none_before row.registers items none in
         let count = rw old at so.count in
         record {
-          count = rw (new, same) count;
+          count = rw (new, same, own) count;
           unlisted = so.unlisted;
           untracked = λ on. so.untracked (sym same ∙ on);
           since = rw new since;
         }
 
+  -- no row is saved where none is remembered
+  pub none_saved : (current : List Entry) → depth ≡ 0 → KeptSo saved current
+  none_saved current none on =
+      let one : length (saved_if saved.watched saved.row) ≡ 1 = rw on refl in
+      absurd (omega (arith, so.count, none, one, length-append before.0 (saved_if saved.watched saved.row)))
+
   -- nothing is listed before the current row
-  pub since_row : is_listed ≡ false → KeptSo saved.marks saved.row.registers row.registers
-  since_row free = subst (λ (b : Before). KeptSo saved.marks saved.row.registers b.1) (none_before row.registers items (so.unlisted free).1) so.since
+  pub since_row : is_listed ≡ false → KeptSo saved row.registers
+  since_row free = subst (λ (b : Before). KeptSo saved b.1) (none_before row.registers items (so.unlisted free).1) so.since
 
   -- a row is saved where none is remembered
   module _ (off : tracked ≡ false) (none : depth ≡ 0) (saved' : KeptRow) (items' : List Undo) (empty : items' ≡ []) where
-    pub saved_held : saved'.row ≡ row → IsTrue saved'.marks.watched → held tracked saved' row kept items' ≡ remembering now
+    pub saved_held : saved'.row ≡ row → IsTrue saved'.watched → held tracked saved' row kept items' ≡ remembering now
     saved_held same on =
         let nothing = nil_from_length now.stack (omega (arith, none, depth_is)) in
         let first = sym (ap (λ (h : Held). h.first) is) ∙ ap (λ (t : Bool). first_if t before.1) off in
         let new = none_before row.registers items' empty in
         rw (nothing, first, new, off, on, same, ← ap (λ (h : Held). h.row) is, ← ap (λ (h : Held). h.kept) is) refl
 
-    pub saved_so : (count : ℕ) → count ≡ length (stacked saved' []) → KeptSo saved'.marks saved'.row.registers row.registers → StatesSo tracked false saved' count (rows_before row.registers (reverse items')) items'
+    pub saved_so : (count : ℕ) → count ≡ length (stacked saved' []) → KeptSo saved' row.registers → StatesSo tracked false saved' count (rows_before row.registers (reverse items')) items'
     saved_so count are since = let new = none_before row.registers items' empty in record { count = rw new are; unlisted = λ e. (off, empty); untracked = λ on. off; since = rw new since }
 
   -- changes are taken back
@@ -152,7 +147,7 @@ module _ {tracked is_listed : Bool} {saved : KeptRow} {row kept : Rules} {items 
         → StatesSo tracked is_listed' saved (depth - 1) (rows_before row'.registers (reverse items')) items'
     unfolding rows_before
     found_so cfa is_listed' taken unlisted =
-        record { count = (found_count cfa taken).1; unlisted = unlisted; untracked = so.untracked; since = subst (λ (b : Before). KeptSo saved.marks saved.row.registers b.1) taken so.since }
+        record { count = (found_count cfa taken).1; unlisted = unlisted; untracked = so.untracked; since = subst (λ (b : Before). KeptSo saved b.1) taken so.since }
 
     pub found_held : (cfa : CfaRule) (row'' : Rules) → TakenBack (Some cfa) row (reverse items) row' (reverse items') → row'' ≡ with_cfa cfa row' → Restored true now (held tracked saved row'' kept' items')
     unfolding rows_before
@@ -170,16 +165,16 @@ module _ {tracked is_listed : Bool} {saved : KeptRow} {row kept : Rules} {items 
       unfolding rows_before
       taken_all = taken.0
 
-      pub none_since : KeptSo saved.marks saved.row.registers row'.registers
-      none_since = subst (λ (b : Before). KeptSo saved.marks saved.row.registers b.1) taken_all so.since
+      pub none_since : KeptSo saved row'.registers
+      none_since = subst (λ (b : Before). KeptSo saved b.1) taken_all so.since
 
-      pub none_held : saved.marks.watched ≡ false → now.stack ≡ []
+      pub none_held : saved.watched ≡ false → now.stack ≡ []
       none_held off = ap (λ (h : Held). h.stack) (sym is) ∙ ap (λ (b : Before). stacked saved b.0) taken_all ∙ rw off refl
 
-      pub back_so : (saved' : KeptRow) (row'' : Rules) → saved'.marks.watched ≡ false → MarksSo saved'.marks → StatesSo tracked is_listed saved' 0 (rows_before row''.registers (reverse items')) items'
-      back_so saved' row'' off marks = begun_so tracked is_listed (λ e. (so.unlisted e).0) saved' row''.registers items' none_left off marks
+      pub back_so : (saved' : KeptRow) (row'' : Rules) → saved'.watched ≡ false → StatesSo tracked is_listed saved' 0 (rows_before row''.registers (reverse items')) items'
+      back_so saved' row'' off = begun_so tracked is_listed (λ e. (so.unlisted e).0) saved' row''.registers items' none_left off
 
-      pub back_held : (saved' : KeptRow) (row'' : Rules) → IsTrue saved.marks.watched → saved'.marks.watched ≡ false → row'' ≡ saved.row → Restored true now (held tracked saved' row'' kept' items')
+      pub back_held : (saved' : KeptRow) (row'' : Rules) → IsTrue saved.watched → saved'.watched ≡ false → row'' ≡ saved.row → Restored true now (held tracked saved' row'' kept' items')
       back_held saved' row'' on off at =
           let free = so.untracked on in
           subst (λ (h : Held). Restored true now h) (sym (begun_held tracked saved' row'' kept' items' none_left off)) (
@@ -201,7 +196,7 @@ pub back_mark : (registers : List Entry) (cfa : CfaRule) (items items' : List Un
 unfolding rows_before
 back_mark registers cfa items items' more = rw (last_first (Remembered cfa) items' items more) refl
 
-pub rewound : (tracked : Bool) (saved : KeptRow) (initial row kept : Rules) (items : List Undo) → row ≡ initial → items ≡ [] → saved.marks.watched ≡ false
+pub rewound : (tracked : Bool) (saved : KeptRow) (initial row kept : Rules) (items : List Undo) → row ≡ initial → items ≡ [] → saved.watched ≡ false
     → ((held tracked saved row kept items).row ≡ initial) × ((held tracked saved row kept items).stack ≡ []) × BeganWith initial (held tracked saved row kept items).first
 rewound tracked saved initial row kept items same none off =
     subst (λ (h : Held). (h.row ≡ initial) × (h.stack ≡ []) × BeganWith initial h.first) (sym (begun_held tracked saved row kept items none off)) (same, refl, began tracked initial row same)

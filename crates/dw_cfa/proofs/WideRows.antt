@@ -1,6 +1,6 @@
 -- Ascending registers in a tree: what it finds, puts in and takes out is what the list of them says.
 use Rattle.std.specs.Map.{lookup, remove_entry}
-use Rattle.dw_cfa.proofs.Words.{append_assoc, ◌≡◌, ℕ, suc, ◌<◌, ◌≤◌, true, false, List, [], ◌∷◌, ◌++◌, refl, sym, ap, ◌∙◌, subst, arith, nat_cmp, unwrap_or, nat_tests, RegRule}
+use Rattle.dw_cfa.proofs.Words.{◌≡◌, ℕ, suc, ◌<◌, ◌≤◌, true, false, List, [], ◌∷◌, refl, sym, arith, nat_cmp, unwrap_or, nat_tests, RegRule}
 use Rattle.dw_cfa.proofs.{Words.{Unspecified, is_specified, AreSpecified, rule_in, put, insert_entry, is_at}, Lent.RowLists.{Entry, listed_is, put_keeps, put_rule}, Slots.is_put}
 
 pub found_is : (r : ℕ) (xs : List Entry) → unwrap_or (lookup (is_at (nat_cmp r)) xs) Unspecified ≡ rule_in xs r
@@ -23,21 +23,6 @@ removed_is r low (x ∷ xs) up = grind (arith, nat_tests, removed_is r (suc x.0)
 pub not_put : (r : ℕ) (rule : RegRule) (xs : List Entry) → is_specified rule ≡ false → AreSpecified 0 xs → remove_entry (is_at (nat_cmp r)) xs ≡ put r rule xs
 not_put r Unspecified xs e up = removed_is r 0 xs up
 not_put r rule xs e up = absurd cc
-
-above_front : (low : ℕ) (xs : List Entry) (x : Entry) (rest : List Entry) → AreSpecified low (xs ++ x ∷ rest) → low ≤ x.0
-above_front low [] x rest up = up.0
-above_front low (y ∷ xs) x rest up = let after = above_front (suc y.0) xs x rest up.2 in let first : low ≤ y.0 = up.0 in omega arith
-
--- an entry above all of a tree's goes to its end
-pub appended : (low : ℕ) (xs : List Entry) (x : Entry) (rest : List Entry) → AreSpecified low (xs ++ x ∷ rest) → insert_entry nat_cmp xs x.0 x.1 ≡ xs ++ x ∷ []
-appended low [] x rest up = refl
-appended low (y ∷ xs) x rest up = grind (arith, nat_tests, above_front (suc y.0) xs x rest up.2, appended (suc y.0) xs x rest up.2)
-
--- one entry more of an ascending list, of which a tree has those before it
-pub one_more : (xs rest all new : List Entry) (x : Entry) → new ≡ insert_entry nat_cmp xs x.0 x.1 → xs ++ x ∷ rest ≡ all → AreSpecified 0 all → new ++ rest ≡ all
-one_more xs rest all new x e whole up =
-    let end : new ≡ xs ++ x ∷ [] = e ∙ appended 0 xs x rest (subst (AreSpecified 0) (sym whole) up) in
-    ap (λ (l : List Entry). l ++ rest) end ∙ append_assoc xs (x ∷ []) rest ∙ whole
 
 -- ---- taking a change back
 

@@ -30,13 +30,13 @@ pub use Rattle.dw_cfa.specs.{Operands.{expression, fixed, none, offset_of, one, 
 pub use Rattle.dw_cfa.specs.{RowLaws.{LeavesWhereKept, NoneFalls, OneBehind, OneCount, OneHolds, OneInitial, OneRun, RefusedWhereFault, RowsWhereKept}, RowSteps.{Stepping, program_input, stepping}, RowWalk.{AllKeep, StandsOn, Walking}}
 pub use Rattle.dw_cfa.specs.{Rows.{AreSpecified, Rules, blank, is_specified, rule, rule_in}, RuleAt.{NeverFalls, last_at, left_above, or_here, rows_above}, RulesBehind.RulesBehind, Runs.{Outcome, fails, finished, row_then}}
 pub use Rattle.dw_cfa.specs.declared.{entries.Entries.Entries, execution.LocatedRow.LocatedRow, instr.Factors.Factors, instr.Instr.Instr, instr.Instr.TheVariants.{Advance, DefCfa, DefCfaExpression, DefCfaOffset, DefCfaRegister, Nop}}
-pub use Rattle.dw_cfa.specs.declared.{instr.Instr.TheVariants.{RememberState, Restore, RestoreState, Set, SetLoc}, machine.Machine.Machine, marks.Marks.Marks, opcode.Opcode.Opcode, opening.FirstRow.TheVariants.{CfaOffset, Initial, Other}}
+pub use Rattle.dw_cfa.specs.declared.{instr.Instr.TheVariants.{RememberState, Restore, RestoreState, Set, SetLoc}, machine.Machine.Machine, opcode.Opcode.Opcode, opening.FirstRow.TheVariants.{CfaOffset, Initial, Other}}
 pub use Rattle.dw_cfa.specs.declared.{lead.Leading.Leading, rule.CfaRule.CfaRule, rule.CfaRule.TheVariants.Unset, rule.RegRule.RegRule, rule.RegRule.TheVariants.{SameValue, Unspecified}, slot.Slot.Slot, next_row.Progress.Progress}
 pub use Rattle.dw_cfa.specs.Inner.{Agreement.{agreed, is_agreed, same_cfa, same_rule}, Coverage.{is_unset, lacks_from, leaves_one}, Difference.{SameUnset, start_behind}, Entries.{EntriesSo, FirstBit, FirstIn, Holds, IsSlotOf, LeavesAmong}}
 pub use Rattle.dw_cfa.specs.Inner.{Entries.{LeavesAt, LeavesBelow, SameOutside, SameSlots, entries_of, far_behind, left, listed_near, near_rule, no_slot, rule_if, slot_rule}, Exact.{BehindGives, GivesRows, InitialLeaves, LeavesInitial}}
 pub use Rattle.dw_cfa.specs.Inner.{FrontInstr.{after_code, after_length, block_in, expression_of, form_at, judged, known_at, leaving, operand_at, then_operand, with_instr}, LookUp.look_up_at, Machine.{State, after, begun, changed}}
-pub use Rattle.dw_cfa.specs.Inner.{Machine.{cie_fault, empty_fault, fde_fault, half_fault, moved, popped, program_fault, written}, Marks.{CopiedUpTo, IsAdded, KeptSo, MarksMore, MarksSo, SameUnlisted, SameUnmarked, Unmarked}}
-pub use Rattle.dw_cfa.specs.Inner.{Marks.{Watching, in_mask, in_tree, marked, watching}, Opening.{GivesOffset, answers_move, answers_row}, Operands.{form_of, opcode_table}, RowEquality.{cfa_tells, rows_tell, rule_tells, same_rows}}
+pub use Rattle.dw_cfa.specs.Inner.{Machine.{cie_fault, empty_fault, fde_fault, half_fault, moved, popped, program_fault, written}, Among.{CopiedUpTo, SameUnlisted, in_mask, in_tree}, Kept.KeptSo}
+pub use Rattle.dw_cfa.specs.Inner.{Opening.{GivesOffset, answers_move, answers_row}, Operands.{form_of, opcode_table}, RowEquality.{cfa_tells, rows_tell, rule_tells, same_rows}}
 pub use Rattle.dw_cfa.specs.Inner.{RowSteps.gives, RowWalk.{AllSpecify, AreLeft, HasInitial, IsLed, RanUpTo, WalkKeeps, WalksSo, initial_of, led_of, led_row, led_rows, walk_of}}
 pub use Rattle.dw_cfa.specs.Inner.{Rows.{listed, put, with_cfa, with_rule}, RuleAt.{CountsFrom, FoundAt}, Runs.{Placed, Placing, RanTo, RunsSo, WroteTo, at_end, fault_or, here, initial_row, on_initial, place_of}}
 pub use Rattle.dw_cfa.specs.Inner.{Runs.{refused_at, row_if, stop_on, stop_or}, States.{BeganWith, Held, Restored, StatesSo, TakenBack, first_if, held, remembering, saved_if, shown, stacked, with_row}, Steps.{InLimit, IsAfter, state_of}}

@@ -8,7 +8,8 @@ pub mod Machine
 pub mod Runs
 pub mod Exact
 pub mod Entries
-pub mod Marks
+pub mod Among
+pub mod Kept
 pub mod States
 pub mod RowSteps
 pub mod RowWalk

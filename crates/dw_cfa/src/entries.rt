@@ -6,11 +6,11 @@ ghost use Rattle.dw_cfa.specs.declared.{rule.RegRule.{RegRule as TheRule}, rule.
 ghost use Rattle.dw_cfa.specs.Inner.{Agreement.same_rule, Difference.{FirstBelow, SameUnset}, Entries.{entries_of, EntriesSo, IsSlotOf, slot_rule}, Rows.put};
 
 use crate::behind::{place_behind, start_behind};
-use crate::near_slots::{bit_of, copy_slots, is_in, next_in, same_slots};
+use crate::near_slots::{bit_of, is_in, next_in, same_slots};
 use crate::row::Specified;
 use crate::rule::RegRule;
 use crate::slot::{Slot, offset_in, plain_slot, rule_of};
-use crate::tree::{first_difference, rule_in_tree, set_in_tree, tree_of};
+use crate::tree::{first_difference, rule_in_tree, set_in_tree};
 use std::alloc::{AllocError, Global};
 use std::collections::BTreeMap;
 use std::ops::Bound;
@@ -220,29 +220,6 @@ impl<'a> Entries<'a> {
         self.next_far_difference(others, behind)
     }
 
-    #[tactic(auto, using(crate::proofs::Lent::RowLists::lower))]
-    pub(crate) fn copied(&self, alloc: Global) -> Result<Entries<'a>, AllocError>
-        requires { EntriesSo self.now }
-        ensures { IfOk result (λ copy. (entries_of copy ≡ entries_of self.now) × EntriesSo copy) }
-    {
-        if self.is_narrow() {
-            return Ok(Entries {
-                slots: self.slots,
-                used: self.used,
-                expressions: BTreeMap::new(alloc),
-                far: BTreeMap::new(alloc),
-            });
-        }
-        let expressions = tree_of(&self.expressions, alloc)?;
-        let far = tree_of(&self.far, alloc)?;
-        Ok(Entries {
-            slots: self.slots,
-            used: self.used,
-            expressions,
-            far,
-        })
-    }
-
     // Whether both trees are empty.
     #[inline(always)]
     pub(crate) fn is_narrow(&self) -> bool
@@ -269,9 +246,6 @@ impl<'a> Entries<'a> {
         requires { EntriesSo self.old }
         ensures entries { entries_of self.new ≡ [] }
         ensures so { EntriesSo self.new }
-        ensures used { self.new.used ≡ 0 }
-        ensures expressions { self.new.expressions.entries ≡ [] }
-        ensures far { self.new.far.entries ≡ [] }
     {
         self.used = 0;
         if self.is_narrow() {
@@ -368,90 +342,6 @@ impl<'a> Entries<'a> {
         }
         self.put_plain(register, slot);
         Ok(())
-    }
-
-    // Takes all registers out but those from 128 on that others have.
-    #[inline(always)]
-    #[tactic(auto, using(crate::proofs::Lent::RowLists::lower))]
-    fn begin_copy(&mut self, others: &Entries<'a>, alloc: Global) -> Result<(), AllocError>
-        requires so { EntriesSo self.old }
-        requires others { EntriesSo others.now }
-        ensures near { self.new.used ≡ 0 }
-        ensures far { OnOk result (self.new.far.entries ≡ others.now.far.entries) }
-        ensures so { EntriesSo self.new }
-    {
-        self.clear();
-        if others.far.is_empty() {
-            return Ok(());
-        }
-        self.far = tree_of(&others.far, alloc)?;
-        Ok(())
-    }
-
-    // Gives the registers that may have slots the rules that others give them, where none has one yet.
-    #[inline(always)]
-    #[tactic(auto, using(crate::proofs::Copied::next_copied, crate::proofs::Copied::all_copied, crate::proofs::Copied::none_copied))]
-    fn copy_slots(&mut self, others: &Entries<'a>) -> Result<(), AllocError>
-        requires so { EntriesSo self.old }
-        requires others { EntriesSo others.now }
-        requires near { self.old.used ≡ 0 }
-        requires far { self.old.far.entries ≡ others.now.far.entries }
-        ensures ok { OnOk result (entries_of self.new ≡ entries_of others.now) }
-        ensures so { EntriesSo self.new }
-    {
-        let mut place = 0;
-        'slots: while let Some(register) = next_in(others.used, place) {
-            self.copy_near(others, register as u16)?;
-            place = register + 1;
-        }
-        Ok(())
-    }
-
-    // Makes them a copy of others, where both have the same trees.
-    #[tactic(auto, using(crate::proofs::Copied::slots_copied, crate::proofs::Copied::slots_copied_so))]
-    #[inline(always)]
-    fn copy_narrow(&mut self, others: &Entries<'a>)
-        requires so { EntriesSo self.old }
-        requires others { EntriesSo others.now }
-        requires expressions { self.old.expressions.entries ≡ others.now.expressions.entries }
-        requires far { self.old.far.entries ≡ others.now.far.entries }
-        ensures entries { entries_of self.new ≡ entries_of others.now }
-        ensures so { EntriesSo self.new }
-    {
-        copy_slots(&mut self.slots, &others.slots, others.used);
-        self.used = others.used;
-    }
-
-    // Makes them a copy of others, register by register.
-    #[inline(never)]
-    fn copy_wide(&mut self, others: &Entries<'a>, alloc: Global) -> Result<(), AllocError>
-        requires before { EntriesSo self.old }
-        requires others { EntriesSo others.now }
-        ensures ok { OnOk result (entries_of self.new ≡ entries_of others.now) }
-        ensures so { EntriesSo self.new }
-    {
-        self.begin_copy(others, alloc)?;
-        self.copy_slots(others)
-    }
-
-    // Makes them a copy of others.
-    #[inline(always)]
-    pub(crate) fn become_copy(
-        &mut self,
-        others: &Entries<'a>,
-        alloc: Global,
-    ) -> Result<(), AllocError>
-        requires before { EntriesSo self.old }
-        requires others { EntriesSo others.now }
-        ensures ok { OnOk result (entries_of self.new ≡ entries_of others.now) }
-        ensures so { EntriesSo self.new }
-    {
-        if others.is_narrow() {
-            self.clear();
-            self.copy_narrow(others);
-            return Ok(());
-        }
-        self.copy_wide(others, alloc)
     }
 
     // Gives a register a rule.

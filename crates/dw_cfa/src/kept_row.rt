@@ -1,241 +1,159 @@
 //! A row that was kept, and the registers that were set since (6.4.1).
 
-ghost use Rattle.std.specs.Prelude.{◌≡◌, ◌↔◌, ℕ, false, IsTrue, OnErr, OnOk};
-ghost use Rattle.dw_cfa.specs.{Difference.{FirstDifference, place_behind}, Rows.{AreSpecified, blank, rule_in}};
-ghost use Rattle.dw_cfa.specs.Inner.{Difference.SameUnset, Marks.{CopiedUpTo, KeptSo, MarksSo, SameUnlisted, SameUnmarked}};
+ghost use Rattle.std.specs.Prelude.{◌≡◌, ◌↔◌, List, ℕ, IsTrue, OnErr, OnOk, false};
+ghost use Rattle.dw_cfa.specs.{Difference.{FirstDifference, place_behind}, Rows.{AreSpecified, blank}, declared.rule.RegRule.{RegRule as TheRule}};
+ghost use Rattle.dw_cfa.specs.Inner.{Kept.KeptSo, Rows.{put, with_rule}};
 
-use crate::behind::{place_behind, start_behind};
-use crate::marks::Marks;
-use crate::near_slots::next_in;
+use crate::entries::NEAR;
+use crate::register_set::RegisterSet;
 use crate::row::Row;
 use crate::rule::RegRule;
 use std::alloc::{AllocError, Global};
-use std::collections::BTreeMap;
-use std::ops::Bound;
+use std::mem;
 
-// Copies the rules of the registers in a mask, one after another.
-#[inline(never)]
-#[tactic(auto, using(crate::proofs::Marked::copied_on, crate::proofs::Marked::copied_next))]
-fn copy_each<'a>(row: &Row<'a>, copy: &mut Row<'a>, mask: u128) -> Result<(), AllocError>
-    requires { SameUnset mask copy.old.registers row.now.registers }
-    ensures { OnOk result (CopiedUpTo 128 row.now.registers copy.old.registers copy.new.registers) }
-{
-    let mut place = 0;
-    'slots: while let Some(register) = next_in(mask, place) {
-        copy.ascends();
-        copy.copy_rule(row, register as u16)?;
-        place = register + 1;
-    }
-    Ok(())
-}
-
-// The same, mostly by slots alone.
-#[inline(always)]
-fn copy_near<'a>(row: &Row<'a>, copy: &mut Row<'a>, mask: u128) -> Result<(), AllocError>
-    requires { SameUnset mask copy.old.registers row.now.registers }
-    ensures { OnOk result (CopiedUpTo 128 row.now.registers copy.old.registers copy.new.registers) }
-{
-    if copy.copy_among(row, mask) {
-        return Ok(());
-    }
-    copy_each(row, copy, mask)
-}
-
-// Copies the rules of the registers in a tree.
-#[inline(never)]
-fn copy_listed<'a>(
-    row: &Row<'a>,
-    copy: &mut Row<'a>,
-    marked: &BTreeMap<u16, RegRule<'_>>,
-) -> Result<(), AllocError>
-    requires { SameUnlisted 0 marked.now.entries copy.old.registers row.now.registers }
-    ensures { OnOk result ((r : ℕ) → rule_in copy.new.registers r ≡ rule_in row.now.registers r) }
-{
-    let mut marks = marked.iter();
-    'marks: while let Some((register, _)) = marks.next() {
-        copy.ascends();
-        copy.set(*register, row.rule(*register))?;
-    }
-    Ok(())
-}
-
-// The same of a tree that is mostly empty.
-#[inline(always)]
-fn copy_far<'a>(
-    row: &Row<'a>,
-    copy: &mut Row<'a>,
-    marked: &BTreeMap<u16, RegRule<'_>>,
-) -> Result<(), AllocError>
-    requires { SameUnlisted 0 marked.now.entries copy.old.registers row.now.registers }
-    ensures { OnOk result ((r : ℕ) → rule_in copy.new.registers r ≡ rule_in row.now.registers r) }
-{
-    if marked.is_empty() {
-        return Ok(());
-    }
-    copy_listed(row, copy, marked)
-}
-
-/// Makes a row that differs in marked registers alone a copy of another one.
-#[inline(always)]
-#[tactic(auto, using(crate::proofs::Lent::SameRows::same_rows))]
-pub(crate) fn copy_marked<'a>(
-    row: &Row<'a>,
-    copy: &mut Row<'a>,
-    marks: &Marks<'a>,
-) -> Result<(), AllocError>
-    requires { SameUnmarked marks.now copy.old.registers row.now.registers }
-    ensures { OnOk result (copy.new ≡ row.now) }
-{
-    if !marks.watched {
-        return copy.become_copy(row);
-    }
-    if marks.near != 0 {
-        copy_near(row, copy, marks.near)?;
-    }
-    copy_far(row, copy, &marks.far)?;
-    copy.copy_cfa(row);
-    copy.ascends();
-    row.ascends();
-    Ok(())
-}
-
-// The first register behind another one, or from the first one on, that is in a tree and whose rule differs.
-#[inline(never)]
-fn next_listed_difference(
-    kept: &Row<'_>,
-    row: &Row<'_>,
-    marked: &BTreeMap<u16, RegRule<'_>>,
-    behind: Option<u16>,
-) -> Option<u16>
-    requires marked { AreSpecified 128 marked.now.entries }
-    requires same { SameUnlisted (place_behind behind) marked.now.entries kept.now.registers row.now.registers }
-    ensures { FirstDifference (place_behind behind) kept.now.registers row.now.registers result }
-{
-    let mut marks = marked.range((start_behind(behind), Bound::Unbounded));
-    'marks: while let Some((register, _)) = marks.next() {
-        if !kept.has_same_rule(row, *register) {
-            return Some(*register);
-        }
-    }
-    None
-}
-
-/// The same of a tree that is mostly empty.
-#[inline(always)]
-pub(crate) fn next_far_difference(
-    kept: &Row<'_>,
-    row: &Row<'_>,
-    marked: &BTreeMap<u16, RegRule<'_>>,
-    behind: Option<u16>,
-) -> Option<u16>
-    requires marked { AreSpecified 128 marked.now.entries }
-    requires same { SameUnlisted (place_behind behind) marked.now.entries kept.now.registers row.now.registers }
-    ensures { FirstDifference (place_behind behind) kept.now.registers row.now.registers result }
-{
-    if marked.is_empty() {
-        return None;
-    }
-    next_listed_difference(kept, row, marked, behind)
-}
-
-/// A row that was kept. Which registers were set since in another one, which was a copy of it, is known, so that both are
-/// compared, and each made a copy of the other, by these alone.
+/// A row that was kept beside the current one. Where that is watched, all registers that were set since are known, so that both
+/// are compared, and each made a copy of the other, by these alone.
 #[derive(Drop)]
 pub(crate) struct KeptRow<'a> {
     pub(crate) row: Row<'a>,
-    pub(crate) marks: Marks<'a>,
+    pub(crate) changed: RegisterSet<'a>,
+    pub(crate) watched: bool,
 }
 
 impl<'a> KeptRow<'a> {
     /// Nothing is watched until `keep`.
     pub(crate) fn none(alloc: Global) -> KeptRow<'a>
         ensures row { result.row ≡ blank }
-        ensures watched { result.marks.watched ≡ false }
-        ensures so { MarksSo result.marks }
+        ensures watched { result.watched ≡ false }
     {
         KeptRow {
             row: Row::blank(alloc),
-            marks: Marks::none(alloc),
+            changed: RegisterSet::new(alloc),
+            watched: false,
         }
     }
 
-    /// Whether it is known which registers were set since.
+    /// Marks a register of the current row that is set next, or answers want of memory.
     #[inline(always)]
-    pub(crate) fn is_watched(&self) -> bool
-        ensures { result ≡ self.now.marks.watched }
-    {
-        self.marks.watched
-    }
-
-    /// Nothing is watched any more.
-    #[inline(always)]
-    pub(crate) fn forget(&mut self)
-        requires { MarksSo self.old.marks }
+    #[tactic(auto, using(crate::proofs::Marked::marked_so))]
+    pub(crate) fn mark(&mut self, register: u16) -> Result<(), AllocError>
         ensures row { self.new.row ≡ self.old.row }
-        ensures watched { self.new.marks.watched ≡ false }
-        ensures so { MarksSo self.new.marks }
+        ensures watched { self.new.watched ≡ self.old.watched }
+        ensures same { OnErr result (self.new ≡ self.old) }
+        ensures still { (current : List (ℕ × TheRule)) → KeptSo self.old current → KeptSo self.new current }
+        ensures marked { OnOk result ((current : List (ℕ × TheRule)) (rule : TheRule) → AreSpecified 0 current → KeptSo self.old current → KeptSo self.new (put register rule current)) }
     {
-        self.marks.forget();
-    }
-
-    /// Keeps a row, or answers want of memory. What is kept is some row then.
-    #[inline(always)]
-    pub(crate) fn keep(&mut self, row: &Row<'a>) -> Result<(), AllocError>
-        requires { KeptSo self.old.marks self.old.row.registers row.now.registers }
-        ensures ok { OnOk result (self.new.row ≡ row.now) }
-        ensures watched { OnOk result (IsTrue self.new.marks.watched) }
-        ensures err { OnErr result (self.new.marks.watched ≡ false) }
-        ensures so { KeptSo self.new.marks self.new.row.registers row.now.registers }
-    {
-        let copied = copy_marked(row, &mut self.row, &self.marks);
-        if copied.is_err() {
-            self.marks.forget();
-            return copied;
+        if register < NEAR || self.watched {
+            return self.changed.add(register);
         }
-        self.marks.begin();
-        copied
+        Ok(())
     }
 
-    /// The least register to which a row gives another rule than the kept one, of those behind a given one where there is such;
-    /// or none.
+    /// Gives a register of the current row a rule, or answers want of memory.
     #[inline(always)]
-    pub(crate) fn next_difference(&self, row: &Row<'_>, behind: Option<u16>) -> Option<u16>
-        requires { KeptSo self.now.marks self.now.row.registers row.now.registers }
-        ensures first { FirstDifference (place_behind behind) self.now.row.registers row.now.registers result }
+    pub(crate) fn set(
+        &mut self,
+        current: &mut Row<'a>,
+        register: u16,
+        rule: RegRule<'a>,
+    ) -> Result<(), AllocError>
+        requires { KeptSo self.old current.old.registers }
+        ensures ok { OnOk result (current.new ≡ with_rule register rule.entry current.old) }
+        ensures err { OnErr result (current.new ≡ current.old) }
+        ensures row { self.new.row ≡ self.old.row }
+        ensures so { KeptSo self.new current.new.registers }
+    {
+        self.mark(register)?;
+        current.ascends();
+        current.set(register, rule)?;
+        Ok(())
+    }
+
+    /// Watches the current row, which is the kept one. Takes no memory.
+    #[inline(always)]
+    pub(crate) fn begin(&mut self)
+        ensures row { self.new.row ≡ self.old.row }
+        ensures watched { IsTrue self.new.watched }
+        ensures so { KeptSo self.new self.old.row.registers }
+    {
+        self.changed.clear();
+        self.watched = true;
+    }
+
+    /// Keeps the current row, or answers want of memory. What is kept is some row then.
+    #[inline(always)]
+    pub(crate) fn keep(&mut self, current: &Row<'a>) -> Result<(), AllocError>
+        requires { KeptSo self.old current.now.registers }
+        ensures ok { OnOk result (self.new.row ≡ current.now) }
+        ensures watched { OnOk result (IsTrue self.new.watched) }
+        ensures err { OnErr result (self.new.watched ≡ false) }
+        ensures so { KeptSo self.new current.now.registers }
+    {
+        if mem::replace(&mut self.watched, false) {
+            self.row.become_copy_among(current, &self.changed)?;
+        } else {
+            self.row.become_copy(current)?;
+        }
+        self.begin();
+        Ok(())
+    }
+
+    /// Makes the current row a copy of another one that was kept beside it too, or answers want of memory.
+    #[inline(always)]
+    pub(crate) fn go_back(
+        &mut self,
+        current: &mut Row<'a>,
+        saved: &KeptRow<'a>,
+    ) -> Result<(), AllocError>
+        requires watched { IsTrue saved.now.watched }
+        requires saved { KeptSo saved.now current.old.registers }
+        requires so { KeptSo self.old current.old.registers }
+        ensures ok { OnOk result (current.new ≡ saved.now.row) }
+        ensures row { self.new.row ≡ self.old.row }
+        ensures so { KeptSo self.new current.new.registers }
+    {
+        let watched = mem::replace(&mut self.watched, false);
+        if watched {
+            self.changed.add_all(&saved.changed)?;
+        }
+        current.become_copy_among(&saved.row, &saved.changed)?;
+        self.watched = watched;
+        Ok(())
+    }
+
+    /// The least register to which the current row gives another rule than the kept one, of those behind a given one where
+    /// there is such; or none.
+    #[inline(always)]
+    pub(crate) fn next_difference(&self, current: &Row<'_>, behind: Option<u16>) -> Option<u16>
+        requires { KeptSo self.now current.now.registers }
+        ensures first { FirstDifference (place_behind behind) self.now.row.registers current.now.registers result }
         ensures ascending { AreSpecified 0 self.now.row.registers }
-        ensures other_ascending { AreSpecified 0 row.now.registers }
+        ensures other_ascending { AreSpecified 0 current.now.registers }
     {
-        let (kept, marks) = (&self.row, &self.marks);
-        kept.ascends();
-        row.ascends();
-        if !marks.watched {
-            return kept.next_difference(row, behind);
+        if self.watched {
+            return self
+                .row
+                .next_difference_among(current, &self.changed, behind);
         }
-        if marks.near == 0 {
-            return next_far_difference(kept, row, &marks.far, behind);
-        }
-        if let Some(register) = kept.next_near_difference(row, marks.near, place_behind(behind)) {
-            return Some(register);
-        }
-        next_far_difference(kept, row, &marks.far, behind)
+        self.row.next_difference(current, behind)
     }
 
     // Whether no register has another rule. Out of line: it is asked where the CFA's rules are the same alone.
     #[inline(never)]
-    fn has_same_registers(&self, row: &Row<'_>) -> bool
-        requires { KeptSo self.now.marks self.now.row.registers row.now.registers }
-        ensures { IsTrue result ↔ (self.now.row.registers ≡ row.now.registers) }
+    fn has_same_registers(&self, current: &Row<'_>) -> bool
+        requires { KeptSo self.now current.now.registers }
+        ensures { IsTrue result ↔ (self.now.row.registers ≡ current.now.registers) }
     {
-        self.next_difference(row, None).is_none()
+        self.next_difference(current, None).is_none()
     }
 
-    /// Whether a row is the kept one.
+    /// Whether the current row is the kept one.
     #[tactic(auto, using(crate::proofs::Marked::kept_exactly))]
     #[inline(always)]
-    pub(crate) fn is_same(&self, row: &Row<'_>) -> bool
-        requires { KeptSo self.now.marks self.now.row.registers row.now.registers }
-        ensures { IsTrue result ↔ (self.now.row ≡ row.now) }
+    pub(crate) fn is_same(&self, current: &Row<'_>) -> bool
+        requires { KeptSo self.now current.now.registers }
+        ensures { IsTrue result ↔ (self.now.row ≡ current.now) }
     {
-        self.row.cfa_rule().is_same(row.cfa_rule()) && self.has_same_registers(row)
+        self.row.cfa_rule().is_same(current.cfa_rule()) && self.has_same_registers(current)
     }
 }

@@ -2,6 +2,7 @@
 #![tactic(auto)]
 
 mod advance;
+mod among;
 mod behind;
 mod cfa;
 mod coverage;
@@ -19,7 +20,6 @@ mod laws;
 mod lead;
 mod look_up;
 mod machine;
-mod marks;
 mod masked;
 mod near_slots;
 mod next_row;
@@ -38,7 +38,6 @@ mod states;
 mod steps;
 mod tree;
 mod turn;
-mod watched;
 
 pub use execution::LocatedRow;
 pub use instr::{Factors, Instr};

@@ -1,7 +1,7 @@
 //! Registers of a mask that get the rules which others give them.
 
 ghost use Rattle.std.specs.Prelude.{◌≡◌, false, IsTrue};
-ghost use Rattle.dw_cfa.specs.Inner.{Difference.SameUnset, Entries.{EntriesSo, entries_of}, Marks.CopiedUpTo};
+ghost use Rattle.dw_cfa.specs.Inner.{Difference.SameUnset, Entries.{EntriesSo, entries_of}, Among.CopiedUpTo};
 
 use crate::entries::Entries;
 use crate::near_slots::copy_slots;

@@ -1,15 +1,12 @@
-//! Sets of registers, and rows that differ in these alone (6.4.1).
+//! Sets of registers (6.4.1).
 
-ghost use Rattle.std.specs.Prelude.{◌≡◌, ◌||◌, ℕ, false, true, nat_eq, OnOk, OnErr};
-ghost use Rattle.dw_cfa.specs.{Agreement.IsAgreed, Difference.{FirstDifference, place_behind}, RegisterSets.{AgreesBeside, SameBeside, has}, Rows.AreSpecified};
-ghost use Rattle.dw_cfa.specs.Inner.{Agreement.is_agreed, Entries.{LeavesAmong, LeavesAt}, Marks.{in_mask, in_tree}};
+ghost use Rattle.std.specs.Prelude.{◌≡◌, ◌||◌, ◌≤◌, ℕ, false, true, nat_eq, OnOk, OnErr};
+ghost use Rattle.dw_cfa.specs.{RegisterSets.has, Rows.AreSpecified, Inner.Among.in_tree};
 
-use crate::behind::place_behind;
-use crate::kept_row::next_far_difference;
-use crate::marks::Marks;
-use crate::near_slots::next_in;
-use crate::row::Row;
-use crate::rule::{CfaRule, RegRule};
+use crate::entries::NEAR;
+use crate::near_slots::bit_of;
+use crate::rule::RegRule;
+use crate::tree::set_in_tree;
 use std::alloc::{AllocError, Global};
 use std::collections::BTreeMap;
 use std::marker::Model;
@@ -17,139 +14,94 @@ use std::marker::Model;
 /// A set of registers, by their numbers. A contract sees which are in it.
 #[derive(Drop)]
 pub struct RegisterSet<'a> {
-    marks: Marks<'a>,
+    // Those below 128 in a mask, and the others in a tree, where each has a rule of no meaning.
+    pub(crate) near: u128,
+    pub(crate) far: BTreeMap<u16, RegRule<'a>>,
 }
 
 impl<'a> Model for RegisterSet<'a> {
-    ghost use Rattle.std.specs.Prelude.{IsTrue};
-    ghost use Rattle.dw_cfa.specs.{RegisterSets.Registers, Inner.Marks.{MarksSo, marked}};
+    ghost use Rattle.dw_cfa.specs.{RegisterSets.Registers, Rows.AreSpecified};
 
     ghost Value = { Registers };
 
-    ghost view = { λ s. marked s.marks };
+    ghost view = { λ s. record { near = s.near; far = s.far.entries } };
 
-    ghost invariant = { λ s. IsTrue s.marks.watched × MarksSo s.marks };
+    ghost invariant = { λ s. AreSpecified 128 s.far.entries };
 }
 
 impl<'a> RegisterSet<'a> {
     /// The set of none. Takes no memory.
+    #[tactic(auto, using(crate::proofs::RegisterSets::none_in))]
     pub fn new(alloc: Global) -> RegisterSet<'a>
         ensures { (r : ℕ) → has result r ≡ false }
     {
-        let mut marks = Marks::none(alloc);
-        marks.begin();
-        RegisterSet { marks }
+        RegisterSet {
+            near: 0,
+            far: BTreeMap::new(alloc),
+        }
     }
 
     /// Takes all out. Takes no memory.
+    #[inline(always)]
+    #[tactic(auto, using(crate::proofs::RegisterSets::none_in))]
     pub fn clear(&mut self)
         ensures { (r : ℕ) → has self.new r ≡ false }
     {
-        self.marks.begin();
+        self.near = 0;
+        if !self.far.is_empty() {
+            self.far.clear();
+        }
+    }
+
+    #[inline(never)]
+    #[tactic(auto, using(crate::proofs::Slots::put_so, crate::proofs::Lent::RowLists::lower, crate::proofs::Marked::far_added))]
+    fn add_far(&mut self, register: u16) -> Result<(), AllocError>
+        requires { 128 ≤ register }
+        ensures added { OnOk result ((r : ℕ) → has self.new r ≡ (nat_eq r register || has self.old r)) }
+        ensures same { OnErr result (self.new ≡ self.old) }
+    {
+        set_in_tree(&mut self.far, register, RegRule::SameValue)?;
+        Ok(())
     }
 
     /// Puts a register in, or answers want of memory.
+    #[inline(always)]
+    #[tactic(auto, using(crate::proofs::Marked::near_added))]
     pub fn add(&mut self, register: u16) -> Result<(), AllocError>
         ensures added { OnOk result ((r : ℕ) → has self.new r ≡ (nat_eq r register || has self.old r)) }
         ensures same { OnErr result (self.new ≡ self.old) }
     {
-        self.marks.mark(register)
+        if register >= NEAR {
+            return self.add_far(register);
+        }
+        self.near |= bit_of(register);
+        Ok(())
+    }
+
+    // Puts the registers in a tree in.
+    #[tactic(auto, using(crate::proofs::Words::err_from_is_err_and, crate::proofs::RegisterSets::none_else))]
+    fn add_each(&mut self, far: &BTreeMap<u16, RegRule<'_>>) -> Result<(), AllocError>
+        requires { AreSpecified 128 far.now.entries }
+        ensures added { OnOk result ((r : ℕ) → has self.new r ≡ (in_tree far.now.entries r || has self.old r)) }
+        ensures more { OnErr result ((r : ℕ) → has self.old r ≡ true → has self.new r ≡ true) }
+        ensures others { OnErr result ((r : ℕ) → has self.new r ≡ true → (in_tree far.now.entries r || has self.old r) ≡ true) }
+    {
+        let mut others = far.iter();
+        'registers: while let Some((register, _)) = others.next() {
+            self.add(*register)?;
+        }
+        Ok(())
     }
 
     /// Puts the registers of another set in, or answers want of memory. Behind that some of them may be in, no other register is
     /// new, and none that was in is out.
+    #[inline(always)]
     pub fn add_all(&mut self, other: &RegisterSet<'_>) -> Result<(), AllocError>
         ensures added { OnOk result ((r : ℕ) → has self.new r ≡ (has other.now r || has self.old r)) }
         ensures more { OnErr result ((r : ℕ) → has self.old r ≡ true → has self.new r ≡ true) }
         ensures others { OnErr result ((r : ℕ) → has self.new r ≡ true → (has other.now r || has self.old r) ≡ true) }
     {
-        self.marks.near |= other.marks.near;
-        self.marks.mark_all(&other.marks.far)
-    }
-}
-
-// Drops a register from a row, if another row gives it another rule.
-#[tactic(auto, using(crate::proofs::RegisterSets::dropped_at, crate::proofs::RegisterSets::stays_at))]
-fn agree_at(row: &mut Row<'_>, other: &Row<'_>, register: u16) -> Result<(), AllocError>
-    ensures cfa { row.new.cfa ≡ row.old.cfa }
-    ensures rules { OnOk result (LeavesAt (is_agreed other.now.registers) register row.old.registers row.new.registers) }
-{
-    if row.has_same_rule(other, register) {
-        return Ok(());
-    }
-    row.ascends();
-    row.set(register, RegRule::Unspecified)
-}
-
-// The same of the registers in a mask.
-fn agree_near(row: &mut Row<'_>, other: &Row<'_>, mask: u128) -> Result<(), AllocError>
-    ensures cfa { row.new.cfa ≡ row.old.cfa }
-    ensures rules { OnOk result (LeavesAmong (in_mask mask 128) (is_agreed other.now.registers) row.old.registers row.new.registers) }
-{
-    let mut place = 0;
-    'slots: while let Some(register) = next_in(mask, place) {
-        agree_at(row, other, register as u16)?;
-        place = register + 1;
-    }
-    Ok(())
-}
-
-// The same of the registers in a tree.
-fn agree_far(
-    row: &mut Row<'_>,
-    other: &Row<'_>,
-    far: &BTreeMap<u16, RegRule<'_>>,
-) -> Result<(), AllocError>
-    requires { AreSpecified 128 far.now.entries }
-    ensures cfa { row.new.cfa ≡ row.old.cfa }
-    ensures rules { OnOk result (LeavesAmong (in_tree far.now.entries) (is_agreed other.now.registers) row.old.registers row.new.registers) }
-{
-    let mut registers = far.iter();
-    'registers: while let Some((register, _)) = registers.next() {
-        agree_at(row, other, *register)?;
-    }
-    Ok(())
-}
-
-impl<'a> Row<'a> {
-    /// What `next_difference` answers, where both rows give all registers outside a set the same rules: those in the set are
-    /// looked at alone. Takes no memory.
-    pub fn next_difference_among(
-        &self,
-        other: &Row<'_>,
-        registers: &RegisterSet<'_>,
-        behind: Option<u16>,
-    ) -> Option<u16>
-        requires { SameBeside registers.now self.now other.now }
-        ensures first { FirstDifference (place_behind behind) self.now.registers other.now.registers result }
-        ensures ascending { AreSpecified 0 self.now.registers }
-        ensures other_ascending { AreSpecified 0 other.now.registers }
-    {
-        self.ascends();
-        other.ascends();
-        let marks = &registers.marks;
-        if let Some(register) = self.next_near_difference(other, marks.near, place_behind(behind)) {
-            return Some(register);
-        }
-        next_far_difference(self, other, &marks.far, behind)
-    }
-
-    /// Keeps what another row has too, as `agree` does, where it gives no register outside a set a rule that the other row does
-    /// not give it: those in the set are looked at alone. Behind want of memory it is some row.
-    pub fn agree_among(
-        &mut self,
-        other: &Row<'_>,
-        registers: &RegisterSet<'_>,
-    ) -> Result<(), AllocError>
-        requires { AgreesBeside registers.now self.old other.now }
-        ensures { OnOk result (IsAgreed self.old other.now self.new) }
-    {
-        agree_near(self, other, registers.marks.near)?;
-        agree_far(self, other, &registers.marks.far)?;
-        self.ascends();
-        if !self.cfa_rule().is_same(other.cfa_rule()) {
-            self.set_cfa(CfaRule::Unset);
-        }
-        Ok(())
+        self.near |= other.near;
+        self.add_each(&other.far)
     }
 }

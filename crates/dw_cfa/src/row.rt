@@ -3,7 +3,7 @@
 ghost use Rattle.std.specs.{Prelude.{◌≡◌, ◌<◌, ℤ, [], ◌∷◌, false, IfOk, OnOk, OnErr, MatchOption, IsTrue, ◌↔◌}, Iterator.{YieldsFirst, item_count}};
 ghost use Rattle.dw_cfa.specs.{Agreement.{IsAgreed, kept}, Difference.{FirstDifference, place_behind}};
 ghost use Rattle.dw_cfa.specs.{Rows.{AreSpecified, rule, rule_in, blank}, declared.rule.RegRule.TheVariants.Offset};
-ghost use Rattle.dw_cfa.specs.Inner.{Difference.{FirstBelow, SameUnset}, LookUp.SpecifiesIn, Marks.CopiedUpTo, Rows.{with_cfa, with_rule}};
+ghost use Rattle.dw_cfa.specs.Inner.{Difference.{FirstBelow, SameUnset}, LookUp.SpecifiesIn, Among.CopiedUpTo, Rows.{with_cfa, with_rule}};
 
 use crate::entries::{Entries, NEAR};
 use crate::near_slots::{next_in, next_near};
@@ -143,11 +143,9 @@ impl<'a> Row<'a> {
     pub fn copied(&self) -> Result<Row<'a>, AllocError>
         ensures { IfOk result (λ row. row ≡ self.now) }
     {
-        Ok(Row {
-            cfa: self.cfa.copied(),
-            entries: self.entries.copied(self.alloc)?,
-            alloc: self.alloc,
-        })
+        let mut row = Row::blank(self.alloc);
+        row.become_copy(self)?;
+        Ok(row)
     }
 
     /// The CFA's rule.
@@ -291,15 +289,6 @@ impl<'a> Row<'a> {
         ensures stays { result ≡ false → self.new ≡ self.old }
     {
         self.entries.copy_among(&other.entries, mask)
-    }
-
-    /// Makes it a copy of another row, in the room that is there, or answers want of memory. It is some row then.
-    pub(crate) fn become_copy(&mut self, other: &Row<'a>) -> Result<(), AllocError>
-        ensures { OnOk result (self.new ≡ other.now) }
-    {
-        self.entries.become_copy(&other.entries, self.alloc)?;
-        self.copy_cfa(other);
-        Ok(())
     }
 
     /// Keeps what another row has too: the CFA's rule, and the registers with their rules. Takes no memory.

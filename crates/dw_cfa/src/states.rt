@@ -2,13 +2,12 @@
 
 ghost use Rattle.std.specs.Prelude.{◌≡◌, ◌<◌, [], length, reverse, None, OnOk, IfOk, IsTrue, ◌↔◌, false};
 ghost use Rattle.dw_cfa.specs.{Difference.{FirstDifference, place_behind}, Rows.{AreSpecified, blank, rule_in}};
-ghost use Rattle.dw_cfa.specs.Inner.{Rows.{with_cfa, with_rule}, States.{first_if, BeganWith, Restored, TakenBack, remembering, rows_before, with_row}};
+ghost use Rattle.dw_cfa.specs.Inner.{Kept.KeptSo, Rows.{with_cfa, with_rule}, States.{first_if, BeganWith, Restored, TakenBack, remembering, rows_before, with_row}};
 
 use crate::entries::NEAR;
 use crate::kept_row::KeptRow;
 use crate::row::Row;
 use crate::rule::{CfaRule, RegRule};
-use crate::watched::WatchedRow;
 use smallvec::SmallVec;
 use std::alloc::{AllocError, Global};
 use std::marker::Model;
@@ -36,7 +35,8 @@ impl<'a> Default for Undo<'a> {
 /// tracked.
 #[derive(Drop)]
 pub(crate) struct States<'a> {
-    rows: WatchedRow<'a>,
+    row: Row<'a>,
+    kept: KeptRow<'a>,
     undo: SmallVec<Undo<'a>, MOST_LISTED>,
     saved: KeptRow<'a>,
     depth: usize,
@@ -46,29 +46,32 @@ pub(crate) struct States<'a> {
 
 impl<'a> Model for States<'a> {
     ghost use Rattle.std.specs.Prelude.{reverse};
-    ghost use Rattle.dw_cfa.specs.Inner.States.{Held, StatesSo, held, rows_before};
+    ghost use Rattle.dw_cfa.specs.Inner.{Kept.KeptSo, States.{Held, StatesSo, held, rows_before}};
 
     ghost Value = { Held };
 
-    ghost view = { λ s. held s.tracked s.saved s.rows.row s.rows.kept s.undo.items };
+    ghost view = { λ s. held s.tracked s.saved s.row s.kept.row s.undo.items };
 
-    ghost invariant = { λ s. StatesSo s.tracked s.is_listed s.saved s.depth (rows_before s.rows.row.registers (reverse s.undo.items)) s.undo.items };
+    ghost invariant = { λ s. KeptSo s.kept s.row.registers × StatesSo s.tracked s.is_listed s.saved s.depth (rows_before s.row.registers (reverse s.undo.items)) s.undo.items };
 }
 
 // Takes changes back up to the row that was remembered last, and answers the rule that the CFA had there.
 #[inline(never)]
 #[tactic(auto, using(crate::proofs::StatesLaws::change_behind, crate::proofs::StatesLaws::last_first, crate::proofs::StatesLaws::no_items))]
 fn take_back<'a>(
-    rows: &mut WatchedRow<'a>,
+    row: &mut Row<'a>,
+    kept: &mut KeptRow<'a>,
     undo: &mut SmallVec<Undo<'a>, MOST_LISTED>,
 ) -> Result<Option<CfaRule<'a>>, AllocError>
-    ensures ok { IfOk result (λ found. TakenBack found rows.old.row (reverse undo.old.items) rows.new.row (reverse undo.new.items)) }
-    ensures kept { rows.new.kept ≡ rows.old.kept }
+    requires { KeptSo kept.old row.old.registers }
+    ensures ok { IfOk result (λ found. TakenBack found row.old (reverse undo.old.items) row.new (reverse undo.new.items)) }
+    ensures kept { kept.new.row ≡ kept.old.row }
+    ensures so { KeptSo kept.new row.new.registers }
 {
     'changes: while let Some(change) = undo.pop() {
         match change {
             Undo::Remembered(cfa) => return Ok(Some(cfa)),
-            Undo::Register(register, rule) => rows.set(register, rule)?,
+            Undo::Register(register, rule) => kept.set(row, register, rule)?,
         }
     }
     Ok(None)
@@ -78,55 +81,66 @@ fn take_back<'a>(
 #[inline(always)]
 fn take_listed<'a>(
     is_listed: bool,
-    rows: &mut WatchedRow<'a>,
+    row: &mut Row<'a>,
+    kept: &mut KeptRow<'a>,
     undo: &mut SmallVec<Undo<'a>, MOST_LISTED>,
 ) -> Result<Option<CfaRule<'a>>, AllocError>
-    requires { is_listed ≡ false → undo.old.items ≡ [] }
-    ensures ok { IfOk result (λ found. TakenBack found rows.old.row (reverse undo.old.items) rows.new.row (reverse undo.new.items)) }
-    ensures kept { rows.new.kept ≡ rows.old.kept }
+    requires listed { is_listed ≡ false → undo.old.items ≡ [] }
+    requires so { KeptSo kept.old row.old.registers }
+    ensures ok { IfOk result (λ found. TakenBack found row.old (reverse undo.old.items) row.new (reverse undo.new.items)) }
+    ensures kept { kept.new.row ≡ kept.old.row }
+    ensures so { KeptSo kept.new row.new.registers }
 {
     if !is_listed {
         return Ok(None);
     }
-    take_back(rows, undo)
+    take_back(row, kept, undo)
 }
 
 // Takes all changes of registers back.
 #[inline(never)]
 #[tactic(auto, using(crate::proofs::StatesLaws::back_mark, crate::proofs::StatesLaws::back_none, crate::proofs::StatesLaws::change_behind, crate::proofs::StatesLaws::no_items))]
 fn take_all_back<'a>(
-    rows: &mut WatchedRow<'a>,
+    row: &mut Row<'a>,
+    kept: &mut KeptRow<'a>,
     undo: &mut SmallVec<Undo<'a>, MOST_LISTED>,
 ) -> Result<(), AllocError>
-    ensures registers { OnOk result (rows.new.row.registers ≡ (rows_before rows.old.row.registers (reverse undo.old.items)).1) }
-    ensures kept { rows.new.kept ≡ rows.old.kept }
+    requires { KeptSo kept.old row.old.registers }
+    ensures registers { OnOk result (row.new.registers ≡ (rows_before row.old.registers (reverse undo.old.items)).1) }
+    ensures kept { kept.new.row ≡ kept.old.row }
+    ensures so { KeptSo kept.new row.new.registers }
 {
     'changes: while let Some(change) = undo.pop() {
         match change {
             Undo::Remembered(_) => {}
-            Undo::Register(register, rule) => rows.set(register, rule)?,
+            Undo::Register(register, rule) => kept.set(row, register, rule)?,
         }
     }
     Ok(())
 }
 
 // Brings the initial row back.
+#[tactic(auto, using(crate::proofs::Marked::unwatched))]
 fn first_again<'a>(
     tracked: bool,
-    rows: &mut WatchedRow<'a>,
+    row: &mut Row<'a>,
+    kept: &mut KeptRow<'a>,
     undo: &mut SmallVec<Undo<'a>, MOST_LISTED>,
     initial: &Row<'a>,
 ) -> Result<(), AllocError>
-    requires { BeganWith initial.now (first_if tracked (rows_before rows.old.row.registers (reverse undo.old.items)).1) }
-    ensures row { OnOk result (rows.new.row ≡ initial.now) }
-    ensures kept { rows.new.kept ≡ rows.old.kept }
+    requires began { BeganWith initial.now (first_if tracked (rows_before row.old.registers (reverse undo.old.items)).1) }
+    requires so { KeptSo kept.old row.old.registers }
+    ensures row { OnOk result (row.new ≡ initial.now) }
+    ensures kept { kept.new.row ≡ kept.old.row }
+    ensures so { KeptSo kept.new row.new.registers }
 {
     if tracked {
-        take_all_back(rows, undo)?;
-        rows.set_cfa(initial.cfa());
+        take_all_back(row, kept, undo)?;
+        row.set_cfa(initial.cfa());
         return Ok(());
     }
-    rows.become_copy(initial)
+    kept.watched = false;
+    row.become_copy(initial)
 }
 
 // Empties the list, which is mostly empty.
@@ -163,7 +177,8 @@ impl<'a> States<'a> {
         ensures { result ≡ record { row = row.entry; stack = []; first = first_if tracked row.entry.registers; kept = blank } }
     {
         States {
-            rows: WatchedRow::new(alloc, row),
+            row,
+            kept: KeptRow::none(alloc),
             undo: SmallVec::new(alloc),
             saved: KeptRow::none(alloc),
             depth: 0,
@@ -176,21 +191,21 @@ impl<'a> States<'a> {
     pub(crate) fn row(&self) -> &Row<'a>
         ensures { result.now ≡ self.now.row }
     {
-        self.rows.row()
+        &self.row
     }
 
     /// The current row alone.
     pub(crate) fn into_row(self) -> Row<'a>
         ensures { result ≡ self.entry.row }
     {
-        self.rows.into_row()
+        self.row
     }
 
     /// The row that was kept, and before `keep` some row.
     pub(crate) fn kept(&self) -> &Row<'a>
         ensures { result.now ≡ self.now.kept }
     {
-        self.rows.kept()
+        &self.kept.row
     }
 
     /// Keeps the current row, or answers want of memory. What is kept is some row then.
@@ -199,7 +214,7 @@ impl<'a> States<'a> {
         ensures ok { OnOk result (self.new.kept ≡ self.old.row) }
         ensures same { self.new ≡ record { row = self.old.row; stack = self.old.stack; first = self.old.first; kept = self.new.kept } }
     {
-        self.rows.keep()
+        self.kept.keep(&self.row)
     }
 
     /// Looks no more at what was set before, where the current row is the kept one. Takes no memory.
@@ -208,7 +223,7 @@ impl<'a> States<'a> {
         requires { self.old.kept ≡ self.old.row }
         ensures { self.new ≡ self.old }
     {
-        self.rows.keep_same();
+        self.kept.begin();
     }
 
     /// Whether the current row is the one that was kept.
@@ -216,7 +231,7 @@ impl<'a> States<'a> {
     pub(crate) fn is_kept(&self) -> bool
         ensures { IsTrue result ↔ (self.now.kept ≡ self.now.row) }
     {
-        self.rows.is_kept()
+        self.kept.is_same(&self.row)
     }
 
     /// The least register to which the current row gives another rule than the kept one, of those behind a given one where
@@ -227,7 +242,7 @@ impl<'a> States<'a> {
         ensures ascending { AreSpecified 0 self.now.kept.registers }
         ensures other_ascending { AreSpecified 0 self.now.row.registers }
     {
-        self.rows.next_difference(behind)
+        self.kept.next_difference(&self.row, behind)
     }
 
     /// Tracks changes no more: the first row is copied then, where `rewind` goes back to it.
@@ -238,12 +253,11 @@ impl<'a> States<'a> {
     }
 
     /// Remembers no row, and says whether changes are tracked from the current one on.
-    #[tactic(auto, using(crate::proofs::StatesLaws::begun_held, crate::proofs::StatesLaws::begun_so))]
     pub(crate) fn track(&mut self, tracked: bool)
         ensures { self.new ≡ record { row = self.old.row; stack = []; first = first_if tracked self.old.row.registers; kept = self.old.kept } }
     {
         self.undo.clear();
-        self.saved.forget();
+        self.saved.watched = false;
         self.depth = 0;
         self.tracked = tracked;
         self.is_listed = tracked;
@@ -259,7 +273,7 @@ impl<'a> States<'a> {
     pub(crate) fn set_cfa(&mut self, cfa: CfaRule<'a>)
         ensures { self.new ≡ with_row (with_cfa cfa.entry self.old.row) self.old }
     {
-        self.rows.set_cfa(cfa);
+        self.row.set_cfa(cfa);
     }
 
     // Lists the rule that a register has, and gives it another one.
@@ -270,11 +284,11 @@ impl<'a> States<'a> {
         ensures changed { OnOk result (self.new ≡ with_row (with_rule register rule.entry self.old.row) self.old) }
     {
         self.is_listed = true;
-        let row = self.rows.row();
-        row.ascends();
-        let older = row.rule(register);
+        self.row.ascends();
+        let older = self.row.rule(register);
         self.undo.push(Undo::Register(register, older))?;
-        self.rows.set(register, rule)
+        self.kept.set(&mut self.row, register, rule)?;
+        Ok(())
     }
 
     /// Gives a register a rule, or answers want of memory.
@@ -287,9 +301,10 @@ impl<'a> States<'a> {
         if self.is_listed {
             return self.change(register, rule);
         }
-        self.saved.marks.mark(register)?;
-        self.rows.row().ascends();
-        self.rows.set(register, rule)
+        self.saved.mark(register)?;
+        self.row.ascends();
+        self.kept.set(&mut self.row, register, rule)?;
+        Ok(())
     }
 
     // Gives a register the rule of a row, whatever that is. Out of line: room for a rule is cleared at each register else.
@@ -314,9 +329,11 @@ impl<'a> States<'a> {
         if self.is_listed {
             return self.set_rule_of(row, register);
         }
-        self.saved.marks.mark(register)?;
-        self.rows.row().ascends();
-        self.rows.copy_rule(row, register)
+        self.saved.mark(register)?;
+        self.kept.mark(register)?;
+        self.row.ascends();
+        self.row.copy_rule(row, register)?;
+        Ok(())
     }
 
     // Lists the current row as one that is remembered.
@@ -327,7 +344,7 @@ impl<'a> States<'a> {
         ensures kept { self.new.kept ≡ self.old.kept }
         ensures remembered { OnOk result (self.new ≡ remembering self.old) }
     {
-        let cfa = self.rows.row().cfa();
+        let cfa = self.row.cfa();
         self.is_listed = true;
         self.undo.push(Undo::Remembered(cfa))?;
         self.depth += 1;
@@ -341,12 +358,12 @@ impl<'a> States<'a> {
         ensures kept { self.new.kept ≡ self.old.kept }
         ensures remembered { OnOk result (self.new ≡ remembering self.old) }
     {
-        if !saves(self.tracked, self.depth, self.rows.row()) {
+        if !saves(self.tracked, self.depth, &self.row) {
             return self.list_row();
         }
         unlist(self.is_listed, &mut self.undo);
         self.is_listed = false;
-        self.saved.keep(self.rows.row())?;
+        self.saved.keep(&self.row)?;
         self.depth = 1;
         Ok(())
     }
@@ -357,25 +374,30 @@ impl<'a> States<'a> {
         ensures kept { self.new.kept ≡ self.old.kept }
         ensures restored { IfOk result (λ found. Restored found self.old self.new) }
     {
-        match take_listed(self.is_listed, &mut self.rows, &mut self.undo) {
+        match take_listed(
+            self.is_listed,
+            &mut self.row,
+            &mut self.kept,
+            &mut self.undo,
+        ) {
             Ok(Some(cfa)) => {
-                self.rows.set_cfa(cfa);
+                self.row.set_cfa(cfa);
                 self.depth -= 1;
                 self.is_listed = lists(self.tracked, &self.undo);
                 Ok(true)
             }
             Ok(None) => {
-                if !self.saved.is_watched() {
+                if !self.saved.watched {
                     return Ok(false);
                 }
-                let back = self.rows.go_back(&self.saved);
-                self.saved.forget();
+                let back = self.kept.go_back(&mut self.row, &self.saved);
+                self.saved.watched = false;
                 self.depth = 0;
                 back?;
                 Ok(true)
             }
             Err(error) => {
-                self.saved.forget();
+                self.saved.watched = false;
                 self.is_listed = self.tracked;
                 self.undo.clear();
                 self.depth = 0;
@@ -385,15 +407,20 @@ impl<'a> States<'a> {
     }
 
     /// Goes back to the initial row, which was the first, and remembers none.
-    #[tactic(auto, using(crate::proofs::Words::on_ok_weaker, crate::proofs::StatesLaws::rewound))]
     #[inline(always)]
     pub(crate) fn rewind(&mut self, initial: &Row<'a>) -> Result<(), AllocError>
         requires { BeganWith initial.now self.old.first }
         ensures kept { self.new.kept ≡ self.old.kept }
         ensures rewound { OnOk result ((self.new.row ≡ initial.now) × (self.new.stack ≡ []) × BeganWith initial.now self.new.first) }
     {
-        let taken = first_again(self.tracked, &mut self.rows, &mut self.undo, initial);
-        self.saved.forget();
+        let taken = first_again(
+            self.tracked,
+            &mut self.row,
+            &mut self.kept,
+            &mut self.undo,
+            initial,
+        );
+        self.saved.watched = false;
         self.is_listed = self.tracked;
         self.undo.clear();
         self.depth = 0;

@@ -9,22 +9,6 @@ use std::alloc::{AllocError, Global};
 use std::collections::{BTreeMap, btree_map};
 use std::ops::Bound;
 
-/// A tree once more.
-pub(crate) fn tree_of<'a>(
-    entries: &BTreeMap<u16, RegRule<'a>>,
-    alloc: Global,
-) -> Result<BTreeMap<u16, RegRule<'a>>, AllocError>
-    requires { AreSpecified 0 entries.now.entries }
-    ensures { IfOk result (λ tree. tree.entries ≡ entries.now.entries) }
-{
-    let mut tree = BTreeMap::new(alloc);
-    let mut rules = entries.iter();
-    'rules: while let Some((register, rule)) = rules.next() {
-        tree.insert(*register, rule.copied())?;
-    }
-    Ok(tree)
-}
-
 /// Gives a register a rule in a tree. Unspecified takes it out.
 #[tactic(auto, using(crate::proofs::WideRows::inserted_is, crate::proofs::WideRows::not_put))]
 pub(crate) fn set_in_tree<'a>(

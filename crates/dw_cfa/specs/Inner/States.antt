@@ -1,7 +1,7 @@
 -- How the code keeps remembered rows: by what was changed since, the last first. Beneath all others there may be one that is saved.
 use Rattle.std.specs.Prelude.{◌≡◌, ℕ, List, [], ◌∷◌, ◌++◌, Bool, true, false, Option, Some, None, IsTrue, length, reverse}
 use Rattle.dw_cfa.specs.{Rows.Rules, declared.kept_row.KeptRow.KeptRow, declared.rule.CfaRule.CfaRule, declared.rule.RegRule.RegRule}
-use Rattle.dw_cfa.specs.{declared.states.Undo.Undo, declared.states.Undo.TheVariants.{Remembered, Register}, Inner.Marks.KeptSo, Inner.Rows.put}
+use Rattle.dw_cfa.specs.{declared.states.Undo.Undo, declared.states.Undo.TheVariants.{Remembered, Register}, Inner.Kept.KeptSo, Inner.Rows.put}
 
 -- the current row, the remembered ones, the last first, the registers that all began with, where they can be brought back,
 -- and a row that was kept
@@ -35,7 +35,7 @@ saved_if true row = row ∷ []
 saved_if false row = []
 
 abbrev pub stacked : KeptRow → List Rules → List Rules
-stacked saved rows = rows ++ saved_if saved.marks.watched saved.row
+stacked saved rows = rows ++ saved_if saved.watched saved.row
 
 abbrev pub shown : Bool → KeptRow → Rules → Rules → List Rules × List (ℕ × RegRule) → Held
 shown tracked saved row kept before = record { row = row; stack = stacked saved before.0; first = first_if tracked before.1; kept = kept }
@@ -44,12 +44,12 @@ abbrev pub held : Bool → KeptRow → Rules → Rules → List Undo → Held
 held tracked saved row kept undo = shown tracked saved row kept (rows_before row.registers (reverse undo))
 
 -- so many rows are remembered; nothing was listed where no change is; no row is saved where changes are tracked; and before all
--- that is listed no register was set but the marked ones since a row was saved
+-- that is listed no register was set but the changed ones since a row was saved
 pub record StatesSo (tracked is_listed : Bool) (saved : KeptRow) (depth : ℕ) (before : List Rules × List (ℕ × RegRule)) (undo : List Undo) : Type 0 where
   pub count : depth ≡ length (stacked saved before.0)
   pub unlisted : is_listed ≡ false → (tracked ≡ false) × (undo ≡ [])
-  pub untracked : IsTrue saved.marks.watched → tracked ≡ false
-  pub since : KeptSo saved.marks saved.row.registers before.1
+  pub untracked : IsTrue saved.watched → tracked ≡ false
+  pub since : KeptSo saved before.1
 
 -- the registers that can be brought back are those of the initial row
 abbrev pub BeganWith : Rules → Option (List (ℕ × RegRule)) → Type 0

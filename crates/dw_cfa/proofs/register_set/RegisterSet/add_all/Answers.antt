@@ -1,14 +1,10 @@
-use Rattle.dw_cfa.proofs.{Words.marked, RegisterSets.{all_added, all_stay, no_others}}
+use Rattle.dw_cfa.proofs.RegisterSets.{all_added, all_stay, no_others}
 use Rattle.dw_cfa.proofs.register_set.RegisterSet.add_all.Goals as goal
 
-pub returns-clause-added : goal.returns-clause-added
-returns-clause-added c =
-    all_added c.mark_all.result c.self.inside.marks c.other.inside.marks c.args.self.now c.args.other.now (marked c.mark_all.new.self) c.self.view_is c.other.view_is c.other.invariant.1 c.mark_all.ensures.added
-
-pub returns-clause-more : goal.returns-clause-more
-returns-clause-more c =
-    all_stay c.mark_all.result c.self.inside.marks c.other.inside.marks c.args.self.now (marked c.mark_all.new.self) c.self.view_is c.mark_all.ensures.more
-
-pub returns-clause-others : goal.returns-clause-others
-returns-clause-others c =
-    no_others c.mark_all.result c.self.inside.marks c.other.inside.marks c.args.self.now c.args.other.now (marked c.mark_all.new.self) c.self.view_is c.other.view_is c.other.invariant.1 c.mark_all.ensures.others
+pub returns : goal.returns
+returns c =
+    let old = c.args.self.now in let other = c.args.other.now in let new = c.add_each.new.self in record {
+      added = all_added c.add_each.result _ _ old other new c.self.view_is c.other.view_is c.other.invariant c.add_each.ensures.added;
+      more = all_stay c.add_each.result _ _ old other new c.self.view_is c.other.view_is c.add_each.ensures.more;
+      others = no_others c.add_each.result _ _ old other new c.self.view_is c.other.view_is c.other.invariant c.add_each.ensures.others;
+    }

@@ -1,11 +1,15 @@
-use Rattle.dw_cfa.proofs.{Words.{subst, AreSpecified, Rules}, Marked.set_so, StatesLaws.{marked_so, since_row, rows_set, rows_same}}
+use Rattle.dw_cfa.proofs.StatesLaws.{marked_so, since_row}
 use Rattle.dw_cfa.proofs.states.States.set.Goals as goal
+
+pub invariant_of-self-in_err-set : goal.invariant_of-self-in_err-set
+invariant_of-self-in_err-set c =
+    let s = c.self.inside in let m = c.mark.ensures in let so = c.self.invariant.1 in let free = c.if-self.false in let row' = c.set.new.current in
+    (c.set.ensures.so, marked_so c.self.view_is so c.mark.new.self row' c.set.new.self.row free m.row m.watched (rw c.in_err-set.ensures.err (m.still s.row.registers (since_row c.self.view_is so free))))
 
 pub invariant_of-self-2 : goal.invariant_of-self-2
 invariant_of-self-2 c =
-    let s = c.self.inside in let rows = c.set.new.self in let m = c.in_ok-mark.ensures in let free = c.if-self.false in
-    let up = subst (λ (row : Rules). AreSpecified 0 row.registers) c.row.ensures c.ascends.ensures in
-    marked_so c.self.view_is c.self.invariant c.mark.new.self rows.row rows.kept free m.watched
-    (set_so c.set.result s.saved.marks c.mark.new.self s.saved.row.registers s.rows.row rows.row c.args.register c.args.rule
-    (since_row c.self.view_is c.self.invariant free) up m.so m.more m.marked (rows_set c.set.result rows _ _ c.set.ensures.ok)
-    (rows_same c.set.result rows s.rows c.set.ensures.err))
+    let s = c.self.inside in let m = c.mark.ensures in let so = c.self.invariant.1 in let free = c.if-self.false in let row' = c.set.new.current in (
+      c.set.ensures.so,
+      marked_so c.self.view_is so c.mark.new.self row' c.set.new.self.row free m.row m.watched
+          (rw c.in_ok-set.ensures.ok (c.in_ok-mark.ensures.marked s.row.registers c.args.rule c.ascends.ensures (since_row c.self.view_is so free))),
+    )

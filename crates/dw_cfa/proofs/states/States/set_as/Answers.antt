@@ -1,11 +1,15 @@
-use Rattle.dw_cfa.proofs.{Words.{subst, AreSpecified, Rules, rule_in}, Marked.set_so, StatesLaws.{marked_so, since_row, rows_set, rows_same}}
+use Rattle.dw_cfa.proofs.{Words.{rule_in, with_rule}, StatesLaws.{marked_so, since_row}}
 use Rattle.dw_cfa.proofs.states.States.set_as.Goals as goal
+
+pub invariant_of-self-in_err-copy_rule : goal.invariant_of-self-in_err-copy_rule
+invariant_of-self-in_err-copy_rule c =
+    let s = c.self.inside in let m = c.mark.ensures in let so = c.self.invariant.1 in let free = c.if-self.false in let old = s.row.registers in
+    rw c.in_err-copy_rule.ensures.err (c.mark-2.ensures.still old c.self.invariant.0, marked_so c.self.view_is so c.mark.new.self s.row c.mark-2.new.self.row free m.row m.watched (m.still old (since_row c.self.view_is so free)))
 
 pub invariant_of-self-2 : goal.invariant_of-self-2
 invariant_of-self-2 c =
-    let s = c.self.inside in let rows = c.copy_rule.new.self in let m = c.in_ok-mark.ensures in let free = c.if-self.false in
-    let up = subst (λ (row : Rules). AreSpecified 0 row.registers) c.row.ensures c.ascends.ensures in
-    marked_so c.self.view_is c.self.invariant c.mark.new.self rows.row rows.kept free m.watched
-    (set_so c.copy_rule.result s.saved.marks c.mark.new.self s.saved.row.registers s.rows.row rows.row c.args.register (rule_in c.args.row.now.registers c.args.register)
-    (since_row c.self.view_is c.self.invariant free) up m.so m.more m.marked (rows_set c.copy_rule.result rows _ _ c.copy_rule.ensures.ok)
-    (rows_same c.copy_rule.result rows s.rows c.copy_rule.ensures.err))
+    let s = c.self.inside in let m = c.mark.ensures in let so = c.self.invariant.1 in let free = c.if-self.false in let old = s.row.registers in let rule = rule_in c.args.row.now.registers c.args.register in
+    rw c.in_ok-copy_rule.ensures.ok (
+      c.in_ok-mark-2.ensures.marked old rule c.ascends.ensures c.self.invariant.0,
+      marked_so c.self.view_is so c.mark.new.self (with_rule c.args.register rule s.row) c.mark-2.new.self.row free m.row m.watched (c.in_ok-mark.ensures.marked old rule c.ascends.ensures (since_row c.self.view_is so free)),
+    )

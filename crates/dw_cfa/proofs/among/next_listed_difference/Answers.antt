@@ -1,6 +1,6 @@
 use Rattle.dw_cfa.proofs.Words.{ℕ, List, refl, sym, subst, nat_cmp, range_contains, Bound, Unbounded, place_behind, AreSpecified, SameUnlisted}
 use Rattle.dw_cfa.proofs.{Lent.RowLists.Entry, Lent.Equal.not_one, Difference.{FromOn, range_on}, Marked.{from_ascends, from_unlisted, differs_here, same_here}}
-use Rattle.dw_cfa.proofs.kept_row.next_listed_difference.Goals as goal
+use Rattle.dw_cfa.proofs.among.next_listed_difference.Goals as goal
 
 pub marks-init : goal.marks-init
 marks-init c =

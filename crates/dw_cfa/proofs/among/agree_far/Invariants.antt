@@ -1,5 +1,5 @@
 use Rattle.dw_cfa.proofs.{Words.{◌≡◌, length, AreSpecified, is_agreed}, RegisterSets.StillLeaves}
-use Rattle.dw_cfa.proofs.register_set.agree_far.Given as goal
+use Rattle.dw_cfa.proofs.among.agree_far.Given as goal
 
 abbrev pub invariant-registers : goal.invariant-registers
 invariant-registers l =

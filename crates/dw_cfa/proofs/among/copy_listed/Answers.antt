@@ -1,5 +1,5 @@
 use Rattle.dw_cfa.proofs.{Words.{List, sym, ap, subst, ◌∙◌, RegRule, Rules, put, SameUnlisted}, Lent.RowLists.Entry, Marked.far_copied}
-use Rattle.dw_cfa.proofs.kept_row.copy_listed.Goals as goal
+use Rattle.dw_cfa.proofs.among.copy_listed.Goals as goal
 
 pub marks-preserved : goal.marks-preserved
 marks-preserved c =

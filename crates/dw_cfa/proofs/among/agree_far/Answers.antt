@@ -1,5 +1,5 @@
 use Rattle.dw_cfa.proofs.{Words.{◌∙◌, is_agreed}, RegisterSets.{next_leaves, rest_up}}
-use Rattle.dw_cfa.proofs.register_set.agree_far.Goals as goal
+use Rattle.dw_cfa.proofs.among.agree_far.Goals as goal
 
 pub registers-preserved : goal.registers-preserved
 registers-preserved c =

@@ -1,5 +1,5 @@
 use Rattle.dw_cfa.proofs.Words.{length, place_behind, AreSpecified, SameUnlisted}
-use Rattle.dw_cfa.proofs.kept_row.next_listed_difference.Given as goal
+use Rattle.dw_cfa.proofs.among.next_listed_difference.Given as goal
 
 abbrev pub invariant-marks : goal.invariant-marks
 invariant-marks l = AreSpecified (place_behind l.fn.behind) l.marks × SameUnlisted (place_behind l.fn.behind) l.marks l.kept.registers l.row.registers

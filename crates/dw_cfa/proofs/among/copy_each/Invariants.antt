@@ -1,5 +1,5 @@
 use Rattle.dw_cfa.proofs.Words.{◌-◌, ◌≤◌, CopiedUpTo}
-use Rattle.dw_cfa.proofs.kept_row.copy_each.Given as goal
+use Rattle.dw_cfa.proofs.among.copy_each.Given as goal
 
 abbrev pub invariant-slots : goal.invariant-slots
 invariant-slots l = (l.place ≤ 128) × CopiedUpTo l.place l.row.registers l.initial.copy.registers l.copy.registers

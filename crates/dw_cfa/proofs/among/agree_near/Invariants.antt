@@ -1,5 +1,5 @@
 use Rattle.dw_cfa.proofs.Words.{◌≡◌, ◌-◌, ◌≤◌, LeavesAmong, in_mask, is_agreed}
-use Rattle.dw_cfa.proofs.register_set.agree_near.Given as goal
+use Rattle.dw_cfa.proofs.among.agree_near.Given as goal
 
 abbrev pub invariant-slots : goal.invariant-slots
 invariant-slots l =
