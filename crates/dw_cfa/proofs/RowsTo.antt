@@ -1,5 +1,5 @@
 -- A run up to the last row that starts at or below an address, and what is left behind it.
-use Rattle.dw_cfa.proofs.Words.{◌≡◌, ℕ, ◌<◌, ◌≤◌, Bool, true, false, List, [], ◌∷◌, length, Option, Some, None, refl, sym, ap, ◌∙◌, subst, arith, le-leb, le-ltb, lt-ltb, Factors, Input}
+use Rattle.dw_cfa.proofs.Words.{◌≡◌, ℕ, ◌<◌, ◌≤◌, true, false, List, [], ◌∷◌, length, Some, None, refl, sym, ap, ◌∙◌, subst, arith, le-leb, le-ltb, lt-ltb, Factors, Input}
 use Rattle.dw_cfa.proofs.Words.{LocatedRow, Machine, Outcome, Rules, or_here, last_at, left_above, rows_above, NeverFalls}
 use Rattle.dw_cfa.proofs.{Words.{finished, row_then, RanTo, RunsSo, here, rows_left, state_of, AllSpecify, RanUpTo}, Lent.RowsAt.none_at, Lent.RunLaws.left_from, RunSteps.rows_end}
 

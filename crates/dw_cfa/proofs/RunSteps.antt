@@ -1,6 +1,6 @@
 -- One instruction of a program, in the rows still to come.
-use Rattle.dw_cfa.proofs.Words.{◌≡◌, ℕ, ◌<◌, List, [], length, Option, None, Some, Result, Ok, Err, IsOk, false, refl, sym, ap, ◌∙◌, subst, IsTrue, AreBytes, Code, Factors, Input, Instr, Leading, Machine, Outcome, Read, Refusal, RegRule, Rules, led_rows, program_input}
-use Rattle.dw_cfa.proofs.Words.{State, address_limit, SetLoc, Advance, moves_location, instr_at, blank, written, after, cie_fault, fde_fault, BeganWith, IsLed, state_of, IsAfter, placed, cie_run, initial_row, on_initial, here, row_if}
+use Rattle.dw_cfa.proofs.Words.{◌≡◌, ℕ, ◌<◌, List, [], length, Option, None, Some, Ok, Err, false, refl, sym, ap, ◌∙◌, subst, IsTrue, AreBytes, Code, Factors, Input, Instr, Leading, Machine, Refusal, RegRule, Rules, led_rows, program_input}
+use Rattle.dw_cfa.proofs.Words.{State, address_limit, SetLoc, Advance, moves_location, instr_at, blank, written, after, cie_fault, fde_fault, BeganWith, IsLed, state_of, IsAfter, placed, cie_run, initial_row, here, row_if}
 use Rattle.dw_cfa.proofs.Words.{fault_or, fde_rows, fde_stop, rows_left, rows_behind, run_rows, run_stop, stop_left, stop_or, RunsSo, RanTo, WroteTo, fails, finished, row_then, program_fault}
 use Rattle.dw_cfa.proofs.{Lent.RowsAt.stays, Placings.{reads, placed_end, placed_step, placed_stuck}}
 

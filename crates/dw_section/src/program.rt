@@ -1,6 +1,6 @@
 //! Running the programs of a section's entries (6.4.2, 6.4.3).
 
-ghost use Rattle.std.specs.Prelude.{◌≡◌, ◌+◌, ◌<◌, ℕ, true, List, length, slice_index_or, map, None, Some, IfOk, IfErr, IfSome, OnOk};
+ghost use Rattle.std.specs.Prelude.{◌≡◌, ◌+◌, ◌<◌, true, List, length, slice_index_or, map, None, Some, IfOk, IfErr, IfSome, OnOk};
 ghost use Rattle.std.specs.{Bool.MatchBool, List.AllByRecursion};
 ghost use Rattle.dw_num.specs.{Refusals.Refuses, Span.span_of, Target.address_limit};
 ghost use Rattle.dw_num.specs.declared.target.{Form.{Form as TheForm}, Target.{Target as TheTarget}};

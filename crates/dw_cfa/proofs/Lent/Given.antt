@@ -1,6 +1,6 @@
 -- What a run gives is what its programs give, in the standard's terms.
 use Rattle.dw_cfa.specs.InitialRules.{initial_cfa}
-use Rattle.dw_cfa.proofs.Words.{◌≡◌, ℕ, suc, ◌<◌, ◌≤◌, Bool, true, false, List, [], ◌∷◌, ◌++◌, length, map, Option, Some, None, Result, Ok, Err, refl, sym, ap, ◌∙◌, subst, inl, inr, arith, if◌then◌else◌, IfErr, IfOk, MatchResult, OnOk}
+use Rattle.dw_cfa.proofs.Words.{◌≡◌, ℕ, suc, ◌<◌, ◌≤◌, Bool, true, false, List, [], ◌∷◌, ◌++◌, length, map, Option, Some, None, Result, Ok, Err, refl, sym, ap, ◌∙◌, subst, inl, inr, arith, if◌then◌else◌, IfErr, IfOk, MatchResult}
 use Rattle.dw_cfa.proofs.Words.{AllZip, append-nil, AreBytes, CfaRule, Factors, Input, Instr, LocatedRow, Outcome, Placed, ReadError, Refusal, Refuses, RegRule, Rules, State, Stepping, address_limit, Refused, OutOfMemory, ProgramSpells}
 use Rattle.dw_cfa.proofs.Words.{cfa_after, rule_after, CieKept, FdeKept, NeverFalls, onto, location_back, moves_location, Counts, AreSpecified, blank, stepping, FdeFaultBehind, RunFault, Leaves, LeavesTo, ends}
 use Rattle.dw_cfa.proofs.Words.{HoldsBehind, IsRowAfter, GivesBehind, GivesBefore, GivesUpTo, RunsBehind, RunsTo, OneRun, RefusedWhereFault, RowsWhereKept, NoneFalls, LastHolds, OneInitial, OneBehind, BehindWhereFault, GivesWhereKept}

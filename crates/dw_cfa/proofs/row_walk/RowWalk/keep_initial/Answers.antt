@@ -1,4 +1,4 @@
-use Rattle.dw_cfa.proofs.{Words.{◌≡◌, ap, refl, sym, ◌∙◌, inl, inr, stepping, Progress, Stepping, Walking, initial_of, led_rows, walk_of}, Walks.{led_stuck, walk_from}}
+use Rattle.dw_cfa.proofs.{Words.{◌≡◌, ap, refl, sym, ◌∙◌, inl, inr, stepping, Progress, Walking, initial_of, led_rows, walk_of}, Walks.{led_stuck, walk_from}}
 use Rattle.dw_cfa.proofs.row_walk.RowWalk.keep_initial.Goals as goal
 
 pub returns-in-Ok-clause-begun : goal.returns-in-Ok-clause-begun
