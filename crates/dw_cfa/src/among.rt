@@ -205,6 +205,7 @@ impl<'a> Row<'a> {
 
     /// What `next_difference` answers, where both rows give all registers outside a set the same rules: those in the set are
     /// looked at alone. Takes no memory.
+    #[inline(always)]
     pub fn next_difference_among(
         &self,
         other: &Row<'_>,

@@ -58,7 +58,7 @@ pub(crate) fn run_def_cfa_sf<'a, K: Keep<'a>>(
 
 /// The CFA is another register plus the same offset.
 #[tactic(auto, unfolding(crate::specs::Inner::ByOpcode::def_cfa_register_at))]
-#[inline(always)]
+#[inline(never)]
 pub(crate) fn run_def_cfa_register<'a, K: Keep<'a>>(
     cursor: &mut Cursor<'a>,
     keep: &mut K,
