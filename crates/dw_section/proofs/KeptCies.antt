@@ -1,58 +1,43 @@
 -- What is kept of CIEs as they are read, and what running their programs tells.
 use Rattle.dw_section.specs.declared.entry.Kind.TheVariants as kind
-use Rattle.dw_section.proofs.Words.{◌≡◌, ◌≤◌, ℕ, List, [], ◌∷◌, ◌++◌, length, refl, sym, ap, ◌∙◌, subst, arith, inl, inr, length-append, map, cons_option, Dwarf32, AllByRecursion, AllZip, Form, Target, Refusal, Kind, Piece, CieHead}
-use Rattle.dw_section.proofs.Words.{Head, cie, fde, Has, Headers, Pieces, cie_places, place_if, place_of, CieHolds, CieStuck, CieRuns, CieBroken, FirstStuck, IsAmong, Initial, initial_head, initial_in, cie_pieces, if_cie, IsRead}
-use Rattle.dw_section.proofs.{Words.{AreCies, AreOf, AreInitials, IsInitial, StandsIn}, Between.{Between, between_among}, Items.one_pieces, Lent.HeaderLaws.{has_cie, has_one}, Lent.Heads.has_at, Stages.all_from_zip, StandLaws.stands_in}
+use Rattle.dw_section.proofs.Words.{◌≡◌, ◌≤◌, ℕ, List, [], ◌∷◌, length, refl, sym, ap, ◌∙◌, subst, arith, inl, inr, map, cons_option, Dwarf32, AllByRecursion, AllZip, Form, Target, Refusal, Kind, Piece, CieHead, Head, cie, fde, Has}
+use Rattle.dw_section.proofs.Words.{Headers, Pieces, cie_places, place_if, place_of, CieHolds, CieStuck, CieRuns, CieBroken, FirstStuck, IsAmong, Initial, initial_in, cie_pieces, if_cie, IsRead, AreCies, AreOf, AreInitials, IsInitial}
+use Rattle.dw_section.proofs.{Words.StandsIn, Between.{Between, between_among}, Items.one_pieces, Lent.HeaderLaws.{has_cie, has_one}, Lent.Heads.has_at, Stages.{all_from_zip, here_or_later, stuck_here, later, none_first}}
+use Rattle.dw_section.proofs.StandLaws.{stands_in}
 
 -- ---- as they are read
 
-module _ (target : Target) where
-  -- the CIEs among pieces are pieces, and stand at these places
-  among_next : (p q : Piece) (ps : List Piece) (k : Kind) → p.kind ≡ k → IsAmong q (cons_option (if_cie k p) (cie_pieces ps)) → (IsAmong q (cie_pieces ps) → IsAmong q ps × (q.kind ≡ kind.Cie)) → IsAmong q (p ∷ ps) × (q.kind ≡ kind.Cie)
-  among_next p q ps kind.Cie is (inl e) rest = (inl e, rw e is)
-  among_next p q ps kind.Cie is (inr i) rest = let w = rest i in (inr w.0, w.1)
-  among_next p q ps kind.Fde is i rest = let w = rest i in (inr w.0, w.1)
+-- the CIEs among pieces and their places, by what the first piece is
+by_kind : (k : Kind) (p : Piece) → p.kind ≡ k → (P : List Piece → List ℕ → Type 0) (ps : List Piece) (at : List ℕ) → (p.kind ≡ kind.Cie → P (p ∷ ps) (p.at ∷ at)) → (p.kind ≡ kind.Fde → P ps at) → P (cons_option (if_cie k p) ps) (cons_option (place_if k p.at) at)
+by_kind kind.Cie p is P ps at of_cie of_fde = of_cie is
+by_kind kind.Fde p is P ps at of_cie of_fde = of_fde is
 
+module _ (target : Target) where
+  -- they are pieces, and stand at these places
   pub cie_among : (ps : List Piece) (q : Piece) → IsAmong q (cie_pieces ps) → IsAmong q ps × (q.kind ≡ kind.Cie)
   cie_among [] q i = absurd i
-  cie_among (p ∷ ps) q i = among_next p q ps p.kind refl i (cie_among ps q)
-
-  piece_next : (p : Piece) (ps : List Piece) (k : Kind) → map (λ (q : Piece). q.at) (cie_pieces ps) ≡ cie_places ps → map (λ (q : Piece). q.at) (cons_option (if_cie k p) (cie_pieces ps)) ≡ cons_option (place_if k p.at) (cie_places ps)
-  piece_next p ps kind.Cie rest = ap (λ (l : List ℕ). p.at ∷ l) rest
-  piece_next p ps kind.Fde rest = rest
+  cie_among (p ∷ ps) q i = by_kind p.kind p refl (λ xs at. IsAmong q xs → IsAmong q (p ∷ ps) × (q.kind ≡ kind.Cie)) (cie_pieces ps) []
+      (λ is i. elim i [ inl e ↦ (inl e, rw e is) | inr j ↦ (let w = cie_among ps q j in (inr w.0, w.1)) ]) (λ is i. let w = cie_among ps q i in (inr w.0, w.1)) i
 
   pub piece_places : (ps : List Piece) → map (λ (q : Piece). q.at) (cie_pieces ps) ≡ cie_places ps
   piece_places [] = refl
-  piece_places (p ∷ ps) = piece_next p ps p.kind (piece_places ps)
+  piece_places (p ∷ ps) =
+      by_kind p.kind p refl (λ xs at. map (λ (q : Piece). q.at) xs ≡ at) (cie_pieces ps) (cie_places ps) (λ is. ap (λ (l : List ℕ). p.at ∷ l) (piece_places ps)) (λ is. piece_places ps)
 
   -- where these hold, all pieces do
-  holds_next : (p : Piece) (ps : List Piece) (k : Kind) → p.kind ≡ k → AllByRecursion (CieHolds target) (cons_option (if_cie k p) (cie_pieces ps)) → (AllByRecursion (CieHolds target) (cie_pieces ps) → AllByRecursion (CieHolds target) ps) → AllByRecursion (CieHolds target) (p ∷ ps)
-  holds_next p ps kind.Cie is hold rest = (hold.0, rest hold.1)
-  holds_next p ps kind.Fde is hold rest = ((λ e. absurd cc), rest hold)
-
   pub all_hold : (ps : List Piece) → AllByRecursion (CieHolds target) (cie_pieces ps) → AllByRecursion (CieHolds target) ps
   all_hold [] hold = tt
-  all_hold (p ∷ ps) hold = holds_next p ps p.kind refl hold (all_hold ps)
+  all_hold (p ∷ ps) hold = by_kind p.kind p refl (λ xs at. AllByRecursion (CieHolds target) xs → AllByRecursion (CieHolds target) (p ∷ ps)) (cie_pieces ps) [] (λ is hold. (hold.0, all_hold ps hold.1)) (λ is hold. ((λ e. absurd cc), all_hold ps hold)) hold
 
   -- and the first of them that is stuck is the first of all
-  stuck_next : (p : Piece) (ps before : List Piece) (it : Piece) (after : List Piece) (r : Refusal) (k : Kind) → p.kind ≡ k → cons_option (if_cie k p) (cie_pieces ps) ≡ before ++ it ∷ after → AllByRecursion (CieHolds target) before → CieStuck target it r
-      → ((front : List Piece) → cie_pieces ps ≡ front ++ it ∷ after → AllByRecursion (CieHolds target) front → FirstStuck (CieHolds target) (CieStuck target) ps r) → FirstStuck (CieHolds target) (CieStuck target) (p ∷ ps) r
-  stuck_next p ps [] it after r kind.Cie is whole hold stuck rest = let same : it ≡ p = cc in record { before = []; it = p; after = ps; whole = refl; hold = tt; stuck = subst (λ (q : Piece). CieStuck target q r) same stuck }
-  stuck_next p ps (b ∷ before) it after r kind.Cie is whole hold stuck rest =
-      let same : b ≡ p = cc in
-      let more : cie_pieces ps ≡ before ++ it ∷ after = cc in
-      let w = rest before more hold.1 in
-      record { before = p ∷ w.before; it = w.it; after = w.after; whole = ap (λ (l : List Piece). p ∷ l) w.whole; hold = (subst (CieHolds target) same hold.0, w.hold); stuck = w.stuck }
-  stuck_next p ps before it after r kind.Fde is whole hold stuck rest =
-      let w = rest before whole hold in
-      record { before = p ∷ w.before; it = w.it; after = w.after; whole = ap (λ (l : List Piece). p ∷ l) w.whole; hold = ((λ e. absurd cc), w.hold); stuck = w.stuck }
-
-  stuck_cie : (ps before : List Piece) (it : Piece) (after : List Piece) (r : Refusal) → cie_pieces ps ≡ before ++ it ∷ after → AllByRecursion (CieHolds target) before → CieStuck target it r → FirstStuck (CieHolds target) (CieStuck target) ps r
-  stuck_cie [] before it after r whole hold stuck = absurd (omega (arith, ap length whole, length-append before (it ∷ after)))
-  stuck_cie (p ∷ ps) before it after r whole hold stuck = stuck_next p ps before it after r p.kind refl whole hold stuck (λ front e all. stuck_cie ps front it after r e all stuck)
-
   pub first_cie : (ps : List Piece) (r : Refusal) → FirstStuck (CieHolds target) (CieStuck target) (cie_pieces ps) r → FirstStuck (CieHolds target) (CieStuck target) ps r
-  first_cie ps r w = stuck_cie ps w.before w.it w.after r w.whole w.hold w.stuck
+  first_cie [] r w = w
+  first_cie (p ∷ ps) r w = by_kind p.kind p refl (λ xs at. FirstStuck (CieHolds target) (CieStuck target) xs r → FirstStuck (CieHolds target) (CieStuck target) (p ∷ ps) r) (cie_pieces ps) []
+      (λ is w. elim (here_or_later (CieHolds target) (CieStuck target) _ r w p (cie_pieces ps) refl) [
+        | inl stuck ↦ stuck_here (CieHolds target) (CieStuck target) p ps r stuck
+        | inr rest ↦ later (CieHolds target) (CieStuck target) p ps r rest.0 (first_cie ps r rest.1)
+      ])
+      (λ is w. later (CieHolds target) (CieStuck target) p ps r (λ e. absurd cc) (first_cie ps r w)) w
 
   -- what is read holds
   pub read_holds : (ps : List Piece) (cs : List Initial) → AllZip (IsRead target) ps cs → AllByRecursion (CieHolds target) ps
@@ -76,22 +61,16 @@ none_of (p ∷ ps) e none = absurd (omega (arith, ap length e, none))
 
 -- ---- among headers
 
-none_read : (target : Target) (cs : List Initial) → AllZip (IsRead target) [] cs → cs ≡ []
-none_read target [] z = refl
-none_read target (c ∷ cs) z = absurd z
-
 module _ (target : Target) (places : List ℕ) where
-  of_next : (p : Piece) (ps : List Piece) (h : Head) (hs : List Head) (cs : List Initial) (k : Kind) → p.kind ≡ k → Has target places p h → AllZip (IsRead target) (cons_option (if_cie k p) (cie_pieces ps)) cs
-      → ((more : List Initial) → AllZip (IsRead target) (cie_pieces ps) more → AreOf hs more) → AreOf (h ∷ hs) cs
-  of_next p ps h hs [] kind.Cie is has read rest = absurd read
-  of_next p ps h hs (c ∷ cs) kind.Cie is has read rest = rw (has_one target places p h (initial_in p.form c) has (read.0 places)) (c, cs, refl, refl, rest cs read.1)
-  of_next p ps h hs cs kind.Fde is (inl c) read rest = let a = c.2.0 in absurd cc
-  of_next p ps h hs cs kind.Fde is (inr f) read rest = rw f.3 (rest cs read)
+  of_cie : (p : Piece) (ps : List Piece) (h : Head) (hs : List Head) (cs : List Initial) → Has target places p h → AllZip (IsRead target) (p ∷ ps) cs → ((more : List Initial) → AllZip (IsRead target) ps more → AreOf hs more) → AreOf (h ∷ hs) cs
+  of_cie p ps h hs [] has read rest = absurd read
+  of_cie p ps h hs (c ∷ cs) has read rest = rw (has_one target places p h (initial_in p.form c) has (read.0 places)) (c, cs, refl, refl, rest cs read.1)
 
   pub are_of : (ps : List Piece) (hs : List Head) (cs : List Initial) → AllZip (Has target places) ps hs → AllZip (IsRead target) (cie_pieces ps) cs → AreOf hs cs
-  are_of [] [] cs z read = none_read target cs read
-  are_of (p ∷ ps) (h ∷ hs) cs z read = of_next p ps h hs cs p.kind refl z.0 read (λ more each. are_of ps hs more z.1 each)
-  are_of ps hs cs z read = absurd z
+  are_of [] [] [] z read = refl
+  are_of (p ∷ ps) (h ∷ hs) cs z read = by_kind p.kind p refl (λ xs at. AllZip (IsRead target) xs cs → AreOf (h ∷ hs) cs) (cie_pieces ps) [] (λ is each. of_cie p (cie_pieces ps) h hs cs z.0 each (λ more. are_of ps hs more z.1))
+      (λ is each. elim z.0 [ inl c ↦ (let a = c.2.0 in absurd cc) | inr f ↦ rw f.3 (are_of ps hs cs z.1 each) ]) read
+  are_of ps hs cs z read = absurd assumption
 
 pub of_headers : (target : Target) (s : List ℕ) (ps : List Piece) (at : List ℕ) (cs : List Initial) → Pieces target s ps → AreCies target ps at cs → (hs : List Head) → Headers target s hs → AreOf hs cs
 of_headers target s ps at cs cut w hs headers =
@@ -134,20 +113,13 @@ all_ran target all (cie c ∷ hs) cs among of ran =
     })
 
 -- the first of them that does not run
-pub first_broken : (target : Target) (hs : List Head) (cs before : List Initial) (c : Initial) (after : List Initial) (r : Refusal) → AreOf hs cs → cs ≡ before ++ c ∷ after → AllByRecursion (Ran target) before → ((form : Form) → CieBroken target (initial_in form c) r)
-    → FirstStuck (CieRuns target) (CieBroken target) hs r
-first_broken target [] cs before c after r of whole ran broken = absurd (omega (arith, ap length (sym of ∙ whole), length-append before (c ∷ after)))
-first_broken target (fde f ∷ hs) cs before c after r of whole ran broken =
-    let w = first_broken target hs cs before c after r of whole ran broken in
-    record { before = fde f ∷ w.before; it = w.it; after = w.after; whole = ap (λ (l : List Head). fde f ∷ l) w.whole; hold = (tt, w.hold); stuck = w.stuck }
-first_broken target (cie d ∷ hs) cs [] c after r of whole ran broken =
-    let e = sym of.2 ∙ whole in
-    let same : of.0 ≡ c = cc in
-    record { before = []; it = cie d; after = hs; whole = refl; hold = tt; stuck = subst (λ (x : CieHead). CieBroken target (cie x) r) (sym (of.3 ∙ ap (initial_head d.form) same)) (broken d.form) }
-first_broken target (cie d ∷ hs) cs (b ∷ before) c after r of whole ran broken =
-    let e = sym of.2 ∙ whole in
-    let same : of.0 ≡ b = cc in
-    let rest : of.1 ≡ before ++ c ∷ after = cc in
-    let w = first_broken target hs of.1 before c after r of.4 rest ran.1 broken in
-    let here = (ran.0 d.form).0 in
-    record { before = cie d ∷ w.before; it = w.it; after = w.after; whole = ap (λ (l : List Head). cie d ∷ l) w.whole; hold = (subst (λ (x : CieHead). CieRuns target (cie x)) (sym (of.3 ∙ ap (initial_head d.form) same)) here, w.hold); stuck = w.stuck }
+abbrev pub Breaks : Target → Initial → Refusal → Type 0
+Breaks target c r = (form : Form) → CieBroken target (initial_in form c) r
+
+pub first_broken : (target : Target) (hs : List Head) (cs : List Initial) (r : Refusal) → AreOf hs cs → FirstStuck (Ran target) (Breaks target) cs r → FirstStuck (CieRuns target) (CieBroken target) hs r
+first_broken target [] cs r of w = absurd (none_first (Ran target) (Breaks target) r (rw of at w))
+first_broken target (fde f ∷ hs) cs r of w = later (CieRuns target) (CieBroken target) (fde f) hs r tt (first_broken target hs cs r of w)
+first_broken target (cie d ∷ hs) cs r of w = elim (here_or_later (Ran target) (Breaks target) cs r w of.0 of.1 of.2) [
+  | inl broken ↦ stuck_here (CieRuns target) (CieBroken target) (cie d) hs r (subst (λ (x : CieHead). CieBroken target (cie x) r) (sym of.3) (broken d.form))
+  | inr rest ↦ later (CieRuns target) (CieBroken target) (cie d) hs r (subst (λ (x : CieHead). CieRuns target (cie x)) (sym of.3) (rest.0 d.form).0) (first_broken target hs of.1 r of.4 rest.1)
+]

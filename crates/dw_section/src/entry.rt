@@ -2,10 +2,10 @@
 
 ghost use Rattle.std.specs.{Prelude.{◌≡◌, ℕ, ◌+◌, ◌<◌, ◌≤◌, ◌==◌, List, [], ◌∷◌, ◌++◌, length, take, MatchResult, IfOk, IfErr, IfSome, OnOk}, List.list_all};
 ghost use Rattle.dw_num.specs.{Input.Takes, Refusals.Refuses, declared.error.ReadError.TheVariants.OutOfMemory};
-ghost use Rattle.dw_num.specs.declared.{refusal.Code.TheVariants.SectionTooLarge, refusal.Refusal.Refusal, target.Order.Order, target.Target.Target};
+ghost use Rattle.dw_num.specs.declared.refusal.Code.TheVariants.{SectionTooLarge};
 ghost use Rattle.dw_op.specs.Faults.{IsWithin};
-ghost use Rattle.dw_section.specs.{Cut.{Cut, Item, IsItem, Piece, item_bytes, is_cie, id_width}, Faults.{item_at, CutFault}};
-ghost use Rattle.dw_section.specs.{Laws.SomeEntries, Pieces.{Pieces, Entries}, declared.entry.Entry.Entry};
+ghost use Rattle.dw_section.specs.{Cut.{IsItem, Piece, item_bytes, is_cie, id_width}, Faults.{item_at, CutFault}};
+ghost use Rattle.dw_section.specs.{Pieces.{Pieces, Entries}, declared.entry.Entry.Entry};
 ghost use Rattle.dw_section.specs.Inner.{Counts.ArePlaced, Faults.item_of, Left.{PiecesLeft, GivesPiece, GoesOn}, Pieces.IsPlaced, Reads.Gives};
 
 use dw_num::{Code, Cursor, Form, Program, ReadError, Refusal, Target};
@@ -256,15 +256,3 @@ pub fn entries(alloc: Global, bytes: &[u8], target: Target) -> Result<Vec<Entry>
 {
     all_entries(alloc, bytes, target)
 }
-
-/// A section has at most one cut.
-pub fn one_cut()
-    ensures { (order : Order) (s : List ℕ) (items others : List Item) → Cut order s items → Cut order s others → items ≡ others }
-{}
-
-/// A section has entries, or one first fault of its cut, and not both.
-pub fn one_cut_fault()
-    ensures one { (target : Target) (s : List ℕ) (r q : Refusal) → CutFault target s r → CutFault target s q → r ≡ q }
-    ensures apart { (target : Target) (s : List ℕ) (r : Refusal) (es : List Entry) → CutFault target s r → Entries target s es → ⊥ }
-    ensures some { SomeEntries }
-{}

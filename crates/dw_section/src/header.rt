@@ -2,10 +2,9 @@
 
 ghost use Rattle.std.specs.{Prelude.{◌≡◌, ◌⊎◌, ℕ, ◌+◌, ◌≤◌, List, length, map, IfOk, IfErr, MatchResult}, List.AllByRecursion};
 ghost use Rattle.dw_num.specs.{Refusals.Refuses, Span.span_of, declared.error.ReadError.TheVariants.OutOfMemory};
-ghost use Rattle.dw_num.specs.declared.{refusal.Refusal.Refusal, target.Target.Target};
 ghost use Rattle.dw_op.specs.Faults.{IsWithin};
 ghost use Rattle.dw_section.specs.{Counts.AreCounts, Cut.Piece, Headers.{Head, Has, Headers, head_in, CieHolds, CieStuck, CiesHold, FdeHolds}};
-ghost use Rattle.dw_section.specs.{Headers.{FdeStuck, CieFieldsFault, HeadersFault}, Laws.SomeHeaders, Overlap.{Range, IsIndex}, Pieces.Pieces};
+ghost use Rattle.dw_section.specs.{Headers.{FdeStuck, CieFieldsFault, HeadersFault}, Pieces.Pieces};
 ghost use Rattle.dw_section.specs.{Places.cie_places, Stage.FirstStuck, StandingFde.StandsIn, Inner.Initials.{AreCies, IsRead}, Inner.Left.PiecesLeft};
 ghost use Rattle.dw_section.specs.Inner.{PieceHeader.{SaysFde, cie_at, fde_at, initial_in, entry_in, program_of}, Pieces.piece_in, Places.Rises, Stage.Answers};
 ghost use Rattle.dw_section.specs.declared.entry.Kind.TheVariants as kind;
@@ -340,16 +339,3 @@ pub fn headers<'a>(
 {
     all_headers(alloc, bytes, target)
 }
-
-/// A section has headers, or one first fault in their way, and not both.
-pub fn one_first_fault()
-    ensures one { (target : Target) (s : List ℕ) (r q : Refusal) → HeadersFault target s r → HeadersFault target s q → r ≡ q }
-    ensures apart { (target : Target) (s : List ℕ) (r : Refusal) (hs : List Head) → HeadersFault target s r → Headers target s hs → ⊥ }
-    ensures some { SomeHeaders }
-{}
-
-/// The nonempty FDEs of a section have one order.
-#[tactic(auto, using(crate::proofs::Lent::Index::one_index))]
-pub fn one_order()
-    ensures { (hs : List Head) (index other : List Range) → IsIndex hs index → IsIndex hs other → index ≡ other }
-{}

@@ -24,12 +24,12 @@ mod table_lookup;
 mod walks;
 
 pub use change::{Behind, Changes};
-pub use entry::{Entry, EntryCounts, Kind, entries, one_cut, one_cut_fault};
+pub use entry::{Entry, EntryCounts, Kind, entries};
 pub use fde_range::Ranged;
-pub use header::{Header, headers, one_first_fault, one_order};
-pub use laws::section_laws;
+pub use header::{Header, headers};
+pub use laws::{fault_laws, section_laws};
 pub use lookup::{Fde, FdeRef, Fdes};
 pub use opening::{CieRow, Opening};
 pub use standing_fde::{LookUpError, StandingFde, look_up};
-pub use table::{Table, check, one_check_fault};
+pub use table::{Table, check};
 pub use table_lookup::Lookups;

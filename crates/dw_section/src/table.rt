@@ -2,10 +2,9 @@
 
 ghost use Rattle.std.specs.Prelude.{◌≡◌, ℕ, List, IfOk, IfErr, MatchResult};
 ghost use Rattle.dw_num.specs.{Input.AreBytes, Refusals.Refuses, declared.error.ReadError.TheVariants.OutOfMemory};
-ghost use Rattle.dw_num.specs.declared.{refusal.Refusal.{Refusal as TheRefusal}, target.Target.{Target as TheTarget}};
 ghost use Rattle.dw_num.specs.declared.error.ReadError.TheVariants as TheError;
 ghost use Rattle.dw_op.specs.Faults.{IsWithin};
-ghost use Rattle.dw_section.specs.{Accepted.{CheckFault, Accepted}, Counts.AreCounts, Cut.Piece, Laws.SomeCheck, Meaning.AreFdes};
+ghost use Rattle.dw_section.specs.{Accepted.{CheckFault, Accepted}, Counts.AreCounts, Cut.Piece, Meaning.AreFdes};
 ghost use Rattle.dw_section.specs.{Pieces.Pieces, Ranges.IsTable, declared.lookup.Fde.{Fde as TheFde}};
 
 use crate::entry::EntryCounts;
@@ -133,10 +132,3 @@ pub fn check<'a>(alloc: Global, bytes: &'a [u8], target: Target) -> Result<Table
     are_bytes(bytes);
     checked(alloc, bytes, target)
 }
-
-/// A section is accepted, or has one first fault, and not both.
-pub fn one_check_fault()
-    ensures one { (target : TheTarget) (s : List ℕ) (r q : TheRefusal) → AreBytes s → CheckFault target s r → CheckFault target s q → r ≡ q }
-    ensures apart { (target : TheTarget) (s : List ℕ) (r : TheRefusal) → AreBytes s → CheckFault target s r → Accepted target s → ⊥ }
-    ensures some { SomeCheck }
-{}

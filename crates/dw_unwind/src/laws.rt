@@ -4,7 +4,7 @@ ghost use Rattle.dw_unwind.specs.{Laws.{FaultsInFrame, OneDump, WantedIsMissing}
 
 use dw_eval::evaluation_laws;
 use dw_op::block_laws;
-use dw_section::{one_order, section_laws};
+use dw_section::section_laws;
 
 /// An accepted section gives a machine that stopped exactly one frame or fault, and the fault's column is the CFA or a register that the
 /// frame lists. What a fault asks for is missing: so who gives it what it wants, and asks again, gets another answer. The lines of a
@@ -19,5 +19,4 @@ pub fn unwind_laws()
     evaluation_laws();
     block_laws();
     section_laws();
-    one_order();
 }

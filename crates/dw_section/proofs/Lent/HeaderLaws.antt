@@ -1,15 +1,15 @@
 -- Headers are read as they are spelled, and a section has at most one list of them.
 use Rattle.dw_section.proofs.Words.{◌≡◌, ℕ, ◌+◌, List, [], ◌∷◌, length, Result, Ok, Err, inl, inr, refl, sym, ap, subst, ◌∙◌, arith, IfErr, length-append, AllByRecursion, AllZip, Target, Refusal, Input, AreBytes, Span, CieFields, FdeFields}
-use Rattle.dw_section.proofs.Words.{Kind, Piece, Pieces, cie_places, Rises, Fields, cie_fields, fde_fields, FieldsFault, program_of, contents_of, Head, cie_head, IsCie, IsFde, Has, Headers, CieHolds, CieStuck, FdeHolds, FdeStuck, Read}
-use Rattle.dw_section.proofs.Words.{◌>>=◌, done, ok_is, cie_of_piece, cie_at, fde_of_piece, fde_at, fde_head, HasFields}
+use Rattle.dw_section.proofs.Words.{Kind, Piece, Pieces, cie_places, Rises, Fields, cie_fields, fde_fields, FieldsFault, program_of, contents_of, Head, cie_head, IsCie, IsFde, Has, Headers, CieHolds, CieStuck, FdeHolds, Read, ◌>>=◌, done}
+use Rattle.dw_section.proofs.{Words.{ok_is, cie_of_piece, cie_at, fde_of_piece, fde_at, fde_head, HasFields}, FieldLaws.{AreNumbers, fields_at, fault_is, fields_found, fields_again}, Lent.FieldTable.{cie_numbers, fde_numbers}}
+use Rattle.dw_section.proofs.{Items.one_pieces, Places.places_rise, Stages.{all_from_zip, one_zip}}
 use Rattle.dw_section.specs.Inner.Stage.{Answers}
-use Rattle.dw_section.proofs.{FieldLaws.{AreNumbers, fields_at, fault_is, fields_found, fields_again}, Lent.FieldTable.{cie_numbers, fde_numbers}, Items.one_pieces, Places.places_rise, Stages.{all_from_zip, one_zip}}
 use Rattle.dw_section.specs.declared.entry.Kind.TheVariants as kind
 
 -- ---- what is read has that header
 
 -- fields that are read at the front of a piece are what it says
-reads_fields : {X : Type 0} (fs : Fields X) → AreNumbers fs → (target : Target) (p : Piece) (x : X) (j : Input) → AreBytes p.contents.bytes → fields_at fs (contents_of target p) ≡ done (x, j) → HasFields target p fs x (program_of j)
+pub reads_fields : {X : Type 0} (fs : Fields X) → AreNumbers fs → (target : Target) (p : Piece) (x : X) (j : Input) → AreBytes p.contents.bytes → fields_at fs (contents_of target p) ≡ done (x, j) → HasFields target p fs x (program_of j)
 reads_fields fs are target p x j h e =
     let q = fields_found fs are (contents_of target p) j x h e in
     record { spelling = q.0; spells = q.1; whole = q.2.bytes; place = q.2.at }
@@ -53,14 +53,8 @@ pub fde_faulty : (target : Target) (places : List ℕ) (p : Piece) (r : Refusal)
 unfolding fde_at
 fde_faulty target places p r e = read_faulty (fde_fields target.size places p.form) (λ f. fde_head p f.0 (program_of f.1)) (contents_of target p) r _ refl e
 
-fields_apart : {X : Type 0} (fs : Fields X) (target : Target) (p : Piece) (x : X) (program : Span) (r : Refusal) → HasFields target p fs x program → FieldsFault fs (contents_of target p) r → ⊥
+pub fields_apart : {X : Type 0} (fs : Fields X) (target : Target) (p : Piece) (x : X) (program : Span) (r : Refusal) → HasFields target p fs x program → FieldsFault fs (contents_of target p) r → ⊥
 fields_apart fs target p x program r is stuck = let a = sym (fields_read fs target p x program is) ∙ (fault_is fs (contents_of target p) r).0 stuck in cc
-
-pub cie_apart : (target : Target) (p : Piece) (r : Refusal) → CieHolds target p → CieStuck target p r → ⊥
-cie_apart target p r h s = let q = h s.0 in fields_apart (cie_fields target.size p.form) target p q.0 q.1 r q.2.1 s.1
-
-pub fde_apart : (target : Target) (places : List ℕ) (p : Piece) (r : Refusal) → FdeHolds target places p → FdeStuck target places p r → ⊥
-fde_apart target places p r h s = let q = h s.0 in fields_apart (fde_fields target.size places p.form) target p q.0 q.1 r q.2.1 s.1
 
 pub has_cie : (target : Target) (places : List ℕ) (p : Piece) (h : Head) → Has target places p h → CieHolds target p
 has_cie target places p h (inl c) is = (c.0, c.1, c.2)

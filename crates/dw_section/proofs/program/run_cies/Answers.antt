@@ -1,4 +1,4 @@
-use Rattle.dw_section.proofs.{Words.{sym, take, subst, AllByRecursion, Dwarf32, drop_more, take-append-drop, take_all, refuses_by, take_more}, KeptCies.{Ran, all_ran, first_broken}, Stages.{all_push, handed_on}}
+use Rattle.dw_section.proofs.{Words.{sym, take, subst, AllByRecursion, Dwarf32, drop_more, take-append-drop, take_all, refuses_by, take_more, drop, ◌+◌}, KeptCies.{Ran, all_ran, first_broken}, Stages.{all_push, handed_on}}
 use Rattle.dw_section.proofs.program.run_cies.Goals as goal
 
 pub loop-cie-preserved : goal.loop-cie-preserved
@@ -15,7 +15,7 @@ returns-in_err-run_cie-clause-first c = λ hs of.
     let i = c.loop-cie.cie-index in
     let x = c.cie-item.result in
     let whole = rw (drop_more xs i x c.loop-cie-test.true, ← c.cie-item.is) at (sym (take-append-drop i xs)) in
-    handed_on c.from_residual.result _ c.from_residual.ensures.1 (refuses_by c.in_err-run_cie.field-0.0 _ _ (λ r h. first_broken c.args.target hs xs (take i xs) x _ r of whole c.loop-cie.invariant (λ form. h)) (c.in_err-run_cie.ensures.stuck Dwarf32))
+    handed_on c.from_residual.result _ c.from_residual.ensures.1 (refuses_by c.in_err-run_cie.field-0.0 _ _ (λ r h. first_broken c.args.target hs xs r of (record { before = take i xs; it = x; after = drop (i + 1) xs; whole = whole; hold = c.loop-cie.invariant; stuck = λ form. h })) (c.in_err-run_cie.ensures.stuck Dwarf32))
 
 pub returns-clause-found : goal.returns-clause-found
 returns-clause-found c = λ hs of. all_ran c.args.target hs hs c.args.initials.now (λ h i. i) of (subst (AllByRecursion (Ran c.args.target)) (take_all c.loop-cie.cie-index c.args.initials.now c.loop-cie-test.false) c.loop-cie.invariant)

@@ -4,7 +4,7 @@ use Rattle.dw_unwind.proofs.laws.unwind_laws.Goals as goal
 pub returns : goal.returns
 returns c =
     let laws = c.section_laws.ensures in
-    let one = one_frame laws.headers c.one_order.ensures laws.fdes laws.rules in
+    let one = one_frame laws.headers laws.order laws.fdes laws.rules in
     record {
       frame = one;
       some = some_frame c.evaluation_laws.ensures.value c.block_laws.ensures.in_range laws.listed laws.ruled laws.fit laws.set one;
