@@ -2,9 +2,9 @@
 use Rattle.dw_cfa.specs.RegisterSets.{Registers, has}
 use Rattle.dw_cfa.proofs.Lent.RowLists.{Entry}
 use Rattle.dw_section.specs.declared.change.Behind.{Behind}
-use Rattle.dw_section.proofs.Words.{◌≡◌, ℕ, suc, ◌<◌, Bool, true, false, List, [], ◌∷◌, Option, Some, None, Ok, refl, sym, ap, subst, arith, inl, inr, filter, nat_tests, cases_Bool, cases_lt, IfSome, IsTrue, MatchOption, AreBytes}
-use Rattle.dw_section.proofs.Words.{Target, LocatedRow, RegRule, Rules, Led, Walking, AllKeep, AreSpecified, HasBytes, LedBy, Section, changes_among, is_kept, is_specified, kept, kept_by, leaves_one, rule, rule_in, shown_if, unlisted}
-use Rattle.dw_section.proofs.{Words.{LeavesTo, FirstDifference, CieKeeps, StandsOn, finished, ShownBehind, shown_of, AreChanged, CieLeaves, first_left}, ChangesAmong.changes_keep, Dropped.none_dropped, Lent.Heads.{all_in, heads_bytes}}
+use Rattle.dw_section.proofs.Words.{◌≡◌, ℕ, suc, ◌<◌, Bool, true, false, List, [], ◌∷◌, Option, Some, None, Ok, refl, sym, ap, subst, arith, inl, inr, filter, nat_tests, cases_Bool, cases_lt, IfSome, IsTrue, MatchOption, AreBytes, Target}
+use Rattle.dw_section.proofs.Words.{LocatedRow, RegRule, Rules, Led, Walking, AllKeep, AreSpecified, HasBytes, LedBy, Section, changes_among, is_kept, is_specified, kept, kept_by, leaves_one, rule, rule_in, shown_if, unlisted, LeavesTo}
+use Rattle.dw_section.proofs.{Words.{FirstDifference, CieKeeps, StandsOn, finished, ShownBehind, shown_of, AreChanged, CieLeaves, first_left}, ChangesAmong.changes_keep, Dropped.none_dropped, Lent.Heads.{all_in, heads_bytes}}
 
 -- ---- the registers to which a row gives other rules than the one before
 
@@ -45,9 +45,6 @@ stands_kept walk bytes stands left same = stands_by walk.initial stands where
       subst (λ (r : Rules). kept walk.steps.current r ≡ walk.steps.current) one same
 
 module _ (s : Section) (place : ℕ) (led : Led) (by : LedBy s place led) where
-  led_bytes : AreBytes s.bytes → AreBytes led.program.bytes
-  led_bytes bytes = all_in HasBytes by.headers _ (heads_bytes s.target s.bytes by.headers bytes by.hold.0.0.0) by.names.2
-
   cie_leaves : (row : Rules) → LeavesTo led.factors led.program (Ok row) → CieLeaves s.target s.bytes place row
   cie_leaves row left = record {
     headers = by.headers;
@@ -87,4 +84,4 @@ module _ (s : Section) (place : ℕ) (walk : Walking) (lent kept : Bool) (by : L
   pub all_shown : (end : ℕ) (answer : Option Behind) → AreBytes s.bytes → IfSome answer (λ behind. IsTrue behind.keeps → AreBytes walk.led.program.bytes → AllKeep walk.steps.current walk.steps.outcome.rows)
       → IfSome answer (λ behind. IsTrue behind.keeps → IfSome shown (λ first. kept_by first (changes_among end shown walk.steps.outcome.rows) ≡ first))
   all_shown end None bytes all = tt
-  all_shown end (Some behind) bytes all = λ keeps. drops_none lent kept walk.steps.current walk.kept none end walk.steps.outcome.rows (all keeps (led_bytes s place walk.led by bytes))
+  all_shown end (Some behind) bytes all = λ keeps. drops_none lent kept walk.steps.current walk.kept none end walk.steps.outcome.rows (all keeps (all_in HasBytes by.headers _ (heads_bytes s.target s.bytes by.headers bytes by.hold.0.0.0) by.names.2))

@@ -1,5 +1,5 @@
 -- A walk between the items that it has seen and those that are left.
-use Rattle.dw_section.proofs.{Words.{◌≡◌, List, [], ◌∷◌, ◌++◌, refl, sym, ap, subst, ◌∙◌, append_assoc, append-nil, AllByRecursion, Refusal, FirstStuck, IsAmong}, Stages.{among_here, holds_at}}
+use Rattle.dw_section.proofs.{Words.{◌≡◌, List, [], ◌∷◌, ◌++◌, refl, sym, ap, subst, ◌∙◌, append_assoc, append-nil, AllByRecursion, Refusal, FirstStuck, IsAmong}, Stages.among_here}
 
 pub record Between {X : Type 0} (Left Front : List X → Type 0) (xs : List X) : Type 0 where
   pub front : List X
@@ -26,10 +26,6 @@ between_end {Front} xs w e = subst Front (sym (w.whole ∙ ap (λ ys. w.front ++
 pub between_stuck : {X : Type 0} {Left Front : List X → Type 0} (Holds : X → Type 0) (Stuck : X → Refusal → Type 0) (xs : List X) (w : Between Left Front xs) (x : X) (more : List X) (r : Refusal) → w.rest ≡ x ∷ more
     → AllByRecursion Holds w.front → Stuck x r → FirstStuck Holds Stuck xs r
 between_stuck Holds Stuck xs w x more r e hold stuck = record { before = w.front; it = x; after = more; whole = w.whole ∙ ap (λ ys. w.front ++ ys) e; hold = hold; stuck = stuck }
-
--- what holds of all holds of the item that comes next
-pub between_now : {X : Type 0} {Left Front : List X → Type 0} (Holds : X → Type 0) (xs : List X) (w : Between Left Front xs) (x : X) (more : List X) → w.rest ≡ x ∷ more → AllByRecursion Holds xs → Holds x
-between_now Holds xs w x more e all = holds_at Holds w.front x more (subst (AllByRecursion Holds) (w.whole ∙ ap (λ ys. w.front ++ ys) e) all)
 
 -- the item that comes next is among them
 pub between_among : {X : Type 0} {Left Front : List X → Type 0} (xs : List X) (w : Between Left Front xs) (x : X) (more : List X) → w.rest ≡ x ∷ more → IsAmong x xs

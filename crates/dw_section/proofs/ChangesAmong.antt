@@ -18,11 +18,7 @@ module _ (end : ℕ) (shown : Option Rules) (row : LocatedRow) (rows : List Loca
   tells : Decides shows (Shows end shown row rows)
   tells = Decides-and (is_before end row.location rows) (not (repeats shown row.row)) (before_tells end row.location rows) (Decides-not (repeats shown row.row) (repeats_tells shown row.row))
 
-  -- a row that an address shows is a change, where it is not the one that was shown
-  more : Shows end shown row rows → changes_among end shown (row ∷ rows) ≡ (row.location, row.row) ∷ changes_among end (Some row.row) rows
-  more is = rw (tells.1 is) refl
-
-  -- and no other one
+  -- a row that no address shows, or that repeats the one that was shown, is none
   no_more : (Shows end shown row rows → ⊥) → changes_among end shown (row ∷ rows) ≡ changes_among end shown rows
   no_more not = elim (cases_Bool shows) [ inl e ↦ absurd (not (tells.0 e)) | inr e ↦ rw e refl ]
 
@@ -62,7 +58,7 @@ module _ (start : ℕ) (old new : Stepping) (o : Option ℕ) (advances : Advance
   module _ (end : ℕ) (shown : Option Rules) where
     -- a row that an address shows and that is not the one that was shown
     pub found : Before end start new.outcome.rows → (shown ≡ Some new.current → ⊥) → changes_among end shown old.outcome.rows ≡ (start, new.current) ∷ changes_among end (Some new.current) new.outcome.rows
-    found before other = ap (λ (o : Outcome). changes_among end shown o.rows) moved ∙ more end shown row new.outcome.rows (before, other)
+    found before other = ap (λ (o : Outcome). changes_among end shown o.rows) moved ∙ rw ((tells end shown row new.outcome.rows).1 (before, other)) refl
 
     -- and one that is not
     pub passes : (Shows end shown row new.outcome.rows → ⊥) → changes_among end shown old.outcome.rows ≡ changes_among end shown new.outcome.rows

@@ -1,5 +1,5 @@
 -- The CIE at a place of a section is one.
-use Rattle.dw_section.proofs.{Words.{◌≡◌, ℕ, List, ◌∙◌, refl, sym, ap, subst, Target, Led, Head, cie, fde, FoundFde, IsFoundIn, LedBy, Section, led_to, unled, NamesCie}, Lent.HeaderLaws.one_headers, Lent.Heads.{heads_rise, one_among}}
+use Rattle.dw_section.proofs.{Words.{◌≡◌, ℕ, List, ◌∙◌, refl, sym, ap, subst, Target, Led, Head, cie, fde, LedBy, Section, unled, NamesCie}, Lent.HeaderLaws.one_headers, Lent.Heads.{heads_rise, one_among}}
 
 -- what a walk is led to by a CIE's head
 abbrev led_in : Target → Head → Led
@@ -10,10 +10,6 @@ led_in target (fde f) = unled target
 abbrev head_of : (hs : List Head) (place : ℕ) (led : Led) → NamesCie hs place led → Head
 head_of hs place led names =
     cie (record { at = place; form = names.0; code_factor = led.factors.code_factor; data_factor = led.factors.data_factor; return_register = names.1; program = record { at = led.program.at; bytes = led.program.bytes } })
-
--- a listed FDE's walk is led to its CIE
-pub found_led : (s : Section) (e : FoundFde) → IsFoundIn s.target s.bytes e → LedBy s e.cie_at (led_to s.target e)
-found_led s e f = record { headers = f.headers; hold = f.hold; names = (f.is.1, f.is.2, f.is.4); target_is = refl }
 
 pub one_led : (s : Section) (place : ℕ) (a b : Led) → LedBy s place a → LedBy s place b → a ≡ b
 one_led s place a b p q =

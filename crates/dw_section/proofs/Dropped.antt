@@ -51,9 +51,6 @@ module _ (shared before row : Rules) (up : AreSpecified 0 shared.registers) (nar
         same_rows mid (kept shared row) h.ascends (filter_keeps (is_kept row.registers) 0 shared.registers up) h.cfa
         (λ r. grind (arith, nat_tests, h.rules r, stays r, same r, filter_rule (is_kept row.registers) 0 shared.registers r up))
 
-abbrev with_left : Rules → List Entry → Rules
-with_left shared xs = record { cfa = shared.cfa; registers = xs }
-
 filter_twice : (p : Entry → Bool) (xs : List Entry) → filter p (filter p xs) ≡ filter p xs
 filter_twice p [] = refl
 filter_twice p (x ∷ xs) = elim (cases_Bool (p x)) [
@@ -62,7 +59,7 @@ filter_twice p (x ∷ xs) = elim (cases_Bool (p x)) [
 ]
 
 pub kept_again : (shared after row : Rules) → after ≡ kept shared row → kept after row ≡ after
-kept_again shared after row is = subst (λ (r : Rules). kept r row ≡ r) (sym is) (ap (with_left shared) (filter_twice (is_kept row.registers) shared.registers))
+kept_again shared after row is = subst (λ (r : Rules). kept r row ≡ r) (sym is) (ap (λ (xs : List Entry). let k : Rules = record { cfa = shared.cfa; registers = xs } in k) (filter_twice (is_kept row.registers) shared.registers))
 
 -- the row before a change is the one that was shown
 pub before_is : (shown before : Option Rules) (o : Option ℕ) (to : ℕ) → before ≡ before_then o shown → o ≡ Some to → before ≡ shown

@@ -1,7 +1,7 @@
 -- The programs of an FDE of a section whose rules hold give rows.
 use Rattle.dw_section.proofs.Words.{◌≡◌, ℕ, ◌≤◌, List, None, inr, sym, ap, subst, ◌∙◌, arith, Target, Input, AreBytes, input_of, address_limit, Factors, Instr, CfaRule, ProgramSpells, CieKept, FdeKept, initial_cfa, RulesHold, IsAmong, Head}
-use Rattle.dw_section.proofs.Words.{CieHead, FdeHead, fde, HasBytes, FdeFits, cie_ats, CieRuns, FdeRuns, InitialInstrs, factors_of, Gives, LocatedRow, Outcome, RunsTo, gives_where_kept, leaves_where_kept, one_run}
-use Rattle.dw_section.proofs.{Cfa.one_program, Lent.ChangeLaws.Given, Lent.CheckFirst.one_instrs, Lent.Heads.{all_in, heads_rise, heads_bytes, heads_fit}}
+use Rattle.dw_section.proofs.{Words.{CieHead, FdeHead, fde, HasBytes, FdeFits, cie_ats, CieRuns, FdeRuns, InitialInstrs, factors_of, Gives, LocatedRow, Outcome, RunsTo, gives_where_kept, leaves_where_kept, one_run}, Lent.Heads.one_program}
+use Rattle.dw_section.proofs.Lent.{Heads.{all_in, heads_rise, heads_bytes, heads_fit}, ChangeLaws.Given, CheckFirst.one_instrs}
 
 -- programs that give rows run to these alone
 pub one_outcome : (f : Factors) (initial own : Input) (begin : ℕ) (o : Outcome) (rows : List LocatedRow) → AreBytes initial.bytes → AreBytes own.bytes → begin ≤ address_limit own.target.size → RunsTo f initial own begin o → Gives f initial own begin rows

@@ -1,10 +1,12 @@
 -- An item at the front, and items in a row.
 use Rattle.dw_section.proofs.Words.{eqb, false, inl, inr, ◌≡◌, ℕ, ◌+◌, add-zero, zero-add, ◌<◌, ◌≤◌, Result, Ok, Err, List, [], ◌∷◌, ◌++◌, length, map, Option, Some, None, refl, sym, ap, subst, ◌∙◌, append_assoc, arith, le-ltb}
 use Rattle.dw_section.proofs.Words.{AllByRecursion, cons_option, length-append, append-nil, map-append, take_at, drop_at, ne_eqb, length-fixed, unit_length_only, length_bytes, Form, Target, Refusal, Pieces, Kind, CutFault, Order, Dwarf32}
-use Rattle.dw_section.proofs.Words.{Dwarf64, Input, Takes, Item, gap, entry, IsItem, item_bytes, is_cie, id_width, all_bytes, Piece, piece_of, pieces, fixed_bytes, ok_is, Entries, entry_of, item_at, IsStuck, Four, Cut}
+use Rattle.dw_section.proofs.{Words.{Dwarf64, Input, Takes, Item, gap, entry, IsItem, item_bytes, is_cie, id_width, all_bytes, Piece, piece_of, pieces, fixed_bytes, ok_is, entry_of, item_at, IsStuck, Four, Cut}, Stages.all_push}
 use Rattle.dw_section.specs.declared.entry.Entry.{Entry}
 use Rattle.dw_num.specs.declared.target.Order.TheVariants.{Little, Big}
-use Rattle.dw_section.proofs.{Cfa.err_one, Stages.all_push}
+
+err_one : {A : Type 0} (x : Result A Refusal) (r q : Refusal) → x ≡ Err r → x ≡ Err q → r ≡ q
+err_one x r q v w = let e = sym v ∙ w in cc
 
 pub gap_bytes : (order : Order) → length_bytes order Dwarf32 0 ≡ 0 ∷ 0 ∷ 0 ∷ 0 ∷ []
 gap_bytes Little = refl
@@ -139,11 +141,6 @@ pub one_cut : (order : Order) (s : List ℕ) (xs ys : List Item) → Cut order s
 one_cut order s xs ys p q =
     (one_walk order xs ys [] [] p.each q.each (none_stops order) (none_stops order) (append-nil (all_bytes order xs) ∙ sym p.whole ∙ q.whole ∙ sym (append-nil (all_bytes order ys)))).0
 
-pub stuck_or_cut : (target : Target) (s : List ℕ) (items : List Item) (r : Refusal) → Cut target.order s items → IsStuck target s r → ⊥
-stuck_or_cut target s items r p w =
-    let e = (one_walk target.order items w.items [] w.rest p.each w.each (none_stops target.order) (stuck_stops target s r w) (append-nil (all_bytes target.order items) ∙ sym p.whole ∙ w.whole)).1 in
-    omega (arith, ap length e, w.some)
-
 -- where two are stuck they are one
 pub one_stuck : (target : Target) (s : List ℕ) (r q : Refusal) → IsStuck target s r → IsStuck target s q → r ≡ q
 one_stuck target s r q v w =
@@ -156,7 +153,10 @@ one_pieces target s ps qs p q = p.are ∙ ap (pieces target.order 0) (one_cut ta
 
 -- a fault of the cut and pieces exclude each other
 pub cut_or_pieces : (target : Target) (s : List ℕ) (r : Refusal) (ps : List Piece) → CutFault target s r → Pieces target s ps → ⊥
-cut_or_pieces target s r ps fault p = elim fault [ inl large ↦ omega (arith, large.0, p.small) | inr stuck ↦ stuck_or_cut target s p.items r p.cut stuck.1 ]
+cut_or_pieces target s r ps (inl large) p = omega (arith, large.0, p.small)
+cut_or_pieces target s r ps (inr (small, w)) p =
+    let e = (one_walk target.order p.items w.items [] w.rest p.cut.each w.each (none_stops target.order) (stuck_stops target s r w) (append-nil (all_bytes target.order p.items) ∙ sym p.cut.whole ∙ w.whole)).1 in
+    omega (arith, ap length e, w.some)
 
 -- ---- entries
 
@@ -179,7 +179,3 @@ listed_entry target s old new found form kind at place body w is t at-is kind-is
 
 pub listed_gap : (target : Target) (s : List ℕ) (old new : Input) (found : List Entry) → IsListed target s old found → Takes old (item_bytes old.target.order gap) new → IsListed target s new found
 listed_gap target s old new found w t = record { parts = w.parts; walked = rw append-nil at (walked_more target s old new w.parts gap w.walked tt t); are = w.are }
-
--- a section has one list of entries
-pub one_entries : (target : Target) (s : List ℕ) (es fs : List Entry) → Entries target s es → Entries target s fs → es ≡ fs
-one_entries target s es fs p q = p.are ∙ ap (map entry_of) (one_pieces target s p.parts q.parts p.cut q.cut) ∙ sym q.are

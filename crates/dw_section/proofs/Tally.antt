@@ -1,14 +1,8 @@
 -- Entries are counted as a section is walked, and the places of CIEs are kept.
-use Rattle.dw_section.proofs.Words.{◌≡◌, ℕ, ◌+◌, ◌≤◌, List, [], ◌∷◌, ◌++◌, length, refl, arith, length-append, append-nil, filter_map-append, Form, Target, length_bytes, Input, Takes, Kind, gap, entry, IsItem, item_bytes, is_cie, Piece}
+use Rattle.dw_section.proofs.{Words.{◌≡◌, ℕ, ◌+◌, ◌≤◌, List, [], ◌∷◌, ◌++◌, length, refl, arith, length-append, append-nil, Form, Target, length_bytes, Input, Takes, Kind, gap, entry, IsItem, item_bytes, is_cie, Piece}, Items.IsWalked}
+use Rattle.dw_section.proofs.Items.{walked_more, walked_entry, item_some}
 use Rattle.dw_section.specs.Inner.Counts.{ArePlaced}
-use Rattle.dw_section.proofs.Items.{IsWalked, walked_more, walked_entry, item_some}
 use Rattle.dw_section.specs.declared.entry.Kind.TheVariants as kind
-
-pub placed_cie : (ps : List Piece) (p : Piece) (cies : List ℕ) (fdes : ℕ) → p.kind ≡ kind.Cie → ArePlaced ps cies fdes → ArePlaced (ps ++ p ∷ []) (cies ++ p.at ∷ []) fdes
-placed_cie ps p cies fdes is w = record { cies = rw (filter_map-append, w.cies, is) refl; all = omega (arith, w.all, length-append cies (p.at ∷ []), length-append ps (p ∷ [])) }
-
-pub placed_fde : (ps : List Piece) (p : Piece) (cies : List ℕ) (fdes : ℕ) → p.kind ≡ kind.Fde → ArePlaced ps cies fdes → ArePlaced (ps ++ p ∷ []) cies (fdes + 1)
-placed_fde ps p cies fdes is w = record { cies = rw (filter_map-append, w.cies, is, append-nil) refl; all = omega (arith, w.all, length-append ps (p ∷ [])) }
 
 -- what a walk that counts knows
 pub record IsTallied (target : Target) (s : List ℕ) (now : Input) (cies : List ℕ) (fdes : ℕ) : Type 0 where

@@ -3,9 +3,13 @@ use Rattle.dw_section.proofs.Words.{◌≡◌, ℕ, ◌≤◌, List, [], ◌∷�
 use Rattle.dw_section.proofs.Words.{Headers, Ok, Err, HeadersFault, HeadsRise, FdeFits, HasBytes, cie_ats, Range, IsIndex, AreApart, FirstOverlap, end_of, IsAmong, Instrs, CieRuns, CieBroken, FdeRuns, FdeBroken, HasRules, LacksRule}
 use Rattle.dw_section.proofs.Words.{factors_of, RulesHold, Accepted, CieProgramsFault, FdeProgramsFault, RulesFault, CheckFault, CiesRun, FdesRun, Indexed, Some, None, CieHead, FdeHead, InitialInstrs, some_is, behind_where_fault}
 use Rattle.dw_section.proofs.Words.{gives_where_kept, leaves_where_kept, one_behind, one_initial, zero, suc, ◌+◌, ◌<◌, ◌⊎◌, true, refl, append_assoc, append-nil, Option, Result, cases_lt, eqb_tells, NoCfaRule, CfaRule, Unset, Rules}
-use Rattle.dw_section.proofs.{Words.{Outcome, cfa_after, counts_exists, one_count, address_limit, is_among, HasCfa, nonempty, Precedes, Ascends, PlacesRise, Input, LeavesTo, RunsBehind, CieKept, LacksCfa}, Cfa.{row_of, one_program}}
-use Rattle.dw_section.proofs.{Lent.HeaderLaws.one_headers, Lent.Heads.{heads_rise, heads_bytes, heads_fit, one_begin}, Lent.Index.{all_in, one_index, all_from}, Stages.{holds_at, splits, all_weaker, Judges, Stage, answered, next_items}}
+use Rattle.dw_section.proofs.{Words.{Outcome, cfa_after, counts_exists, one_count, address_limit, is_among, HasCfa, nonempty, Precedes, Ascends, PlacesRise, Input, LeavesTo, RunsBehind, CieKept, LacksCfa, ◌-◌}, Lent.Heads.one_program}
+use Rattle.dw_section.proofs.{Lent.Heads.{heads_rise, heads_bytes, heads_fit, one_begin}, Lent.HeaderLaws.one_headers, Lent.Index.{all_in, one_index, all_from}, Stages.{holds_at, splits, all_weaker, Judges, Stage, answered, next_items}}
 use Rattle.dw_section.proofs.{Stages.next_stage, Ordered.apart_more, Tables.nonempty_rise, FirstFault.headers_stage}
+
+-- a row of this rule alone
+abbrev row_of : CfaRule → Rules
+row_of cfa = record { cfa = cfa; registers = [] }
 
 -- what is known of a header, for the stages of programs
 abbrev pub Known : Target → List Head → Head → Type 0
@@ -102,25 +106,13 @@ module _ (initial instrs : List Instr) (begin : ℕ) where
       ]
 
   -- the CFA has a rule at each of so many addresses, or has none at one of them
-  abbrev AllHave : ℕ → Type 0
-  AllHave n = (a : ℕ) → begin ≤ a → a < begin + n → HasCfa initial instrs begin a
-
-  abbrev OneLacks : ℕ → Type 0
-  OneLacks n = (a : ℕ) × (begin ≤ a) × (a < begin + n) × LacksCfa initial instrs begin a
-
-  one_more : (n : ℕ) → AllHave n → HasCfa initial instrs begin (begin + n) → AllHave (suc n)
-  one_more n all last a le lt = elim (cases_lt a (begin + n)) [
-    | inl below ↦ all a le below
-    | inr ge ↦ let is : begin + n ≡ a = omega (arith, ge, lt) in subst (HasCfa initial instrs begin) is last
-  ]
-
-  all_have : (n : ℕ) → AllHave n ⊎ OneLacks n
-  all_have zero = inl (λ a le lt. absurd (omega (arith, le, lt)))
+  all_have : (n : ℕ) → ((k : ℕ) → k < n → HasCfa initial instrs begin (begin + k)) ⊎ ((k : ℕ) × (k < n) × LacksCfa initial instrs begin (begin + k))
+  all_have zero = inl (λ k lt. absurd (omega arith))
   all_have (suc n) = elim (all_have n) [
-    | inr w ↦ inr (w.0, w.1, omega (arith, w.2), w.3)
+    | inr w ↦ inr (w.0, omega (arith, w.1), w.2)
     | inl all ↦ elim (has_or_lacks (begin + n) (omega arith)) [
-      | inl last ↦ inl (one_more n all last)
-      | inr lacks ↦ inr (begin + n, omega arith, omega arith, lacks)
+      | inl last ↦ inl (λ k lt. elim (cases_lt k n) [ inl below ↦ all k below | inr ge ↦ let is : n ≡ k = omega (arith, ge, lt) in subst (λ (m : ℕ). HasCfa initial instrs begin (begin + m)) is last ])
+      | inr lacks ↦ inr (n, omega arith, lacks)
     ]
   ]
 
@@ -134,8 +126,8 @@ rule_judged target hs up all (fde f) b runs = record {
       has.3 l.3.0 l.3.1 l.3.2 gap.0 (rw same.1 at gap.1) (rw (same.0, same.1) at gap.2);
   one = λ r q v w. v.0 ∙ sym w.0;
   some = λ given. elim (all_have runs.0 runs.1 f.begin f.range) [
-    | inl all ↦ inl (runs.0, runs.1, runs.2, all)
-    | inr w ↦ inr (record { code = NoCfaRule; at = f.at }, (refl, (runs.0, runs.1, runs.2, w)))
+    | inl all ↦ inl (runs.0, runs.1, runs.2, λ a le lt. let is : f.begin + (a - f.begin) ≡ a = omega (arith, le) in subst (HasCfa runs.0 runs.1 f.begin) is (all (a - f.begin) (omega (arith, le, lt))))
+    | inr w ↦ inr (record { code = NoCfaRule; at = f.at }, (refl, (runs.0, runs.1, runs.2, (f.begin + w.0, omega arith, omega (arith, w.1), w.2))))
   ];
 }
 

@@ -1,7 +1,7 @@
 -- What a table lists, and where an address is found in it.
 use Rattle.dw_section.proofs.Words.{◌≡◌, ℕ, zero, suc, ◌+◌, ◌<◌, ◌≤◌, List, [], ◌∷◌, map, length, get_or, refl, sym, ap, subst, ◌∙◌, arith, inl, inr, AllByRecursion, AllZip, Target, Ranged, Head, CieHead, FdeHead, Headers, HeadsRise}
-use Rattle.dw_section.proofs.Words.{IsRanged, range_in, fde_in, IsTable, Returns, Lists, AreFdes, Covers, NoneCovers, IsAmong, Range, Precedes, Ascends, AreApart, IsIndex, Fde, IsNonDecreasingBy, length-map, get_or-map}
-use Rattle.dw_section.proofs.{Lent.Judged.{all_get, all_get_map}, Lent.HeaderLaws.one_headers, Lent.Heads.{heads_rise, one_among, cie_or, fde_or}, Lent.Index.{all_from, one_index}, Stages.one_zip}
+use Rattle.dw_section.proofs.{Words.{IsRanged, range_in, fde_in, IsTable, Returns, Lists, AreFdes, NoneCovers, IsAmong, Range, Precedes, Ascends, AreApart, IsIndex, Fde, IsNonDecreasingBy, get_or-map}, Lent.Judged.{all_get, all_get_map}}
+use Rattle.dw_section.proofs.{Lent.HeaderLaws.one_headers, Lent.Heads.{heads_rise, one_among, cie_or, fde_or}, Lent.Index.{all_from, one_index}, Stages.one_zip}
 
 -- ---- the list
 
@@ -49,12 +49,9 @@ one_fdes target s fs gs v w =
 abbrev pub none : Ranged
 none = record { begin = 0; range = 0; at = 0; return_register = 0 }
 
-later_begin : (a : Range) (list : List Ranged) (k : ℕ) (d : Ranged) → AllByRecursion (Precedes a) (map range_in list) → k < length list → a.begin ≤ (get_or list k d).begin
-later_begin a list k d h lt = elim (all_get_map (Precedes a) range_in list k d h lt) [ inl x ↦ omega arith | inr x ↦ omega (arith, x.0) ]
-
 pub begins_ascend : (list : List Ranged) → Ascends (map range_in list) → IsNonDecreasingBy (λ (e : Ranged). e.begin) list
 begins_ascend (e ∷ list) up zero zero d le lt = omega arith
-begins_ascend (e ∷ list) up zero (suc j) d le lt = later_begin (range_in e) list j d up.0 (omega arith)
+begins_ascend (e ∷ list) up zero (suc j) d le lt = elim (all_get_map (Precedes (range_in e)) range_in list j d up.0 (omega arith)) [ inl x ↦ omega arith | inr x ↦ omega (arith, x.0) ]
 begins_ascend (e ∷ list) up (suc i) (suc j) d le lt = begins_ascend list up.1 i j d (omega arith) (omega arith)
 begins_ascend list up i j d le lt = absurd (omega arith)
 
@@ -73,16 +70,9 @@ none_covers a (e ∷ list) (suc i) x apart lt is begin end above = (
   none_covers a list i x apart.1 (omega arith) is begin end (λ k d le l. above (suc k) d (omega arith) (omega arith)),
 )
 
-pub covers_listed : (a : ℕ) (list : List Ranged) (i : ℕ) → i < length list → ((d : Ranged) → Covers a (fde_in (get_or list i d))) → (i < length (map fde_in list)) × ((d : Fde) → Covers a (get_or (map fde_in list) i d))
-covers_listed a list i lt h = (omega (arith, lt, length-map list fde_in), λ d. rw (get_or-map fde_in list i none d lt) (h none))
-
 -- an FDE at a place of a list is listed
 pub fde_listed : (f : Fde) (fs : List Fde) (i : ℕ) → i < length fs → ((d : Fde) → f ≡ get_or fs i d) → IsAmong f fs
 fde_listed f fs i lt is = subst (λ (x : Fde). IsAmong x fs) (sym (is f)) (all_get (λ x. IsAmong x fs) fs i f (all_from (λ x. IsAmong x fs) fs (λ x among. among)) lt)
-
--- a place in any such list is one in that of the table
-pub listed_place : (target : Target) (s : List ℕ) (list : List Ranged) (place : ℕ) → IsTable target s list → ((fs : List Fde) → AreFdes target s fs → place < length fs) → place < length list
-listed_place target s list place t lt = omega (arith, lt (map fde_in list) (are_fdes target s list t), length-map list fde_in)
 
 pub listed_are : (target : Target) (s : List ℕ) (list : List Ranged) → IsTable target s list → (fs : List Fde) → AreFdes target s fs → map fde_in list ≡ fs
 listed_are target s list t fs are = one_fdes target s (map fde_in list) fs (are_fdes target s list t) are

@@ -1,8 +1,8 @@
 -- What is read of the table part by part; and what the table says of its numbers.
-use Rattle.dw_num.specs.declared.target.Size.TheVariants.{Four as Short, Eight as Long}
-use Rattle.dw_section.proofs.Words.{◌≡◌, ℕ, ◌+◌, ◌<◌, ◌≤◌, ◌==◌, ◌^◌, Bool, true, false, List, None, Ok, Err, refl, sym, ap, subst, arith, inl, inr, Result, IsErrAnd, w64, ℤ, FitsSigned, nat_le, cond, nat_lt, leb-true}
-use Rattle.dw_section.proofs.Words.{ltb-true, cond_both, Code, NoSuchCie, Form, Dwarf32, Dwarf64, Size, Target, IsWidth, Read, address_limit, byte_count, CieFields, FdeFields, id_width, Fields, end, field, cie_fields}
-use Rattle.dw_section.proofs.{Words.{is_among, fde_fields, FieldsSpell, fixed, unsigned, Refusal, AddressSize, SegmentSelector, RangeTooLarge, RegisterTooLarge, any, unless, factors, Passes}, FieldLaws.AreNumbers}
+use Rattle.dw_num.proofs.Lent.FixedLaws.{address_is_width}
+use Rattle.dw_section.proofs.Words.{◌≡◌, ℕ, ◌+◌, ◌<◌, ◌≤◌, ◌==◌, ◌^◌, Bool, true, false, List, None, Ok, Err, refl, sym, ap, subst, arith, inl, inr, Result, IsErrAnd, w64, ℤ, FitsSigned, nat_le, cond, nat_lt, leb-true, ltb-true, cond_both}
+use Rattle.dw_section.proofs.Words.{Code, NoSuchCie, Form, Dwarf32, Dwarf64, Size, Target, IsWidth, Read, address_limit, byte_count, CieFields, FdeFields, id_width, Fields, end, field, cie_fields, is_among, fde_fields, FieldsSpell, fixed}
+use Rattle.dw_section.proofs.{Words.{unsigned, Refusal, AddressSize, SegmentSelector, RangeTooLarge, RegisterTooLarge, any, unless, factors, Passes}, FieldLaws.AreNumbers}
 
 -- ---- a part of the table, and the rest
 
@@ -20,10 +20,6 @@ width_is : (form : Form) → IsWidth (id_width form)
 width_is Dwarf32 = inr (inr (inl refl))
 width_is Dwarf64 = inr (inr (inr refl))
 
-size_is : (size : Size) → IsWidth (byte_count size)
-size_is Short = inr (inr (inl refl))
-size_is Long = inr (inr (inr refl))
-
 abbrev Numbers : Fields CieFields → Type 0
 Numbers fs = AreNumbers fs
 
@@ -39,7 +35,7 @@ cie_numbers size form = (
 )
 
 pub fde_numbers : (size : Size) (places : List ℕ) (form : Form) → AreNumbers (fde_fields size places form)
-fde_numbers size places form = (width_is form, λ cie_at. (size_is size, λ begin. (size_is size, λ range. tt)))
+fde_numbers size places form = (width_is form, λ cie_at. (address_is_width size, λ begin. (address_is_width size, λ range. tt)))
 
 -- ---- what they say
 

@@ -1,8 +1,7 @@
 -- Headers are read as they are spelled, and a section has at most one list of them.
 use Rattle.dw_section.proofs.Words.{◌≡◌, ℕ, ◌+◌, List, [], ◌∷◌, length, Result, Ok, Err, inl, inr, refl, sym, ap, subst, ◌∙◌, arith, IfErr, length-append, AllByRecursion, AllZip, Target, Refusal, Input, AreBytes, Span, CieFields, FdeFields}
 use Rattle.dw_section.proofs.Words.{Kind, Piece, Pieces, cie_places, Rises, Fields, cie_fields, fde_fields, FieldsFault, program_of, contents_of, Head, cie_head, IsCie, IsFde, Has, Headers, CieHolds, CieStuck, FdeHolds, Read, ◌>>=◌, done}
-use Rattle.dw_section.proofs.{Words.{ok_is, cie_of_piece, cie_at, fde_of_piece, fde_at, fde_head, HasFields}, FieldLaws.{AreNumbers, fields_at, fault_is, fields_found, fields_again}, Lent.FieldTable.{cie_numbers, fde_numbers}}
-use Rattle.dw_section.proofs.{Items.one_pieces, Places.places_rise, Stages.{all_from_zip, one_zip}}
+use Rattle.dw_section.proofs.{Words.{ok_is, cie_of_piece, cie_at, fde_of_piece, fde_at, fde_head, HasFields}, FieldLaws.{AreNumbers, fields_at, fault_is, fields_found, fields_again}, Items.one_pieces, Places.places_rise, Stages.one_zip}
 use Rattle.dw_section.specs.Inner.Stage.{Answers}
 use Rattle.dw_section.specs.declared.entry.Kind.TheVariants as kind
 
@@ -16,14 +15,6 @@ reads_fields fs are target p x j h e =
 
 pub fields_end : {X : Type 0} (target : Target) (p : Piece) (fs : Fields X) (x : X) (program : Span) → HasFields target p fs x program → program.at + length program.bytes ≡ p.contents.at + length p.contents.bytes
 fields_end target p fs x program is = omega (arith, is.place, ap length is.whole, length-append is.spelling program.bytes)
-
-pub cie_reads : (target : Target) (p : Piece) (j : Input) (f : CieFields) → AreBytes p.contents.bytes → p.kind ≡ kind.Cie → fields_at (cie_fields target.size p.form) (contents_of target p) ≡ done (f, j) → IsCie target p f (program_of j)
-cie_reads target p j f h is e = (is, reads_fields (cie_fields target.size p.form) (cie_numbers target.size p.form) target p f j h e)
-
-pub fde_reads : (target : Target) (places : List ℕ) (p : Piece) (j : Input) (f : FdeFields) → AreBytes p.contents.bytes → p.kind ≡ kind.Fde
-    → fields_at (fde_fields target.size places p.form) (contents_of target p) ≡ done (f, j) → IsFde target places p f (program_of j)
-fde_reads target places p j f h is e =
-    (is, reads_fields (fde_fields target.size places p.form) (fde_numbers target.size places p.form) target p f j h e)
 
 -- ---- what has a header is read
 
@@ -86,13 +77,6 @@ pub one_headers : (target : Target) (s : List ℕ) (hs ks : List Head) → Heade
 one_headers target s hs ks p q =
     let same = one_pieces target s q.entries p.entries q.cut p.cut in
     one_zip (Has target (cie_places p.entries)) (has_one target (cie_places p.entries)) p.entries hs ks p.each (subst (λ (ps : List Piece). AllZip (Has target (cie_places ps)) ps ks) same q.each)
-
-pub headers_hold : (target : Target) (s : List ℕ) (hs : List Head) (p : Headers target s hs) → AllByRecursion (CieHolds target) p.entries × AllByRecursion (FdeHolds target (cie_places p.entries)) p.entries
-headers_hold target s hs p =
-    let places = cie_places p.entries in (
-      all_from_zip (Has target places) (CieHolds target) (has_cie target places) p.entries hs p.each,
-      all_from_zip (Has target places) (FdeHolds target places) (has_fde target places) p.entries hs p.each,
-    )
 
 -- the places of a section's CIEs rise
 pub pieces_rise : (target : Target) (s : List ℕ) (ps : List Piece) → Pieces target s ps → Rises 0 (cie_places ps)

@@ -1,9 +1,9 @@
 -- What holds of a section's headers.
 use Rattle.dw_section.proofs.Words.{◌≡◌, ℕ, suc, ◌+◌, ◌<◌, ◌≤◌, ◌^◌, List, [], ◌∷◌, ◌++◌, length, refl, sym, ap, subst, ◌∙◌, arith, inl, inr, get_or-append-add, AllByRecursion, AllZip, cons_option, Order, Target, Size, AreBytes}
 use Rattle.dw_section.proofs.Words.{length_bytes, address_limit, byte_count, Instr, ProgramSpells, Item, gap, entry, Piece, Pieces, pieces, item_bytes, all_bytes, place_if, cie_places, Rises, Head, cie, fde, Has, Headers, CieHead, FdeHead}
-use Rattle.dw_section.proofs.Words.{head_at, cie_at_of, cie_ats, HeadsRise, FdeFits, HasBytes, InitialInstrs, factors_of, IsAmong, Four, Eight, RiseBy}
-use Rattle.dw_cfa.proofs.Lent.InstrLaws.{front_bytes}
-use Rattle.dw_section.proofs.{Items.item_some, Lent.HeaderLaws.{pieces_rise as places_of_pieces}, Cfa.one_program, Lent.FieldTable.fde_said, Lent.Index.all_in, Stages.all_of_zip}
+use Rattle.dw_section.proofs.{Words.{head_at, cie_at_of, cie_ats, HeadsRise, FdeFits, HasBytes, InitialInstrs, factors_of, IsAmong, Four, Eight, RiseBy, Factors, Input}, Items.item_some, Lent.HeaderLaws.pieces_rise as places_of_pieces}
+use Rattle.dw_section.proofs.{Lent.FieldTable.fde_said, Lent.Index.all_in, Stages.all_of_zip}
+use Rattle.dw_cfa.proofs.Lent.{Given.{one_program as one_listed}, InstrLaws.front_bytes}
 pub use Rattle.dw_section.proofs.Lent.Index.{all_in}
 
 -- ---- places rise
@@ -98,6 +98,10 @@ pub ats_rise : (target : Target) (s : List ℕ) (hs : List Head) → Headers tar
 ats_rise target s hs p = subst (Rises 0) (sym (same_places target (cie_places p.entries) p.entries hs p.each)) (places_of_pieces target s p.entries p.cut)
 
 -- ---- the CIE of a place is one
+
+-- a program is one list of instructions
+pub one_program : (f : Factors) (t : Target) (bytes : List ℕ) (xs ys : List Instr) → AreBytes bytes → ProgramSpells t f xs bytes → ProgramSpells t f ys bytes → xs ≡ ys
+one_program f t bytes xs ys h p q = let i : Input = record { at = 0; bytes = bytes; target = t } in one_listed f i xs ys h p q
 
 pub record SameBegin (c d : CieHead) (initial another : List Instr) : Type 0 where
   pub head : c ≡ d

@@ -25,19 +25,17 @@ pieces-init c =
       c.requires.runner,
     )
 
-pub judge_next-requires-clause-ascending : goal.judge_next-requires-clause-ascending
-judge_next-requires-clause-ascending c = let q = c.requires.cies in rw (places_are c.args.target q.0 c.args.places.now c.args.initials.now q.2) c.requires.ascending
-
-pub judge_next-requires-clause-fits : goal.judge_next-requires-clause-fits
-judge_next-requires-clause-fits c =
+pub judge_next-requires : goal.judge_next-requires
+judge_next-requires c =
     let q = c.requires.cies in
-    rw (places_are c.args.target q.0 c.args.places.now c.args.initials.now q.2) (says_fits c.args.target c.args.places.now (piece_in c.in-Some.piece) c.in_ok-fde.fde c.in-Some.ensures.below c.in_ok-fde.ensures.found)
-
-pub judge_next-requires-clause-each : goal.judge_next-requires-clause-each
-judge_next-requires-clause-each c =
+    let places = places_are c.args.target q.0 c.args.places.now c.args.initials.now q.2 in
     let ks = map (initial_in Dwarf32) c.args.initials.now in
     let each = (c.requires.run ks (some_headers c.args.initials.now)).each in
-    (ks, each, c.pieces.invariant.2 ks each)
+    record {
+      ascending = rw places c.requires.ascending;
+      fits = rw places (says_fits c.args.target c.args.places.now (piece_in c.in-Some.piece) c.in_ok-fde.fde c.in-Some.ensures.below c.in_ok-fde.ensures.found);
+      each = (ks, each, c.pieces.invariant.2 ks each);
+    }
 
 pub pieces-preserved : goal.pieces-preserved
 pieces-preserved c =

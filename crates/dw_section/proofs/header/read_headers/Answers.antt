@@ -1,5 +1,5 @@
-use Rattle.dw_section.proofs.Words.{inr, map-append, piece_in, Has, CieHolds, head_in, all_zipped_more}
-use Rattle.dw_section.proofs.{Between.between_now, Walk.{walk_start, walk_next, walk_end, walk_stuck}, Lent.HeaderLaws.has_fde, Left.{headers_so, left_all}, Stages.{all_from_zip, handed_on}}
+use Rattle.dw_section.proofs.{Words.{inr, map-append, piece_in, Has, CieHolds, head_in, all_zipped_more}, Between.between_among, Lent.Index.all_in, Walk.{walk_start, walk_next, walk_end, walk_stuck}, Lent.HeaderLaws.has_fde}
+use Rattle.dw_section.proofs.{Left.{headers_so, left_all}, Stages.{all_from_zip, handed_on}}
 use Rattle.dw_section.proofs.header.read_headers.Goals as goal
 
 pub pieces-init : goal.pieces-init
@@ -10,7 +10,7 @@ header_of-requires-clause-holds c =
     let q = c.requires.cies in
     let w = c.pieces.invariant.at q.0 q.1 in
     let g = c.in-Some.ensures.gives w.rest w.left in
-    between_now (CieHolds c.args.target) q.0 w (piece_in c.in-Some.piece) g.0 g.1 q.1.1
+    all_in (CieHolds c.args.target) q.0 (piece_in c.in-Some.piece) q.1.1 (between_among q.0 w (piece_in c.in-Some.piece) g.0 g.1)
 
 pub pieces-preserved : goal.pieces-preserved
 pieces-preserved c = rw (c.in_ok-push.ensures.items, map-append) (walk_next _ _ _ c.pieces.invariant c.in-Some.ensures.on.0 c.in-Some.ensures.gives

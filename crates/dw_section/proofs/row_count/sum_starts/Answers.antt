@@ -1,11 +1,12 @@
-use Rattle.dw_section.proofs.{Words.{◌++◌, ◌∷◌, [], take, map, get_or, arith, map_more, IsRanged, range_in, Starts, all_zipped_more}, Counts.total_push, Lent.FdeLookup.none, Lent.Judged.all_get, RowLookup.{is_program, starts_at}}
+use Rattle.dw_section.proofs.{Words.{◌++◌, ◌∷◌, [], take, map, get_or, arith, map_more, IsRanged, range_in, Starts, all_zipped_more}, Counts.total_push, Lent.FdeLookup.none, Lent.Judged.all_get, RowLookup.{program_so, starts_at}}
 use Rattle.dw_section.proofs.row_count.sum_starts.Goals as goal
 
 pub starts_of-sum-requires : goal.starts_of-sum-requires
 starts_of-sum-requires c =
     let q = c.requires.headers in
     let is = c.found_fde-found.ensures.is q.0 q.1.0.0.0 q.2 (all_get (IsRanged q.0) c.args.index.now c.loop-fde.fde-index none q.3 c.loop-fde-test.true) in
-    is_program c.args.target c.args.bytes.now q.0 q.1 c.found_fde-found.result is
+    let p = program_so c.args.target c.args.bytes.now q.0 q.1 c.found_fde-found.result is in
+    (p.1, p.3)
 
 pub loop-fde-preserved : goal.loop-fde-preserved
 loop-fde-preserved c = (

@@ -1,10 +1,10 @@
-use Rattle.dw_section.proofs.{Words.refl, Lent.FdeLookup.{covers_listed, listed_are}}
+use Rattle.dw_section.proofs.{Words.{refl, arith, fde_in, get_or-map, length-map}, Lent.FdeLookup.{listed_are, none}}
 use Rattle.dw_section.proofs.table.Table.fde_at.Goals as goal
 
 pub returns-in-Some : goal.returns-in-Some
 returns-in-Some c = λ fs are.
     let found = c.in-Some.ensures.covers in
-    rw (← listed_are c.args.self.now.target c.args.self.now.bytes c.index.result.now c.index.ensures fs are) (covers_listed c.args.address c.index.result.now c.in-Some.place found.0 found.1)
+    rw (← listed_are c.args.self.now.target c.args.self.now.bytes c.index.result.now c.index.ensures fs are) (omega (arith, found.0, length-map c.index.result.now fde_in), λ d. rw (get_or-map fde_in c.index.result.now c.in-Some.place none d found.0) (found.1 none))
 
 pub returns-in-None : goal.returns-in-None
 returns-in-None c = λ fs are.

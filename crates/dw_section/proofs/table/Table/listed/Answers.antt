@@ -1,9 +1,11 @@
-use Rattle.dw_section.proofs.Words.{◌<◌, List, length, get_or, ap, subst, ◌∙◌, arith, get_or_default, Head, IsRanged}
-use Rattle.dw_section.proofs.{Lent.FdeLookup.{none, listed_are, listed_place, listed_fde, ranged_of}, Lent.HeaderLaws.one_headers, RowLookup.table_some, table.Table.listed.Goals.After-index}
+use Rattle.dw_section.proofs.{Words.{◌<◌, map, fde_in, length-map, List, length, get_or, ap, subst, ◌∙◌, arith, get_or_default, Head, IsRanged}, Lent.FdeLookup.{none, are_fdes, listed_are, listed_fde, ranged_of}}
+use Rattle.dw_section.proofs.{Lent.HeaderLaws.one_headers, RowLookup.table_some, table.Table.listed.Goals.After-index}
 use Rattle.dw_section.proofs.table.Table.listed.Goals as goal
 
 inside : (c : After-index) → c.args.fde.place < length c.index.result.now
-inside c = listed_place c.args.self.now.target c.args.self.now.bytes c.index.result.now c.args.fde.place c.index.ensures c.requires
+inside c =
+    let list = c.index.result.now in
+    omega (arith, c.requires (map fde_in list) (are_fdes c.args.self.now.target c.args.self.now.bytes list c.index.ensures), length-map list fde_in)
 
 pub bounds-index-fde : goal.bounds-index-fde
 bounds-index-fde c = inside (goal.at.bounds-index-fde c).After-index
