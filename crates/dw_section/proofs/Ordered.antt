@@ -1,10 +1,10 @@
 -- FDEs in order, and the first that begins below the end of one before it.
 use Rattle.dw_section.proofs.Words.{◌≡◌, ℕ, zero, suc, ◌+◌, ◌<◌, ◌≤◌, Bool, false, List, [], ◌∷◌, ◌++◌, map, length, get_or, take, drop, refl, ap, ◌∙◌, arith, inl, inr, add-one, Equal, Greater, sym, ◌==◌, nat_cmp, is_lt, AllByRecursion}
 use Rattle.dw_section.proofs.Words.{IsDistinct, IsPermutation, IsNonDecreasingBy, IsSortedByKey, IsStableByKey, cases_lt, ne_eqb, drop_more, map-append, take-append-drop, All-permutation, IsPermutation-map, IsPermutation-sym}
-use Rattle.dw_section.proofs.Words.{ties_still_rise, All-from_recursion, recursion_from_All, Overlap, Ranged, PlacesRise, EndsAt, range_in, Range, Precedes, Ascends, AreApart, FirstOverlap, end_of, IsAmong, SameMembers, nat_tests}
+use Rattle.dw_section.proofs.{Words.{ties_still_rise, All-from_recursion, recursion_from_All, Overlap, Ranged, PlacesRise, EndsAt, range_in, Range, Precedes, Ascends, AreApart, FirstOverlap, end_of, IsAmong, nat_tests}, Lent.Index.all_from}
+use Rattle.dw_section.proofs.Stages.{all_push, among_here, all_weaker}
 use Rattle.std.specs.Cmp.{nat_cmp_is}
 use Rattle.std.proofs.lemmas.Map.Keys.{IsDistinct-from_apart, apart_from_distinct, IsDistinct-IsPermutation}
-use Rattle.dw_section.proofs.{Lent.Index.all_from, Stages.{all_push, among_here, all_weaker}}
 
 -- ---- overlaps
 
@@ -53,7 +53,7 @@ all_permuted P xs ys p h = recursion_from_All P ys (All-permutation P xs ys p (A
 members : (rs : List Range) → AllByRecursion (λ a. IsAmong a rs) rs
 members rs = all_from (λ a. IsAmong a rs) rs (λ a i. i)
 
-pub permuted_members : (xs ys : List Ranged) → IsPermutation xs ys → SameMembers (map range_in xs) (map range_in ys)
+pub permuted_members : (xs ys : List Ranged) → IsPermutation xs ys → AllByRecursion (λ a. IsAmong a (map range_in xs)) (map range_in ys) × AllByRecursion (λ a. IsAmong a (map range_in ys)) (map range_in xs)
 permuted_members xs ys p =
     let rs = map range_in xs in
     let ss = map range_in ys in

@@ -1,7 +1,7 @@
 -- Entries are counted as a section is walked, and the places of CIEs are kept.
 use Rattle.dw_section.proofs.{Words.{◌≡◌, ℕ, ◌+◌, ◌≤◌, List, [], ◌∷◌, ◌++◌, length, refl, arith, length-append, append-nil, Form, Target, length_bytes, Input, Takes, Kind, gap, entry, IsItem, item_bytes, is_cie, Piece}, Items.IsWalked}
 use Rattle.dw_section.proofs.Items.{walked_more, walked_entry, item_some}
-use Rattle.dw_section.specs.Inner.Counts.{ArePlaced}
+use Rattle.dw_section.specs.Inner.Pieces.{ArePlaced}
 use Rattle.dw_section.specs.declared.entry.Kind.TheVariants as kind
 
 -- what a walk that counts knows

@@ -39,7 +39,7 @@ pub use Rattle.dw_section.specs.{Programs.{CieRuns, FdeBroken, FdeRuns, HasCfa, 
 pub use Rattle.dw_section.specs.{StandingFde.{BothStuck, FdeStands, LookUpFault, NamesCieAt, RefusesAs, Ruled, RulesOf, StandingFault, StandsAs, StandsIn}, Table.Section, declared.entry.Kind.Kind, declared.fde_range.Ranged.Ranged}
 pub use Rattle.dw_section.specs.declared.{fields.CieFields.CieFields, fields.FdeFields.FdeFields, header.FdeEntry.FdeEntry, header.Initial.Initial, listed_fde.FoundFde.FoundFde, lookup.Fde.Fde, opening.CieRow.CieRow}
 pub use Rattle.dw_section.specs.Inner.{Agree.{Agree, AgreeAt}, Changes.{Among, AreLed, Before, Passed, ShownBehind, Shows, changes_among, changing, is_before, repeats}, Counted.{StartsOf, moves_in}, Fields.{Passes, behind_id}}
-pub use Rattle.dw_section.specs.Inner.{Fields.fields_at, Heads.{FdeFits, HasBytes, HeadsRise, cie_at_of, cie_ats, head_at, head_program}, Index.{AreJudged, EndsAt, IsFound, NamesCie, PlacesRise, SameMembers, found_cie, found_head, led_to}}
+pub use Rattle.dw_section.specs.Inner.{Fields.fields_at, Heads.{FdeFits, HasBytes, HeadsRise, cie_at_of, cie_ats, head_at, head_program}, Index.{AreJudged, EndsAt, IsFound, NamesCie, PlacesRise, found_cie, found_head, led_to}}
 pub use Rattle.dw_section.specs.Inner.{Initials.{AreCies, AreInitials, AreOf, FirstLacking, HasOrLacks, IsBehind, IsInitial, IsLong, IsRead, IsRunner, LedRuns, cie_pieces, if_cie, or_place, place_of}, Left.{HeadsLeft, PiecesLeft}}
-pub use Rattle.dw_section.specs.Inner.{Lookup.{AreRowsOf, IsFoundIn, LedBy, LedSo, RunsSo, fde_of}, Meanings.row_among, NarrowRow.{ChangesKeep, NarrowedBy}, PieceHeader.{SaysFde, Tells, cie_of_piece, contents_of, entry_in, fde_of_piece}}
+pub use Rattle.dw_section.specs.Inner.{Lookup.{AreRowsOf, IsFoundIn, LedBy, LedSo, RunsSo, fde_of}, NarrowRow.{ChangesKeep, NarrowedBy}, PieceHeader.{SaysFde, Tells, cie_of_piece, contents_of, entry_in, fde_of_piece}}
 pub use Rattle.dw_section.specs.Inner.{PieceHeader.{initial_head, initial_in, program_of}, Pieces.piece_in, Places.{RiseBy, Rises}, Shown.{shown_if, shown_of}, StandingFde.{AreJoined, FoundStands, LiesInPrograms, StandsAt}}

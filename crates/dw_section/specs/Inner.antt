@@ -12,14 +12,10 @@ pub mod Agree
 pub mod Left
 pub mod Changes
 pub mod NarrowRow
-pub mod Counts
-pub mod Faults
-pub mod Meanings
 pub mod Pieces
 pub mod Places
 pub mod Stage
 pub mod Reads
-pub mod Table
 pub mod StandingFde
 pub mod Sound
 pub mod Opening

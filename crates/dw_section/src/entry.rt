@@ -6,7 +6,7 @@ ghost use Rattle.dw_num.specs.declared.refusal.Code.TheVariants.{SectionTooLarge
 ghost use Rattle.dw_op.specs.Faults.{IsWithin};
 ghost use Rattle.dw_section.specs.{Cut.{IsItem, Piece, item_bytes, is_cie, id_width}, Faults.{item_at, CutFault}};
 ghost use Rattle.dw_section.specs.{Pieces.{Pieces, Entries}, declared.entry.Entry.Entry};
-ghost use Rattle.dw_section.specs.Inner.{Counts.ArePlaced, Faults.item_of, Left.{PiecesLeft, GivesPiece, GoesOn}, Pieces.IsPlaced, Reads.Gives};
+ghost use Rattle.dw_section.specs.Inner.{Left.{PiecesLeft, GivesPiece, GoesOn}, Pieces.{ArePlaced, IsPlaced, item_of}, Reads.Gives};
 
 use dw_num::{Code, Cursor, Form, Program, ReadError, Refusal, Target};
 use std::alloc::{AllocError, Global};

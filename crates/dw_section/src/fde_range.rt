@@ -7,8 +7,8 @@ ghost use Rattle.dw_num.specs.declared.target.{Form.{Form as TheForm}, Target.{T
 ghost use Rattle.dw_section.specs.{Accepted.RulesFault, Among.IsAmong, Cut.Piece, Fields.is_among, Headers.{Head, Headers}};
 ghost use Rattle.dw_section.specs.{Overlap.{nonempty, AreApart, FirstOverlap}, Pieces.Pieces, Programs.FdeBroken};
 ghost use Rattle.dw_section.specs.{Ranges.{AreIndexed, IsRanged, range_in}, declared.fde_range.Ranged.{Ranged as TheRanged}};
-ghost use Rattle.dw_section.specs.Inner.{Heads.FdeFits, Index.AreJudged, Initials.{place_of, or_place, AreCies, AreOf, IsInitial, IsRunner, AreInitials}};
-ghost use Rattle.dw_section.specs.Inner.{PieceHeader.{Tells, entry_in}, Places.Rises, Table.AreRanges};
+ghost use Rattle.dw_section.specs.Inner.{Heads.FdeFits, Index.{AreJudged, AreRanges}, PieceHeader.{Tells, entry_in}, Places.Rises};
+ghost use Rattle.dw_section.specs.Inner.Initials.{place_of, or_place, AreCies, AreOf, IsInitial, IsRunner, AreInitials};
 
 use crate::entry::next_piece;
 use crate::header::{Cies, FdeEntry, Initial, fde_of, or_fields_fault};

@@ -27,7 +27,7 @@ pub struct Table<'a> {
 }
 
 impl<'a> Model for Table<'a> {
-    ghost use Rattle.dw_section.specs.{Ranges.IsTable, Table.Section, Inner.Table.IsKept};
+    ghost use Rattle.dw_section.specs.{Ranges.IsTable, Table.Section, Inner.Index.IsKept};
 
     ghost Value = { Section };
 

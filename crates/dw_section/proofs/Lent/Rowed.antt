@@ -1,6 +1,11 @@
 -- The changes of an FDE determine its rules at each address, and its rules determine its changes.
 use Rattle.dw_section.proofs.Words.{◌≡◌, ℕ, zero, suc, ◌<◌, ◌≤◌, List, [], ◌∷◌, refl, sym, ap, subst, ◌∙◌, arith, inl, inr, cases_lt, cases_order, lt-ltb, le-ltb, Instr, Rules, StayFrom, HoldsAt, ChangesBehind, AreChanges, AgreeAt, Agree}
-use Rattle.dw_section.proofs.Words.{row_among, counts_exists, same_rows}
+use Rattle.dw_section.proofs.Words.{counts_exists, same_rows, nat_lt, if◌then◌else◌}
+
+-- the row of an address among changes: that of the last at or below it, or the one before them
+abbrev row_among : ℕ → Rules → List (ℕ × Rules) → Rules
+row_among a before [] = before
+row_among a before (change ∷ changes) = if nat_lt a change.0 then before else row_among a change.1 changes
 
 module _ (i j : List Instr) (begin : ℕ) where
   -- a row holds on while nothing changes

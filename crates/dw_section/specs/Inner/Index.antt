@@ -2,9 +2,10 @@
 use Rattle.std.specs.{Prelude.{◌≡◌, ℕ, ◌≤◌, ◌⊎◌, List, map, Option}, List.AllByRecursion}
 use Rattle.dw_num.specs.{Span.{span_of, input_of}, declared.target.Form.Form, declared.target.Target.Target}
 use Rattle.dw_cfa.specs.RowWalk.{Led}
-use Rattle.dw_section.specs.{Among.IsAmong, Headers.{CieHead, FdeHead, Head, cie, fde}, Overlap.{Range, end_of, nonempty}}
-use Rattle.dw_section.specs.{Programs.FdeRuns, Ranges.{IsRanged, range_in}, declared.fde_range.Ranged.Ranged}
-use Rattle.dw_section.specs.{declared.listed_fde.FoundFde.FoundFde, Inner.Initials.FirstLacking, Inner.Places.RiseBy}
+use Rattle.dw_section.specs.{Accepted.RulesHold, Among.IsAmong, Counts.AreCounts, Cut.Piece, Headers.{CieHead, FdeHead, Head, Headers, cie, fde}}
+use Rattle.dw_section.specs.{Overlap.{Range, end_of, nonempty}, Pieces.Pieces, Programs.FdeRuns, Ranges.{IsRanged, range_in}}
+use Rattle.dw_section.specs.declared.{entry.EntryCounts.EntryCounts, fde_range.Ranged.Ranged, header.Initial.Initial, listed_fde.FoundFde.FoundFde}
+use Rattle.dw_section.specs.Inner.{Initials.{AreInitials, FirstLacking}, Places.RiseBy}
 
 abbrev pub found_head : Form → FoundFde → FdeHead
 found_head form e = record { at = e.at; form = form; cie_at = e.cie_at; begin = e.begin; range = e.range; program = span_of e.program }
@@ -31,10 +32,6 @@ NamesCie hs place led =
 abbrev pub PlacesRise : ℕ → List Range → Type 0
 PlacesRise low rs = RiseBy (λ (a : Range). a.at) low rs
 
--- two lists have the same members
-abbrev pub SameMembers : List Range → List Range → Type 0
-SameMembers rs ss = AllByRecursion (λ a. IsAmong a rs) ss × AllByRecursion (λ a. IsAmong a ss) rs
-
 -- no range ends behind a number, and one ends there unless it is 0
 abbrev pub EndsAt : List Range → ℕ → Type 0
 EndsAt rs greatest =
@@ -46,3 +43,15 @@ pub record AreJudged (target : Target) (hs front : List Head) (lacking : Option 
   pub first : FirstLacking target hs front lacking
   pub are : map range_in list ≡ nonempty front
   pub each : AllByRecursion (IsRanged hs) list
+
+-- these are the nonempty FDEs of a section in order of place
+pub record AreRanges (target : Target) (s : List ℕ) (list : List Ranged) : Type 0 where
+  pub headers : List Head
+  pub hold : RulesHold target s headers
+  pub are : map range_in list ≡ nonempty headers
+  pub rise : PlacesRise 0 (map range_in list)
+  pub each : AllByRecursion (IsRanged headers) list
+
+-- how many entries a section has, and what its FDEs begin with
+abbrev pub IsKept : Target → List ℕ → EntryCounts → List Initial → Type 0
+IsKept target s counts cs = ((ps : List Piece) → Pieces target s ps → AreCounts ps counts) × ((hs : List Head) → Headers target s hs → AreInitials target hs hs cs)

@@ -23,15 +23,12 @@ unreachable-requires-in_default-piece c =
     let w = own_stands c.args.target c.args.bytes.now q.0 _ _ q.1 q.3 in
     absurd (rw c.in_default-piece.is at (c.in-Ok.ensures.only w.0 w.1 (w.3 ∙ sym c.from-at.ensures)))
 
-pub initial_at-initial-requires-clause-ascending : goal.initial_at-initial-requires-clause-ascending
-initial_at-initial-requires-clause-ascending c = let q = c.requires.headers in (places_so c.args.target c.args.bytes.now q.0 c.args.initials.now q.1 q.2).0
-
-pub initial_at-initial-requires-clause-among : goal.initial_at-initial-requires-clause-among
-initial_at-initial-requires-clause-among c =
+pub initial_at-initial-requires : goal.initial_at-initial-requires
+initial_at-initial-requires c =
     let q = c.requires.headers in
+    let so = places_so c.args.target c.args.bytes.now q.0 c.args.initials.now q.1 q.2 in
     let has = own_here c.args.target c.args.bytes.now q.0 _ _ q.1 q.3 c.from-at.result c.from-at.ensures (piece_in c.in-Some.own) (λ x w e. rw c.in-Some.is at (c.in-Ok.ensures.only x w e)) in
-    let fits = all_in (FdeFits c.args.target (map place_of c.args.initials.now)) q.0 (fde q.3.own) (places_so c.args.target c.args.bytes.now q.0 c.args.initials.now q.1 q.2).1 q.3.own_among in
-    rw (c.pointer_of-cie_at.ensures.only (cie_places q.1.entries) q.3.own has) fits.2
+    record { ascending = so.0; among = rw (c.pointer_of-cie_at.ensures.only (cie_places q.1.entries) q.3.own has) (all_in (FdeFits c.args.target (map place_of c.args.initials.now)) q.0 (fde q.3.own) so.1 q.3.own_among).2 }
 
 pub program_behind-requires : goal.program_behind-requires
 program_behind-requires c =

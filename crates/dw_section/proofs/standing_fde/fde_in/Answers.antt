@@ -1,8 +1,7 @@
-use Rattle.dw_section.proofs.Words.{[], ◌∷◌, Some, None, inr, entry_in, piece_in}
-use Rattle.dw_section.proofs.{StandLaws.{named_of, fde_never, cie_never, stands_joined}, StandFaults.{no_cie, own_stuck, named_stuck}, StandPlaces.{cie_within, fde_within}, Stages.handed_on}
+use Rattle.dw_section.proofs.{Words.{[], ◌∷◌, Some, None, inr, entry_in, piece_in, Refusal, rules, StandsAs}, StandLaws.{named_of, fde_never, cie_never, stands_joined}, StandFaults.{no_cie, own_stuck, named_stuck}, StandPlaces.cie_within}
+use Rattle.dw_section.proofs.{StandPlaces.fde_within, Stages.handed_on}
+use Rattle.dw_section.specs.declared.entry.Kind.TheVariants as kind
 use Rattle.dw_section.proofs.standing_fde.fde_in.Goals as goal
-
--- ---- an FDE that stands is not refused
 
 pub returns-in_err-named-clause-only : goal.returns-in_err-named-clause-only
 returns-in_err-named-clause-only c = λ w.
@@ -14,16 +13,38 @@ returns-in_default-clause-only c = λ w.
     let named = named_of c.args.target c.args.bytes.now (piece_in c.args.own.now) w c.requires.stands c.pointer_of-pointer.result c.pointer_of-pointer.ensures.only in
     rw c.in_default.is at (c.in_ok-named.ensures.only w.2.named_piece w.2.named_stands named.0 named.1)
 
-pub returns-in_err-header-clause-only : goal.returns-in_err-header-clause-only
-returns-in_err-header-clause-only c = λ w.
-    let named = named_of c.args.target c.args.bytes.now (piece_in c.args.own.now) w c.requires.stands c.pointer_of-pointer.result c.pointer_of-pointer.ensures.only in
-    absurd (fde_never c.args.target (c.pointer_of-pointer.result ∷ []) (piece_in c.args.own.now) w.0 _ named.2 c.in_err-header.ensures.exact)
+pub returns-in_err-header : goal.returns-in_err-header
+returns-in_err-header c =
+    let p = c.pointer_of-pointer in
+    let own = piece_in c.args.own.now in
+    let at = rw c.in-Some.is at c.in_ok-named.ensures.found in
+    let cie : StandsAs c.args.target c.args.bytes.now kind.Cie p.result (piece_in c.in-Some.named) = (at.2, at.1, at.0) in
+    let stuck = c.in_err-header.ensures.exact in
+    let handed = λ (Q : Refusal → Type 0). handed_on c.from_residual-in_err-header.result Q c.from_residual-in_err-header.ensures.1 in
+    record {
+      found = search rules;
+      within = handed _ (fde_within c.args.target (p.result ∷ []) c.args.bytes.now own _ c.requires.stands stuck);
+      fault = handed _ (p.result, p.ensures.names, inr (Some (piece_in c.in-Some.named), cie, own_stuck c.args.target c.args.bytes.now own (piece_in c.in-Some.named) p.result _ c.requires.kind cie stuck));
+      only = λ w. absurd (fde_never c.args.target (p.result ∷ []) own w.0 _ (named_of c.args.target c.args.bytes.now own w c.requires.stands p.result p.ensures.only).2 stuck);
+    }
 
-pub returns-in_err-cie-clause-only : goal.returns-in_err-cie-clause-only
-returns-in_err-cie-clause-only c = λ w.
-    let named = named_of c.args.target c.args.bytes.now (piece_in c.args.own.now) w c.requires.stands c.pointer_of-pointer.result c.pointer_of-pointer.ensures.only in
-    let same = rw c.in-Some.is at (c.in_ok-named.ensures.only w.2.named_piece w.2.named_stands named.0 named.1) in
-    absurd (cie_never c.args.target w.2.named_piece w.1 _ w.2.named_is (rw same at c.in_err-cie.ensures.exact))
+pub returns-in_err-cie : goal.returns-in_err-cie
+returns-in_err-cie c =
+    let p = c.pointer_of-pointer in
+    let own = piece_in c.args.own.now in
+    let at = rw c.in-Some.is at c.in_ok-named.ensures.found in
+    let cie : StandsAs c.args.target c.args.bytes.now kind.Cie p.result (piece_in c.in-Some.named) = (at.2, at.1, at.0) in
+    let stuck = c.in_err-cie.ensures.exact in
+    let handed = λ (Q : Refusal → Type 0). handed_on c.from_residual-in_err-cie.result Q c.from_residual-in_err-cie.ensures.1 in
+    record {
+      found = search rules;
+      within = handed _ (cie_within c.args.target c.args.bytes.now (piece_in c.in-Some.named) _ at.2 stuck);
+      fault = handed _ (p.result, p.ensures.names, inr (Some (piece_in c.in-Some.named), cie, named_stuck c.args.target c.args.bytes.now own (piece_in c.in-Some.named) p.result (entry_in c.args.own.now.form c.in_ok-header.header) _ cie c.in_ok-header.ensures.found stuck));
+      only = λ w.
+          let named = named_of c.args.target c.args.bytes.now own w c.requires.stands p.result p.ensures.only in
+          let same = rw c.in-Some.is at (c.in_ok-named.ensures.only w.2.named_piece w.2.named_stands named.0 named.1) in
+          absurd (cie_never c.args.target w.2.named_piece w.1 _ w.2.named_is (rw same at stuck));
+    }
 
 pub returns-clause-found : goal.returns-clause-found
 returns-clause-found c =
@@ -37,29 +58,3 @@ returns-in_default-clause-fault c =
     let p = c.pointer_of-pointer in
     let none = c.in_ok-named.ensures in
     (p.result, p.ensures.names, inr (None, (λ q w. rw c.in_default.is at (none.only q w.0 w.2 w.1), none.none), no_cie c.args.target (piece_in c.args.own.now) p.result c.requires.kind p.ensures.names))
-
-pub returns-in_err-header-clause-fault : goal.returns-in_err-header-clause-fault
-returns-in_err-header-clause-fault c =
-    let p = c.pointer_of-pointer in
-    let named = piece_in c.in-Some.named in
-    let found = rw c.in-Some.is at c.in_ok-named.ensures.found in
-    let stuck = own_stuck c.args.target c.args.bytes.now (piece_in c.args.own.now) named p.result _ c.requires.kind (found.2, found.1, found.0) c.in_err-header.ensures.exact in
-    handed_on c.from_residual-in_err-header.result _ c.from_residual-in_err-header.ensures.1 (p.result, p.ensures.names, inr (Some named, (found.2, found.1, found.0), stuck))
-
-pub returns-in_err-cie-clause-fault : goal.returns-in_err-cie-clause-fault
-returns-in_err-cie-clause-fault c =
-    let p = c.pointer_of-pointer in
-    let named = piece_in c.in-Some.named in
-    let found = rw c.in-Some.is at c.in_ok-named.ensures.found in
-    let stuck = named_stuck c.args.target c.args.bytes.now (piece_in c.args.own.now) named p.result (entry_in c.args.own.now.form c.in_ok-header.header) _ (found.2, found.1, found.0) c.in_ok-header.ensures.found c.in_err-cie.ensures.exact in
-    handed_on c.from_residual-in_err-cie.result _ c.from_residual-in_err-cie.ensures.1 (p.result, p.ensures.names, inr (Some named, (found.2, found.1, found.0), stuck))
-
--- ---- its place lies in the bytes
-
-pub returns-in_err-header-clause-within : goal.returns-in_err-header-clause-within
-returns-in_err-header-clause-within c =
-    handed_on c.from_residual-in_err-header.result _ c.from_residual-in_err-header.ensures.1 (fde_within c.args.target (c.pointer_of-pointer.result ∷ []) c.args.bytes.now (piece_in c.args.own.now) _ c.requires.stands c.in_err-header.ensures.exact)
-
-pub returns-in_err-cie-clause-within : goal.returns-in_err-cie-clause-within
-returns-in_err-cie-clause-within c =
-    handed_on c.from_residual-in_err-cie.result _ c.from_residual-in_err-cie.ensures.1 (cie_within c.args.target c.args.bytes.now (piece_in c.in-Some.named) _ (rw c.in-Some.is at c.in_ok-named.ensures.found).2 c.in_err-cie.ensures.exact)
