@@ -3,12 +3,12 @@ use Rattle.dw_section.proofs.Words.{◌≡◌, ℕ, ◌+◌, ◌≤◌, List, le
 use Rattle.dw_section.proofs.Words.{input_of, ReadError, CheckFault, Item, Piece, all_bytes, id_width, IsWithin, Refuses, CutFault, Head, cie, fde, Has, Headers, CieStuck, FdeStuck, HeadersFault, contents_of, HasBytes, head_at, Range}
 use Rattle.dw_section.proofs.Words.{nonempty, IsAmong, cie_places, CieBroken, FdeBroken, LacksRule, factors_of, Fields, cie_fields, CieHolds, FdeHolds, CieRuns, FdeRuns, HasRules, fde_fields, FieldsFault, StandsIn, cases_lt, lt-ltb, le-ltb}
 use Rattle.dw_section.proofs.Words.{unit_length_at, stays-then, either_stays, unit_length_stays, cie_within, fde_within, is_32, body_at, item_at, head_program, IfErr-weaker, refuses_by, UnitLength}
-use Rattle.dw_num.proofs.Lent.Stays.{Inside, Stays}
+use Rattle.dw_num.proofs.Lent.Stays.{Stays}
 use Rattle.dw_section.proofs.{Lent.HeaderLaws.fields_end, Lent.Heads.{heads_bytes, all_in}, FieldLaws.{fault_is, fields_stay}, Stages.{holds_at, stuck_among}, Lent.Sections.range_head, StandLaws.{piece_ends, stands_in, stands_of}}
 
 -- ---- items
 
-body_stays : (i : Input) (u : UnitLength) (j : Input) → Inside i j → Stays i (body_at i.at u j)
+body_stays : (i : Input) (u : UnitLength) (j : Input) → (i.at ≤ j.at) × (j.at + length j.bytes ≡ i.at + length i.bytes) → Stays i (body_at i.at u j)
 body_stays i u j h =
     either_stays (u.length == 0 && is_32 u.form) i _ _ h
     (elim (cases_lt (length j.bytes) u.length) [
