@@ -1,86 +1,138 @@
--- What no operation does: jump to where it does not name, and fail as a device.
-use Rattle.dw_eval.proofs.Words.{◌≡◌, ℕ, zero, suc, ◌+◌, ◌%◌, ◌<◌, ◌≤◌, Bool, true, false, List, [], ◌∷◌, length, Option, Some, None, Result, Ok, Err, refl, sym, ap, subst, arith, slice_get, nat_eq, if◌then◌else◌, slice_get_within, Target}
-use Rattle.dw_eval.proofs.Words.{Size, byte_count, address_limit, Op, Addr, Deref, Const, Dup, Drop, Pick, Rot, Abs, Div, Mod, Neg, Not, PlusUconst, Bra, Eq, Ge, Gt, Le, Lt, Ne, Skip, Reg, Breg, Fbreg, Piece, DerefSize, Nop}
-use Rattle.dw_eval.proofs.Words.{PushObjectAddress, CallFrameCfa, BitPiece, Implicit, StackValue, branch_target, InRange, AllInRange, TargetWithin, Kind, StackUnderflow, DivideByZero, NoRegister, Unreadable, Device, NoFrameBase, NoCfa}
-use Rattle.dw_eval.proofs.Words.{NoObject, Context, read_at, OpEffect, Next, Jump, Faults, on_top, on_two, on_three, known, push, tell, effect, State, value_step, led}
+-- What an operation does: a jump goes to the target that it names, numbers stay below 2 ^ N, and what a fault asks for is missing.
+use Rattle.std.proofs.lemmas.Nat.{mod_below}
+use Rattle.dw_eval.specs.{Space.AreInSpace, Wanted.IsMissing}
+use Rattle.dw_eval.proofs.Words.{◌≡◌, ◌⊎◌, ℕ, ℤ, zero, suc, ◌+◌, ◌%◌, ◌<◌, ◌≤◌, Bool, true, false, List, [], ◌∷◌, length, Option, Some, None, Result, Ok, Err, refl, subst, inl, inr, arith, slice_get, nat_eq, if◌then◌else◌, slice_get_within, Target}
+use Rattle.dw_eval.proofs.Words.{Size, Four, Eight, byte_count, address_limit, Op, Addr, Deref, Const, Dup, Drop, Over, Pick, Swap, Rot, Abs, Div, Minus, Mod, Neg, Not, PlusUconst, Shra, Bra, Eq, Ge, Gt, Le, Lt, Ne, Skip, Reg, Breg, Fbreg, Piece, DerefSize, Nop}
+use Rattle.dw_eval.proofs.Words.{PushObjectAddress, CallFrameCfa, BitPiece, Implicit, StackValue, branch_target, InRange, AllInRange, TargetWithin, modulo_below, Kind, StackUnderflow, DivideByZero, NoRegister, Unreadable, NoFrameBase, NoCfa}
+use Rattle.dw_eval.proofs.Words.{NoObject, Context, read_at, OpEffect, Next, Jump, Faults, on_top, on_two, on_three, known, push, push_signed, tell, effect, leads, State, value_step}
 use Rattle.std.specs.List.{AllByRecursion}
 
-abbrev index_after : Result State Kind → State → ℕ
-index_after (Ok s) other = s.index
-index_after (Err kind) other = other.index
+limit_positive : (size : Size) → 1 < address_limit size
+limit_positive Four = omega arith
+limit_positive Eight = omega arith
 
--- a jump goes to the target, and a fault is no device's
-abbrev pub IsTame : Option ℕ → OpEffect → Type 0
-IsTame target (Next stack) = Unit {0}
-IsTame target (Jump j stack) = target ≡ Some j
-IsTame target (Faults kind) = kind ≡ Device → ⊥
+picked : (size : Size) (stack : List ℕ) (i v : ℕ) → AreInSpace size stack → slice_get stack i ≡ Some v → v < address_limit size
+picked size [] i v h e = absurd (cc)
+picked size (t ∷ below) zero v h e = let same : t ≡ v = cc in let most = h.0 in omega (arith, same, most)
+picked size (t ∷ below) (suc i) v h e = picked size below i v h.1 e
 
-on_top_tame : (target : Option ℕ) (stack : List ℕ) (f : ℕ → List ℕ → OpEffect) → ((t : ℕ) (below : List ℕ) → IsTame target (f t below)) → IsTame target (on_top stack f)
-on_top_tame target [] f h = λ e. cc
-on_top_tame target (t ∷ below) f h = h t below
+module _ (c : Context) where
+  abbrev pub InSpace : List ℕ → Type 0
+  InSpace stack = AreInSpace c.target.size stack
 
-on_two_tame : (target : Option ℕ) (stack : List ℕ) (f : ℕ → ℕ → List ℕ → OpEffect) → ((s t : ℕ) (below : List ℕ) → IsTame target (f s t below)) → IsTame target (on_two stack f)
-on_two_tame target (t ∷ s ∷ below) f h = h s t below
-on_two_tame target stack f h = λ e. cc
+  -- of an operation with this target, on a stack of which something may be known
+  abbrev pub Tells : Option ℕ → Type 0 → OpEffect → Type 0
+  Tells target Known (Next stack) = Known → InSpace stack
+  Tells target Known (Jump j stack) = (target ≡ Some j) × (Known → InSpace stack)
+  Tells target Known (Faults kind) = IsMissing c kind
 
-on_three_tame : (target : Option ℕ) (stack : List ℕ) (f : ℕ → ℕ → ℕ → List ℕ → OpEffect) → ((third s t : ℕ) (below : List ℕ) → IsTame target (f third s t below)) → IsTame target (on_three stack f)
-on_three_tame target (t ∷ s ∷ third ∷ below) f h = h third s t below
-on_three_tame target stack f h = λ e. cc
+  top_tells : (target : Option ℕ) (stack : List ℕ) (f : ℕ → List ℕ → OpEffect) → ((t : ℕ) (below : List ℕ) → Tells target (InSpace (t ∷ below)) (f t below)) → Tells target (InSpace stack) (on_top stack f)
+  top_tells target [] f h = tt
+  top_tells target (t ∷ below) f h = h t below
 
-known_tame : (target : Option ℕ) (kind : Kind) (o : Option ℕ) (f : ℕ → OpEffect) → (kind ≡ Device → ⊥) → ((v : ℕ) → IsTame target (f v)) → IsTame target (known kind o f)
-known_tame target kind None f other h = other
-known_tame target kind (Some v) f other h = h v
+  two_tell : (stack : List ℕ) (f : ℕ → ℕ → List ℕ → OpEffect) → ((s t : ℕ) (below : List ℕ) → Tells None (InSpace (t ∷ s ∷ below)) (f s t below)) → Tells None (InSpace stack) (on_two stack f)
+  two_tell (t ∷ s ∷ below) f h = h s t below
+  two_tell stack f h = tt
 
-read_tame : (size : Size) (a k : ℕ) (o : Option ℕ) (below : List ℕ) → IsTame None (known (Unreadable a k) o (λ v. push size v below))
-read_tame size a k None below = λ e. cc
-read_tame size a k (Some v) below = tt
+  rot_tells : (stack : List ℕ) → Tells None (InSpace stack) (on_three stack (λ third s t below. Next (s ∷ third ∷ t ∷ below)))
+  rot_tells (t ∷ s ∷ third ∷ below) = λ h. (h.1.0, (h.1.1.0, (h.0, h.1.1.1)))
+  rot_tells stack = tt
 
-tell_tame : (target : Option ℕ) (b : Bool) (below : List ℕ) → IsTame target (tell b below)
-tell_tame target true below = tt
-tell_tame target false below = tt
+  known_tells : (Known : Type 0) (kind : Kind) (o : Option ℕ) (f : ℕ → OpEffect) → (o ≡ None → IsMissing c kind) → ((v : ℕ) → Tells None Known (f v)) → Tells None Known (known kind o f)
+  known_tells Known kind None f none h = none refl
+  known_tells Known kind (Some v) f none h = h v
 
-unless_zero : (b : Bool) (stack : List ℕ) → IsTame None (if b then Faults DivideByZero else Next stack)
-unless_zero true stack = λ e. cc
-unless_zero false stack = tt
+  pick_tells : (stack : List ℕ) (i : ℕ) (o : Option ℕ) → slice_get stack i ≡ o → Tells None (InSpace stack) (known StackUnderflow o (λ v. Next (v ∷ stack)))
+  pick_tells stack i None e = tt
+  pick_tells stack i (Some v) e = λ h. (picked c.target.size stack i v h e, h)
 
-branch_tame : (b : Bool) (i : ℕ) (below : List ℕ) → IsTame (Some i) (if b then Next below else Jump i below)
-branch_tame true i below = tt
-branch_tame false i below = refl
+  pushed : (v : ℕ) (below : List ℕ) → InSpace below → InSpace (v % address_limit c.target.size ∷ below)
+  pushed v below h = (mod_below v (address_limit c.target.size) (omega (arith, limit_positive c.target.size)), h)
 
-pub effect_tame : (c : Context) (op : Op) (stack : List ℕ) → IsTame (branch_target op) (effect c op stack)
-effect_tame c (Addr a) stack = tt
-effect_tame c Deref stack = on_top_tame None stack _ (λ t below. read_tame c.target.size t (byte_count c.target.size) (read_at c t (byte_count c.target.size)) below)
-effect_tame c (Const v) stack = tt
-effect_tame c Dup stack = on_top_tame None stack _ (λ t below. tt)
-effect_tame c Drop stack = on_top_tame None stack _ (λ t below. tt)
-effect_tame c (Pick i) stack = known_tame None StackUnderflow (slice_get stack i) _ (λ e. cc) (λ v. tt)
-effect_tame c Rot stack = on_three_tame None stack _ (λ third s t below. tt)
-effect_tame c Abs stack = on_top_tame None stack _ (λ t below. tt)
-effect_tame c Div stack = on_two_tame None stack _ (λ s t below. unless_zero (nat_eq (t % address_limit c.target.size) 0) _)
-effect_tame c Mod stack = on_two_tame None stack _ (λ s t below. unless_zero (nat_eq t 0) _)
-effect_tame c Neg stack = on_top_tame None stack _ (λ t below. tt)
-effect_tame c Not stack = on_top_tame None stack _ (λ t below. tt)
-effect_tame c (PlusUconst n) stack = on_top_tame None stack _ (λ t below. tt)
-effect_tame c (Bra i) stack = on_top_tame (Some i) stack _ (λ t below. branch_tame (nat_eq t 0) i below)
-effect_tame c Eq stack = on_two_tame None stack _ (λ s t below. tell_tame None _ below)
-effect_tame c Ge stack = on_two_tame None stack _ (λ s t below. tell_tame None _ below)
-effect_tame c Gt stack = on_two_tame None stack _ (λ s t below. tell_tame None _ below)
-effect_tame c Le stack = on_two_tame None stack _ (λ s t below. tell_tame None _ below)
-effect_tame c Lt stack = on_two_tame None stack _ (λ s t below. tell_tame None _ below)
-effect_tame c Ne stack = on_two_tame None stack _ (λ s t below. tell_tame None _ below)
-effect_tame c (Skip i) stack = refl
-effect_tame c (Reg r) stack = λ e. cc
-effect_tame c (Breg r n) stack = known_tame None (NoRegister r) (c.register r) _ (λ e. cc) (λ v. tt)
-effect_tame c (Fbreg n) stack = known_tame None NoFrameBase c.frame_base _ (λ e. cc) (λ v. tt)
-effect_tame c (Piece n) stack = λ e. cc
-effect_tame c (DerefSize k) stack = on_top_tame None stack _ (λ t below. read_tame c.target.size t k (read_at c t k) below)
-effect_tame c Nop stack = tt
-effect_tame c PushObjectAddress stack = known_tame None NoObject c.object _ (λ e. cc) (λ v. tt)
-effect_tame c CallFrameCfa stack = known_tame None NoCfa c.cfa _ (λ e. cc) (λ v. tt)
-effect_tame c (BitPiece size offset) stack = λ e. cc
-effect_tame c (Implicit block) stack = λ e. cc
-effect_tame c StackValue stack = on_top_tame None stack _ (λ t below. λ e. cc)
-effect_tame c op stack = on_two_tame None stack _ (λ s t below. tt)
+  top_pushes : (f : ℕ → ℕ) (stack : List ℕ) → Tells None (InSpace stack) (on_top stack (λ t below. push c.target.size (f t) below))
+  top_pushes f stack = top_tells _ stack _ (λ t below h. pushed (f t) below h.1)
+
+  top_pushes_signed : (f : ℕ → ℤ) (stack : List ℕ) → Tells None (InSpace stack) (on_top stack (λ t below. push_signed c.target.size (f t) below))
+  top_pushes_signed f stack = top_tells _ stack _ (λ t below h. (modulo_below c.target.size (f t), h.1))
+
+  two_push_signed : (f : ℕ → ℕ → ℤ) (stack : List ℕ) → Tells None (InSpace stack) (on_two stack (λ s t below. push_signed c.target.size (f s t) below))
+  two_push_signed f stack = two_tell stack _ (λ s t below h. (modulo_below c.target.size (f s t), h.1.1))
+
+  reads : (stack : List ℕ) (k : ℕ) → Tells None (InSpace stack) (on_top stack (λ t below. known (Unreadable t k) (read_at c t k) (λ v. push c.target.size v below)))
+  reads stack k = top_tells _ stack _ (λ t below. known_tells _ (Unreadable t k) (read_at c t k) _ (λ none. none) (λ v h. pushed v below h.1))
+
+  told : (b : Bool) (s t : ℕ) (below : List ℕ) → Tells None (InSpace (t ∷ s ∷ below)) (tell b below)
+  told true s t below = λ h. (limit_positive c.target.size, h.1.1)
+  told false s t below = λ h. (omega (arith, limit_positive c.target.size), h.1.1)
+
+  compares : (f : ℕ → ℕ → Bool) (stack : List ℕ) → Tells None (InSpace stack) (on_two stack (λ s t below. tell (f s t) below))
+  compares f stack = two_tell stack _ (λ s t below. told (f s t) s t below)
+
+  unless_zero : (Known : Type 0) (b : Bool) (o : OpEffect) → Tells None Known o → Tells None Known (if b then Faults DivideByZero else o)
+  unless_zero Known true o h = tt
+  unless_zero Known false o h = h
+
+  branches : (b : Bool) (i t : ℕ) (below : List ℕ) → Tells (Some i) (InSpace (t ∷ below)) (if b then Next below else Jump i below)
+  branches true i t below = λ h. h.1
+  branches false i t below = (refl, λ h. h.1)
+
+  pub effect_tells : (op : Op) (stack : List ℕ) → Tells (branch_target op) (InSpace stack) (effect c op stack)
+  effect_tells (Addr a) stack = pushed a stack
+  effect_tells Deref stack = reads stack (byte_count c.target.size)
+  effect_tells (Const v) stack = pushed v stack
+  effect_tells Dup stack = top_tells _ stack _ (λ t below h. (h.0, h))
+  effect_tells Drop stack = top_tells _ stack _ (λ t below h. h.1)
+  effect_tells Over stack = two_tell stack _ (λ s t below h. (h.1.0, h))
+  effect_tells (Pick i) stack = pick_tells stack i (slice_get stack i) refl
+  effect_tells Swap stack = two_tell stack _ (λ s t below h. (h.1.0, (h.0, h.1.1)))
+  effect_tells Rot stack = rot_tells stack
+  effect_tells Abs stack = top_pushes _ stack
+  effect_tells Div stack = two_tell stack _ (λ s t below. unless_zero _ (nat_eq (t % address_limit c.target.size) 0) _ (λ h. (modulo_below c.target.size _, h.1.1)))
+  effect_tells Minus stack = two_push_signed _ stack
+  effect_tells Mod stack = two_tell stack _ (λ s t below. unless_zero _ (nat_eq t 0) _ (λ h. pushed _ below h.1.1))
+  effect_tells Neg stack = top_pushes_signed _ stack
+  effect_tells Not stack = top_pushes_signed _ stack
+  effect_tells (PlusUconst n) stack = top_pushes _ stack
+  effect_tells Shra stack = two_push_signed _ stack
+  effect_tells (Bra i) stack = top_tells _ stack _ (λ t below. branches (nat_eq t 0) i t below)
+  effect_tells Eq stack = compares _ stack
+  effect_tells Ge stack = compares _ stack
+  effect_tells Gt stack = compares _ stack
+  effect_tells Le stack = compares _ stack
+  effect_tells Lt stack = compares _ stack
+  effect_tells Ne stack = compares _ stack
+  effect_tells (Skip i) stack = (refl, λ h. h)
+  effect_tells (Reg r) stack = tt
+  effect_tells (Breg r n) stack = known_tells _ (NoRegister r) (c.register r) _ (λ none. none) (λ v h. (modulo_below c.target.size _, h))
+  effect_tells (Fbreg n) stack = known_tells _ NoFrameBase c.frame_base _ (λ none. none) (λ v h. (modulo_below c.target.size _, h))
+  effect_tells (Piece n) stack = tt
+  effect_tells (DerefSize k) stack = reads stack k
+  effect_tells Nop stack = λ h. h
+  effect_tells PushObjectAddress stack = known_tells _ NoObject c.object _ (λ none. none) (λ v. pushed v stack)
+  effect_tells CallFrameCfa stack = known_tells _ NoCfa c.cfa _ (λ none. none) (λ v. pushed v stack)
+  effect_tells (BitPiece size offset) stack = tt
+  effect_tells (Implicit block) stack = tt
+  effect_tells StackValue stack = top_tells _ stack _ (λ t below. tt)
+  effect_tells op stack = two_tell stack _ (λ s t below h. pushed _ below h.1.1)
+
+  -- ---- steps
+
+  -- of the state that a step leads to, or of its fault
+  abbrev pub StepTells : {S : Type 0} → (S → Type 0) → Result S Kind → Type 0
+  StepTells Holds (Ok s) = Holds s
+  StepTells Holds (Err kind) = IsMissing c kind
+
+  pub leads_tells : {S : Type 0} (Holds : S → Type 0) (at : ℕ → List ℕ → S) (i : ℕ) (op : Op) (stack : List ℕ) (o : OpEffect) → Tells (branch_target op) (InSpace stack) o
+      → ((j : ℕ) (new : List ℕ) → (j ≡ i + 1) ⊎ (branch_target op ≡ Some j) → (InSpace stack → InSpace new) → Holds (at j new)) → StepTells Holds (leads at i o)
+  leads_tells Holds at i op stack (Next new) h holds = holds (i + 1) new (inl refl) h
+  leads_tells Holds at i op stack (Jump j new) h holds = holds j new (inr h.0) h.1
+  leads_tells Holds at i op stack (Faults kind) h holds = h
+
+-- an index after one operation lies in the list, or at its end
+pub led_within : (len i j : ℕ) (target : Option ℕ) → (j ≡ i + 1) ⊎ (target ≡ Some j) → i < len → TargetWithin len target → j ≤ len
+led_within len i j target (inl e) lt within = omega (arith, e, lt)
+led_within len i j None (inr e) lt within = absurd (cc)
+led_within len i j (Some k) (inr e) lt within = let same : k ≡ j = cc in omega (arith, same, within)
 
 pub in_range_at : (t : Target) (len : ℕ) (ops : List Op) (k : ℕ) (op : Op) → AllByRecursion (InRange t len) ops → slice_get ops k ≡ Some op → InRange t len op
 in_range_at t len [] k op h e = absurd (cc)
@@ -90,13 +142,13 @@ in_range_at t len (first ∷ ops) zero op h e =
     subst P same h.0
 in_range_at t len (first ∷ ops) (suc k) op h e = in_range_at t len ops k op h.1 e
 
-stays_within : (len : ℕ) (target : Option ℕ) (s s' : State) (o : OpEffect) → s.index < len → TargetWithin len target → IsTame target o → led s.index o ≡ Ok s' → s'.index ≤ len
-stays_within len target s s' (Next stack) lt within tame e =
-    let next : s'.index ≡ s.index + 1 = sym (ap (λ r. index_after r s) e) in omega (arith, next, lt)
-stays_within len target s s' (Jump j stack) lt within tame e = elim target as (λ x. TargetWithin len x → x ≡ Some j → s'.index ≤ len) [ None ↦ (λ w h. absurd (cc)) | Some i ↦ (λ w h. let one : i ≡ j = cc in let next : s'.index ≡ j = sym (ap (λ r. index_after r s) e) in omega (arith, one, next, w)) ] within tame
-stays_within len target s s' (Faults kind) lt within tame e = absurd (cc)
+abbrev pub ValueLeads : Context → Op → State → State → Type 0
+ValueLeads c op s s' = ((len : ℕ) → s.index < len → TargetWithin len (branch_target op) → s'.index ≤ len) × (InSpace c s.stack → InSpace c s'.stack)
+
+pub value_tells : (c : Context) (op : Op) (s : State) → StepTells c (ValueLeads c op s) (value_step c op s)
+value_tells c op s = leads_tells c (ValueLeads c op s) _ s.index op s.stack (effect c op s.stack) (effect_tells c op s.stack) (λ j new goes keeps. (λ len lt within. led_within len s.index j (branch_target op) goes lt within, keeps))
 
 -- an operation in range leads to an operation or to the end
 pub value_stays : (c : Context) (ops : List Op) → AllInRange c.target ops → (op : Op) (s s' : State) → slice_get ops s.index ≡ Some op → value_step c op s ≡ Ok s' → s'.index ≤ length ops
 value_stays c ops range op s s' stands goes =
-    stays_within (length ops) (branch_target op) s s' (effect c op s.stack) (slice_get_within ops s.index op stands) (in_range_at c.target (length ops) ops s.index op range stands).within_list (effect_tame c op s.stack) goes
+    (subst (StepTells c (ValueLeads c op s)) goes (value_tells c op s)).0 (length ops) (slice_get_within ops s.index op stands) (in_range_at c.target (length ops) ops s.index op range stands).within_list

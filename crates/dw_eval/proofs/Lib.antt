@@ -4,10 +4,7 @@ pub mod RunLaws
 pub mod Effects
 pub mod Signed
 pub mod Steps
-pub mod ValueLoop
-pub mod Roles
 pub mod PlaceSteps
-pub mod PlaceLoop
 pub mod Space
 pub mod RegisterLaws
 pub mod Wanted

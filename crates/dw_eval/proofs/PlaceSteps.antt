@@ -1,7 +1,15 @@
 -- What one step of a description tells of its run.
-use Rattle.dw_eval.proofs.Words.{◌≡◌, ℕ, ◌<◌, ◌≤◌, Bool, true, false, List, [], ◌∷◌, length, Option, Some, None, Result, Ok, Err, ap, inl, arith, ◌∙◌, slice_get, nat_lt, if◌then◌else◌, slice_get_within, Op}
-use Rattle.dw_eval.proofs.Words.{branch_target, AllInRange, TargetWithin, EvalError, Fault, OutOfMemory, Kind, StackUnderflow, MissingPiece, Place, Role, SetsPlace, SetsValue, Computes, Context, OpEffect, Next, Jump}
-use Rattle.dw_eval.proofs.{Words.{Faults, effect, StepsWithoutMemory, PlaceState, with_value, place_step, place_led, role, free_by, held_by, step_of, StepsTo}, Effects.{IsTame, effect_tame, in_range_at}, Roles.step_is}
+use Rattle.dw_eval.specs.{Space.{PlaceInSpace, ArePlacesInSpace}, declared.place.Part.Part, declared.stack.Flow.Flow, declared.stack.Stop.Stop}
+use Rattle.dw_eval.specs.declared.place.Piece as declared
+use Rattle.dw_eval.specs.declared.stack.Flow.TheVariants as flow
+use Rattle.dw_eval.specs.declared.stack.Stop.TheVariants as stop
+use Rattle.dw_eval.proofs.Words.{◌≡◌, ℕ, ◌%◌, address_limit, ◌<◌, ◌≤◌, zero, suc, map, List, [], ◌∷◌, ◌++◌, length, Option, Some, None, Result, Ok, Err, ap, inl, arith, refl, sym, subst, ◌∙◌, slice_get, slice_get_within, Op, Deref, DerefSize, Reg, Piece, BitPiece, Implicit, StackValue, Nop, byte_count, bare}
+use Rattle.dw_eval.proofs.Words.{branch_target, AllInRange, TargetWithin, EvalError, Fault, OutOfMemory, Kind, StackUnderflow, MissingPiece, Unreadable, Place, Context, context, read_at, OpEffect, Next, known, on_top, push, leads}
+use Rattle.dw_eval.proofs.{Words.{Faults, effect, StepsWithoutMemory, PlaceState, place_here, with_piece, with_value, bare_piece, pieces_of, with_stack, free_step, held_step, refused, step_by, place_step, StepsTo, Acts}, Effects.{InSpace, StepTells, effect_tells, leads_tells, led_within, in_range_at}}
+use Rattle.std.proofs.Common.{Bor}
+use Rattle.dw_num.specs.declared.target.Order.{Order}
+unfoldable use Rattle.dw_eval.specs.Bytes.{number_in_memory}
+use Rattle.dw_eval.specs.{Inner.Steps.refusal, declared.env.Env.Env}
 
 -- a step without memory is one over a memory that stays
 pub steps_so : (step : Result PlaceState Kind) (Read : Type 0) (i before : ℕ) (state : ℕ → PlaceState) (result : Result ℕ EvalError) (after : ℕ) → StepsWithoutMemory step i state result → after ≡ before → StepsTo step Read i before state result after
@@ -9,42 +17,141 @@ steps_so step Read i before state (Ok next) after h same = (h, same)
 steps_so step Read i before state (Err OutOfMemory) after h same = same
 steps_so step Read i before state (Err (Fault kind j)) after h same = (h.1, inl (h.0, same))
 
-abbrev index_in : Result PlaceState Kind → ℕ
-index_in (Ok s) = s.index
-index_in (Err kind) = 0
+-- ---- an operation that is refused
 
-led_within : (len : ℕ) (target : Option ℕ) (s : PlaceState) (o : OpEffect) → s.index < len → TargetWithin len target → IsTame target o → index_in (place_led s o) ≤ len
-led_within len target s (Next stack) lt within tame = omega (arith, lt)
-led_within len None s (Jump j stack) lt within tame = absurd (cc)
-led_within len (Some i) s (Jump j stack) lt within tame = let one : i ≡ j = cc in omega (arith, one, within)
-led_within len target s (Faults kind) lt within tame = omega arith
+misses : (a k : ℕ) (o : Option ℕ) (f : ℕ → List ℕ) → refused (known (Unreadable a k) o (λ v. Next (f v))) ≡ Err MissingPiece
+misses a k None f = refl
+misses a k (Some v) f = refl
 
-value_within : (len : ℕ) (s : PlaceState) (stack : List ℕ) → s.index < len → index_in (with_value stack s) ≤ len
-value_within len s [] lt = omega arith
-value_within len s (t ∷ below) lt = omega (arith, lt)
+reads : (c d : Context) (k : ℕ) (stack : List ℕ) → c.target ≡ d.target → refused (on_top stack (λ t below. known (Unreadable t k) (read_at c t k) (λ v. push c.target.size v below)))
+    ≡ refused (on_top stack (λ t below. known (Unreadable t k) (read_at d t k) (λ v. push d.target.size v below)))
+reads c d k [] e = refl
+reads c d k (t ∷ below) e = cc (misses t k (read_at c t k) (λ v. v % address_limit c.target.size ∷ below), misses t k (read_at d t k) (λ v. v % address_limit d.target.size ∷ below))
 
-free_within : (len : ℕ) (c : Context) (op : Op) (s : PlaceState) (r : Role) → s.index < len → TargetWithin len (branch_target op) → index_in (free_by c op r s) ≤ len
-free_within len c op s SetsValue lt within = value_within len s s.stack lt
-free_within len c op s (Computes entries) lt within = led_within len (branch_target op) s (effect c op s.stack) lt within (effect_tame c op s.stack)
-free_within len c op s r lt within = omega (arith, lt)
+-- no byte tells why
+unread : (env : Env) (byte other : ℕ → Option ℕ) (op : Op) (stack : List ℕ) → refused (effect (context env byte) op stack) ≡ refused (effect (context env other) op stack)
+unread env byte other Deref stack = reads (context env byte) (context env other) (byte_count env.target.size) stack refl
+unread env byte other (DerefSize k) stack = reads (context env byte) (context env other) k stack refl
+unread env byte other op stack = refl
 
-refused_within : (b : Bool) (len : ℕ) → index_in (if b then Err StackUnderflow else Err MissingPiece) ≤ len
-refused_within true len = omega arith
-refused_within false len = omega arith
+bare_same : (env : Env) (byte : ℕ → Option ℕ) (op : Op) (stack : List ℕ) → refused (effect (context env byte) op stack) ≡ refused (effect (context env byte) (bare op) stack)
+bare_same env byte (Implicit block) stack = refl
+bare_same env byte op stack = refl
 
-held_within : (len : ℕ) (s : PlaceState) (r : Role) → s.index < len → index_in (held_by r s) ≤ len
-held_within len s (SetsPlace place) lt = refused_within (nat_lt (length s.stack) 0) len
-held_within len s SetsValue lt = refused_within (nat_lt (length s.stack) 1) len
-held_within len s (Computes entries) lt = refused_within (nat_lt (length s.stack) entries) len
-held_within len s r lt = omega (arith, lt)
+pub refused_so : (o : OpEffect) (Read : Type 0) (answer : Result Flow Stop) (stack : List ℕ) (i : ℕ) (state : ℕ → PlaceState) → Acts o Read 0 answer stack 0 → StepsWithoutMemory (refused o) i state (Err (refusal i answer))
+refused_so o Read (Ok flow.Next) stack i state h = (ap refused h.0, refl)
+refused_so o Read (Ok (flow.Jump j)) stack i state h = (ap refused h.0, refl)
+refused_so o Read (Err (stop.Fault StackUnderflow)) stack i state h = (ap refused h.0, refl)
+refused_so o Read (Err (stop.Fault kind)) stack i state h = (ap refused h.0, refl)
+refused_so o Read (Err stop.Device) stack i state h = absurd (omega (arith, h.1))
+refused_so o Read (Err stop.OutOfMemory) stack i state h = tt
 
-step_within : (len : ℕ) (c : Context) (op : Op) (s : PlaceState) (pending : Option Place) → s.index < len → TargetWithin len (branch_target op) → index_in (step_of c op pending s) ≤ len
-step_within len c op s None lt within = free_within len c op s (role op) lt within
-step_within len c op s (Some place) lt within = held_within len s (role op) lt
+pub refusal_so : (env : Env) (byte none : ℕ → Option ℕ) (op : Op) (stack new : List ℕ) (Read : Type 0) (answer : Result Flow Stop) (i : ℕ) (state : ℕ → PlaceState) (e : EvalError)
+    → Acts (effect (context env none) op stack) Read 0 answer new 0 → e ≡ refusal i answer → StepsWithoutMemory (refused (effect (context env byte) (bare op) stack)) i state (Err e)
+refusal_so env byte none op stack new Read answer i state e h is =
+    let P : Result PlaceState Kind → Type 0 = λ step. StepsWithoutMemory step i state (Err e) in
+    let same : refused (effect (context env none) op stack) ≡ refused (effect (context env byte) (bare op) stack) = unread env none byte op stack ∙ bare_same env byte op stack in
+    subst P same (rw is (refused_so (effect (context env none) op stack) Read answer new i state h))
+
+-- where it is no piece and no nop
+pub held_else : (env : Env) (byte : ℕ → Option ℕ) (op : Op) (s : PlaceState) (i : ℕ) (state : ℕ → PlaceState) (result : Result ℕ EvalError) → ((n : ℕ) → op ≡ Piece n → ⊥) → ((n k : ℕ) → op ≡ BitPiece n k → ⊥) → (op ≡ Nop → ⊥)
+    → ((byte : ℕ → Option ℕ) → StepsWithoutMemory (refused (effect (context env byte) (bare op) s.stack)) i state result) → StepsWithoutMemory (held_step (context env byte) (bare op) s) i state result
+held_else env byte (Piece n) s i state result piece bits nop h = absurd (piece n refl)
+held_else env byte (BitPiece n k) s i state result piece bits nop h = absurd (bits n k refl)
+held_else env byte Nop s i state result piece bits nop h = absurd (nop refl)
+held_else env byte op s i state result piece bits nop h = h byte
+
+-- a step while a place is pending
+pub held_so : (env : Env) (byte : ℕ → Option ℕ) (op : Op) (s : PlaceState) (place : Place) (Read : Type 0) (i before : ℕ) (state : ℕ → PlaceState) (result : Result ℕ EvalError) (after : ℕ) → s.pending ≡ Some place
+    → ((byte : ℕ → Option ℕ) → StepsWithoutMemory (held_step (context env byte) op s) i state result) → after ≡ before → StepsTo (place_step (context env byte) op s) Read i before state result after
+held_so env byte op s place Read i before state result after e h same =
+    let P : Option Place → Type 0 = λ p. StepsTo (step_by (context env byte) op p s) Read i before state result after in
+    subst P (sym e) (steps_so (held_step (context env byte) op s) Read i before state result after (h byte) same)
+
+-- and while none is, where it names no place and is no piece
+pub free_else : (c : Context) (op : Op) (s : PlaceState) (Read : Type 0) (i before : ℕ) (state : ℕ → PlaceState) (result : Result ℕ EvalError) (after : ℕ) → ((r : ℕ) → op ≡ Reg r → ⊥) → ((block : Bor (List ℕ)) → op ≡ Implicit block → ⊥)
+    → (op ≡ StackValue → ⊥) → ((n : ℕ) → op ≡ Piece n → ⊥) → ((n k : ℕ) → op ≡ BitPiece n k → ⊥)
+    → StepsTo (leads (λ j stack. with_stack j stack s) s.index (effect c (bare op) s.stack)) Read i before state result after → StepsTo (free_step c (bare op) s) Read i before state result after
+free_else c (Reg r) s Read i before state result after reg block value piece bits h = absurd (reg r refl)
+free_else c (Implicit b) s Read i before state result after reg block value piece bits h = absurd (block b refl)
+free_else c StackValue s Read i before state result after reg block value piece bits h = absurd (value refl)
+free_else c (Piece n) s Read i before state result after reg block value piece bits h = absurd (piece n refl)
+free_else c (BitPiece n k) s Read i before state result after reg block value piece bits h = absurd (bits n k refl)
+free_else c op s Read i before state result after reg block value piece bits h = h
+
+pub no_bytes : (order : Order) (address len : ℕ) → 1 ≤ len → number_in_memory (λ a. None) order address len ≡ None
+unfolding number_in_memory
+no_bytes order address zero h = absurd (omega arith)
+no_bytes order address (suc len) h = refl
+
+-- ---- what every step keeps
+
+abbrev PendingInSpace : Context → Option Place → Type 0
+PendingInSpace c None = Unit {0}
+PendingInSpace c (Some place) = PlaceInSpace c.target.size place
+
+pub record StateInSpace (c : Context) (s : PlaceState) : Type 0 where
+  pub stack : InSpace c s.stack
+  pub pending : PendingInSpace c s.pending
+  pub pieces : ArePlacesInSpace c.target.size s.pieces
+
+pub here_in_space : (c : Context) (pending : Option Place) (stack : List ℕ) → PendingInSpace c pending → InSpace c stack → PlaceInSpace c.target.size (place_here pending stack)
+here_in_space c (Some place) stack h w = h
+here_in_space c None [] h w = tt
+here_in_space c None (t ∷ below) h w = w.0
+
+pieces_more : (c : Context) (pieces : List declared.Piece) (piece : declared.Piece) → ArePlacesInSpace c.target.size pieces → PlaceInSpace c.target.size piece.place → ArePlacesInSpace c.target.size (pieces ++ piece ∷ [])
+pieces_more c [] piece h w = (w, tt)
+pieces_more c (first ∷ pieces) piece h w = (h.0, pieces_more c pieces piece h.1 w)
+
+module _ (c : Context) where
+  -- it leads to a place of the list, and leaves numbers below 2 ^ N
+  abbrev pub Leads : Op → PlaceState → PlaceState → Type 0
+  Leads op s s' = ((len : ℕ) → s.index < len → TargetWithin len (branch_target op) → s'.index ≤ len) × (StateInSpace c s → StateInSpace c s')
+
+  piece_tells : (op : Op) (part : Part) (s : PlaceState) → Leads op s (with_piece part s)
+  piece_tells op part s =
+      (λ len lt within. omega (arith, lt), λ h. record { stack = tt; pending = tt; pieces = pieces_more c s.pieces _ h.pieces (here_in_space c s.pending s.stack h.pending h.stack) })
+
+  value_tells : (s : PlaceState) (stack : List ℕ) → s.stack ≡ stack → StepTells c (Leads StackValue s) (with_value stack s)
+  value_tells s [] e = tt
+  value_tells s (t ∷ below) e =
+      (λ len lt within. omega (arith, lt), λ h. let all : InSpace c (t ∷ below) = subst (InSpace c) e h.stack in record { stack = all.1; pending = all.0; pieces = h.pieces })
+
+  free_tells : (op : Op) (s : PlaceState) → StepTells c (Leads op s) (free_step c op s)
+  free_tells (Reg r) s = (λ len lt within. omega (arith, lt), λ h. record { stack = h.stack; pending = tt; pieces = h.pieces })
+  free_tells (Implicit block) s = (λ len lt within. omega (arith, lt), λ h. record { stack = h.stack; pending = tt; pieces = h.pieces })
+  free_tells StackValue s = value_tells s s.stack refl
+  free_tells (Piece n) s = piece_tells (Piece n) _ s
+  free_tells (BitPiece n k) s = piece_tells (BitPiece n k) _ s
+  free_tells op s = leads_tells c (Leads op s) _ s.index op s.stack (effect c op s.stack) (effect_tells c op s.stack)
+      (λ j new goes keeps. (λ len lt within. led_within len s.index j (branch_target op) goes lt within, λ h. record { stack = keeps h.stack; pending = h.pending; pieces = h.pieces }))
+
+  refused_tells : (op : Op) (s : PlaceState) (o : OpEffect) → StepTells c (Leads op s) (refused o)
+  refused_tells op s (Faults StackUnderflow) = tt
+  refused_tells op s (Faults kind) = tt
+  refused_tells op s o = tt
+
+  held_tells : (op : Op) (s : PlaceState) → StepTells c (Leads op s) (held_step c op s)
+  held_tells (Piece n) s = piece_tells (Piece n) _ s
+  held_tells (BitPiece n k) s = piece_tells (BitPiece n k) _ s
+  held_tells Nop s = (λ len lt within. omega (arith, lt), λ h. record { stack = h.stack; pending = h.pending; pieces = h.pieces })
+  held_tells op s = refused_tells op s (effect c op s.stack)
+
+  place_tells : (op : Op) (pending : Option Place) (s : PlaceState) → StepTells c (Leads op s) (step_by c op pending s)
+  place_tells op None s = free_tells op s
+  place_tells op (Some place) s = held_tells op s
+
+  pub step_tells : (op : Op) (s : PlaceState) → StepTells c (Leads op s) (place_step c op s)
+  step_tells op s = place_tells op s.pending s
 
 -- an operation in range leads to an operation or to the end
 pub place_stays : (c : Context) (ops : List Op) → AllInRange c.target ops → (op : Op) (s s' : PlaceState) → slice_get ops s.index ≡ Some op → place_step c op s ≡ Ok s' → s'.index ≤ length ops
 place_stays c ops range op s s' stands goes =
-    let here : index_in (step_of c op s.pending s) ≡ s'.index = ap index_in (step_is c op s.pending s ∙ goes) in
-    let most = step_within (length ops) c op s s.pending (slice_get_within ops s.index op stands) (in_range_at c.target (length ops) ops s.index op range stands).within_list in
-    omega (arith, here, most)
+    (subst (StepTells c (Leads c op s)) goes (step_tells c op s)).0 (length ops) (slice_get_within ops s.index op stands) (in_range_at c.target (length ops) ops s.index op range stands).within_list
+
+-- behind pieces
+pub behind_pieces : (len : ℕ) (pending : Option Place) (stack : List ℕ) (items : List declared.Piece) (answer : List declared.Piece → Result (List declared.Piece) EvalError) → 0 < length items
+    → ((piece : declared.Piece) (pieces : List declared.Piece) → pieces_of len pending stack (piece ∷ pieces) ≡ answer (piece ∷ pieces)) → pieces_of len pending stack (map bare_piece items) ≡ answer (map bare_piece items)
+behind_pieces len pending stack [] answer some h = absurd (omega arith)
+behind_pieces len pending stack (x ∷ xs) answer some h = h (bare_piece x) (map bare_piece xs)

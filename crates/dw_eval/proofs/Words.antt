@@ -1,6 +1,6 @@
 -- The words of specs and of std that the proofs cite, passed on from one place. Declares nothing.
 pub use Rattle.std.proofs.Common.{Bool, Err, FitsSigned, List, None, Ok, Option, Result, Some, [], add-zero, ap, arith, false, get_or, if◌then◌else◌, inl, inr, le-ltb, length, lit<, lit≤, lt-ltb, map, max, min, nat_eq, nat_lt, negsuc, of_z}
-pub use Rattle.std.proofs.{Common.{option_and_then, option_map, pos, refl, replicate, slice_get, subst, suc, sym, to_z, true, w32, w64, zero, ℕ, ℤ, ◌%◌, ◌++◌, ◌+◌, ◌-◌, ◌<ℤ◌, ◌<◌, ◌==◌, ◌^◌, ◌∙◌, ◌∷◌, ◌≡◌, ◌≤ℤ◌, ◌≤◌}, Math.ListN.length-map}
+pub use Rattle.std.proofs.{Common.{option_and_then, option_map, pos, refl, replicate, slice_get, subst, suc, sym, to_z, true, w32, w64, zero, ℕ, ℤ, ◌%◌, ◌++◌, ◌+◌, ◌-◌, ◌<ℤ◌, ◌<◌, ◌==◌, ◌^◌, ◌∙◌, ◌∷◌, ◌≡◌, ◌⊎◌, ◌≤ℤ◌, ◌≤◌}, Math.ListN.length-map}
 pub use Rattle.std.proofs.lemmas.{Bool.cases_lt, Int.{ints, of_z-to_z, to_z-of_z}, Option.{slice_get-get_or, slice_get_cases, slice_get_past, slice_get_within}, Result.err_from_is_err_and}
 pub use Rattle.dw_num.specs.{Target.{address_limit, byte_count}, declared.target.Size.Size, declared.target.Size.TheVariants.{Eight, Four}, declared.target.Target.Target}
 pub use Rattle.dw_op.specs.{Block.branch_target, Expression.bare, Ranges.{AllInRange, InRange, TargetWithin}, declared.op.Op.Op, declared.op.Op.TheVariants.{Abs, Addr, BitPiece, Bra, Breg, CallFrameCfa, Const, Deref, DerefSize, Div}}
@@ -12,5 +12,5 @@ pub use Rattle.dw_eval.specs.{Evaluation.{Evaluates, State, index_of, top_of, va
 pub use Rattle.dw_eval.specs.Location.{Located, PlaceState, bare_piece, bare_place, free_step, held_step, pieces_of, place_here, place_index, place_reads, place_start, place_step, refused, step_by, with_piece, with_stack, with_value}
 pub use Rattle.dw_eval.specs.{Registers.held, Runs.{IsResult, Runs}, declared.error.EvalError.EvalError, declared.error.EvalError.TheVariants.{Fault, OutOfMemory}}
 pub use Rattle.dw_eval.specs.declared.{error.Kind.Kind, error.Kind.TheVariants.{Device, DivideByZero, EmptyResult, MissingPiece, NoCfa, NoFrameBase, NoObject, NoRegister, StackUnderflow, StepLimit, Unreadable}, place.Part.TheVariants.Whole}
-pub use Rattle.dw_eval.specs.{declared.place.Place.Place, declared.place.Role.Role, declared.place.Role.TheVariants.{AddsPiece, Computes, SetsPlace, SetsValue, Waits}, Inner.Description.{StepsWithoutMemory, state_of}}
-pub use Rattle.dw_eval.specs.Inner.{Evaluation.{EvaluatesOver, ValueRuns, led}, Location.{LocatesOver, PlaceRuns, place_led}, Registers.{PlacesSo, near_held}, Roles.{free_by, held_by, refused_by, role, step_of}, Steps.{Acts, Does, StepsTo}}
+pub use Rattle.dw_eval.specs.{declared.place.Place.Place, Inner.Description.{StepsWithoutMemory, state_of}}
+pub use Rattle.dw_eval.specs.Inner.{Evaluation.{EvaluatesOver, ValueRuns, led}, Location.{LocatesOver, PlaceRuns, place_led}, Registers.{PlacesSo, near_held}, Steps.{Acts, Does, StepsTo}}

@@ -5,4 +5,3 @@ pub mod Evaluation
 pub mod Location
 pub mod Description
 pub mod Registers
-pub mod Roles

@@ -1,21 +1,54 @@
 //! A location description on the way (2.6).
 
-ghost use Rattle.std.specs.Prelude.{◌≡◌, ◌⊎◌, ℕ, ◌-◌, ◌^◌, ◌<◌, ◌≤◌, map, option_map, Ok, Err, List, [], ◌∷◌, None, MatchResult, IsTrue, false};
+ghost use Rattle.std.specs.Prelude.{◌≡◌, ◌⊎◌, ℕ, ◌-◌, ◌^◌, ◌<◌, ◌≤◌, map, option_map, Ok, Err, List, [], ◌∷◌, Option, None, MatchResult, IsTrue, false};
 ghost use Rattle.dw_num.specs.Target.{byte_count};
 ghost use Rattle.dw_op.specs.{Expression.bare, declared.op.Op.TheVariants.DerefSize};
-ghost use Rattle.dw_eval.specs.{Context.context, Effect.{effect, ReadsMemory, leads}, Location.{place_step, place_reads, place_here, with_piece}};
+ghost use Rattle.dw_eval.specs.{Context.context, Effect.{effect, ReadsMemory, leads}, Location.{place_step, place_reads, place_here, with_piece, free_step, held_step, refused}};
 ghost use Rattle.dw_eval.specs.{Location.{with_place, with_stack, with_value, pieces_of}, declared.error.EvalError.TheVariants.{Fault, OutOfMemory}};
-ghost use Rattle.dw_eval.specs.{declared.error.Kind.TheVariants.MissingPiece, Inner.Roles.{free_by, held_by, refused_by, step_of}, Inner.Steps.StepsTo};
+ghost use Rattle.dw_eval.specs.{declared.error.Kind.TheVariants.MissingPiece, Inner.Steps.{StepsTo, refusal}};
 
 use crate::action::act;
 use crate::env::Env;
 use crate::error::{EvalError, Kind};
 use crate::evaluation::reached;
-use crate::memory::Memory;
-use crate::place::{Part, Piece, Place, Role, role_of};
-use crate::stack::Stack;
+use crate::memory::{Memory, ReadFault};
+use crate::place::{Part, Piece, Place};
+use crate::stack::{Answer, Stack, Stop};
+use dw_num::Order;
 use dw_op::Op;
 use std::alloc::Global;
+
+/// Holds no byte, for an operation whose effect is asked for though it is not executed.
+#[derive(Drop)]
+struct NoMemory;
+
+impl Memory for NoMemory {
+    ghost byte = { λ m. λ a. None };
+
+    ghost failures = { λ m. 0 };
+
+    #[tactic(auto, using(crate::proofs::PlaceSteps::no_bytes))]
+    fn read(&mut self, address: u64, len: usize, order: Order) -> Result<u64, ReadFault> {
+        Err(ReadFault::Unreadable)
+    }
+}
+
+// Why an operation is refused that answers so on the stack: too few entries, or the missing piece.
+fn refusal(answer: Answer, index: usize) -> EvalError
+    ensures { result ≡ refusal index answer }
+{
+    match answer {
+        Err(Stop::Fault(Kind::StackUnderflow)) => EvalError::Fault {
+            kind: Kind::StackUnderflow,
+            index,
+        },
+        Err(Stop::OutOfMemory) => EvalError::OutOfMemory,
+        _ => EvalError::Fault {
+            kind: Kind::MissingPiece,
+            index,
+        },
+    }
+}
 
 /// A description on the way: the stack, the place that waits for its piece, and the pieces so far.
 #[derive(Drop)]
@@ -26,7 +59,7 @@ pub(crate) struct Description<'a> {
 }
 
 impl<'a> Description<'a> {
-    ghost use Rattle.dw_eval.specs.{Location.{bare_place, bare_piece}, declared.place.Piece.Piece, Inner.Description.{bare_role, state_of, StepsWithoutMemory}};
+    ghost use Rattle.dw_eval.specs.{Location.{bare_place, bare_piece}, declared.place.Piece.Piece, Inner.Description.{state_of, StepsWithoutMemory}};
 
     /// Nothing is described yet. Takes no memory.
     pub(crate) fn new(alloc: Global) -> Description<'a>
@@ -91,32 +124,27 @@ impl<'a> Description<'a> {
     }
 
     // No piece follows a place: the stack is too short for the operation, or the piece is missing.
-    fn refuse(&mut self, entries: usize, index: usize) -> Result<usize, EvalError>
-        ensures { StepsWithoutMemory (refused_by entries self.old.stack) index (λ next. state_of next self.new) result }
+    #[tactic(auto, using(crate::proofs::PlaceSteps::refusal_so))]
+    fn refuse(&mut self, op: &Op<'a>, index: usize, env: &Env<'_>) -> Result<usize, EvalError>
+        requires access { (len : ℕ) → op.now ≡ DerefSize len → (1 ≤ len) × (len ≤ byte_count env.now.target.size) }
+        ensures { (byte : ℕ → Option ℕ) → StepsWithoutMemory (refused (effect (context env.now byte) (bare op.now) self.old.stack)) index (λ next. state_of next self.new) result }
     {
-        if self.stack.len() < entries {
-            return Err(EvalError::Fault {
-                kind: Kind::StackUnderflow,
-                index,
-            });
-        }
-        Err(EvalError::Fault {
-            kind: Kind::MissingPiece,
-            index,
-        })
+        let answer = act(op, &mut self.stack, env, &mut NoMemory);
+        Err(refusal(answer, index))
     }
 
     // An operation while a place is pending.
-    fn hold(&mut self, role: Role<'a>, index: usize) -> Result<usize, EvalError>
-        requires { index < 2 ^ 64 - 1 }
-        ensures { StepsWithoutMemory (held_by (bare_role role.entry) (state_of index self.old)) index (λ next. state_of next self.new) result }
+    #[tactic(auto, using(crate::proofs::PlaceSteps::held_else))]
+    fn hold(&mut self, op: &Op<'a>, index: usize, env: &Env<'_>) -> Result<usize, EvalError>
+        requires inside { index < 2 ^ 64 - 1 }
+        requires access { (len : ℕ) → op.now ≡ DerefSize len → (1 ≤ len) × (len ≤ byte_count env.now.target.size) }
+        ensures { (byte : ℕ → Option ℕ) → StepsWithoutMemory (held_step (context env.now byte) (bare op.now) (state_of index self.old)) index (λ next. state_of next self.new) result }
     {
-        match role {
-            Role::SetsPlace(_) => self.refuse(0, index),
-            Role::SetsValue => self.refuse(1, index),
-            Role::AddsPiece(part) => self.add(part, index),
-            Role::Waits => Ok(index + 1),
-            Role::Computes(entries) => self.refuse(entries, index),
+        match *op {
+            Op::Piece(size) => self.add(Part::Bytes(size), index),
+            Op::BitPiece(size, offset) => self.add(Part::Bits { size, offset }, index),
+            Op::Nop => Ok(index + 1),
+            _ => self.refuse(op, index, env),
         }
     }
 
@@ -139,11 +167,10 @@ impl<'a> Description<'a> {
     }
 
     // An operation while no place is pending.
-    #[tactic(auto, using(crate::proofs::PlaceSteps::steps_so))]
+    #[tactic(auto, using(crate::proofs::PlaceSteps::steps_so, crate::proofs::PlaceSteps::free_else))]
     fn go_on<M: Memory>(
         &mut self,
         op: &Op<'a>,
-        role: Role<'a>,
         index: usize,
         env: &Env<'_>,
         memory: &mut M,
@@ -152,40 +179,20 @@ impl<'a> Description<'a> {
         requires access { (len : ℕ) → op.now ≡ DerefSize len → (1 ≤ len) × (len ≤ byte_count env.now.target.size) }
         requires room { M.failures memory.old < 2 ^ 64 - 1 }
         ensures same { M.byte memory.new ≡ M.byte memory.old }
-        ensures so { let c = context env.now (M.byte memory.old) in StepsTo (free_by c (bare op.now) (bare_role role.entry) (state_of index self.old)) (ReadsMemory c (bare op.now) self.old.stack) index (M.failures memory.old) (λ next. state_of next self.new) result (M.failures memory.new) }
+        ensures so { let c = context env.now (M.byte memory.old) in StepsTo (free_step c (bare op.now) (state_of index self.old)) (ReadsMemory c (bare op.now) self.old.stack) index (M.failures memory.old) (λ next. state_of next self.new) result (M.failures memory.new) }
     {
-        match role {
-            Role::SetsPlace(place) => self.set(place, index),
-            Role::SetsValue => self.set_value(index),
-            Role::AddsPiece(part) => self.add(part, index),
-            Role::Waits => Ok(index + 1),
-            Role::Computes(_) => self.compute(op, index, env, memory),
-        }
-    }
-
-    // Executes an operation by its role.
-    fn turn<M: Memory>(
-        &mut self,
-        op: &Op<'a>,
-        index: usize,
-        env: &Env<'_>,
-        memory: &mut M,
-    ) -> Result<usize, EvalError>
-        requires inside { index < 2 ^ 64 - 1 }
-        requires access { (len : ℕ) → op.now ≡ DerefSize len → (1 ≤ len) × (len ≤ byte_count env.now.target.size) }
-        requires room { M.failures memory.old < 2 ^ 64 - 1 }
-        ensures same { M.byte memory.new ≡ M.byte memory.old }
-        ensures so { let c = context env.now (M.byte memory.old) in StepsTo (let s = state_of index self.old in step_of c (bare op.now) s.pending s) (place_reads c (bare op.now) (state_of index self.old)) index (M.failures memory.old) (λ next. state_of next self.new) result (M.failures memory.new) }
-    {
-        let role = role_of(op);
-        match self.pending {
-            Some(_) => self.hold(role, index),
-            None => self.go_on(op, role, index, env, memory),
+        match *op {
+            Op::Reg(register) => self.set(Place::Register(register), index),
+            Op::Implicit(bytes) => self.set(Place::Bytes(bytes), index),
+            Op::StackValue => self.set_value(index),
+            Op::Piece(size) => self.add(Part::Bytes(size), index),
+            Op::BitPiece(size, offset) => self.add(Part::Bits { size, offset }, index),
+            _ => self.compute(op, index, env, memory),
         }
     }
 
     /// Executes the operation at an index, and says which one is next.
-    #[tactic(auto, using(crate::proofs::Roles::step_by_role))]
+    #[tactic(auto, using(crate::proofs::PlaceSteps::held_so))]
     pub(crate) fn step<M: Memory>(
         &mut self,
         op: &Op<'a>,
@@ -199,7 +206,10 @@ impl<'a> Description<'a> {
         ensures same { M.byte memory.new ≡ M.byte memory.old }
         ensures so { let c = context env.now (M.byte memory.old) in StepsTo (place_step c (bare op.now) (state_of index self.old)) (place_reads c (bare op.now) (state_of index self.old)) index (M.failures memory.old) (λ next. state_of next self.new) result (M.failures memory.new) }
     {
-        self.turn(op, index, env, memory)
+        match self.pending {
+            Some(_) => self.hold(op, index, env),
+            None => self.go_on(op, index, env, memory),
+        }
     }
 
     // Whether a pending place or an entry of the stack is left.

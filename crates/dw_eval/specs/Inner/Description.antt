@@ -2,14 +2,6 @@
 use Rattle.std.specs.Prelude.{◌≡◌, ℕ, map, option_map, Result, Ok, Err}
 use Rattle.dw_eval.specs.{Location.{PlaceState, bare_place, bare_piece}, declared.description.Description.Description}
 use Rattle.dw_eval.specs.declared.error.{EvalError.EvalError, EvalError.TheVariants.{Fault, OutOfMemory}, Kind.Kind}
-use Rattle.dw_eval.specs.declared.place.{Role.Role, Role.TheVariants.{SetsPlace, SetsValue, AddsPiece, Waits, Computes}}
-
-abbrev pub bare_role : Role → Role
-bare_role (SetsPlace place) = SetsPlace (bare_place place)
-bare_role SetsValue = SetsValue
-bare_role (AddsPiece part) = AddsPiece part
-bare_role Waits = Waits
-bare_role (Computes entries) = Computes entries
 
 -- the state that a description stands for before an operation
 abbrev pub state_of : ℕ → Description → PlaceState

@@ -1,7 +1,7 @@
 -- How the code keeps a step.
 use Rattle.std.specs.Prelude.{◌≡◌, ◌⊎◌, ℕ, ◌+◌, ◌<◌, List, Result, Ok, Err}
 use Rattle.dw_eval.specs.{Effect.{OpEffect, Next, Jump, Faults}, declared.error.EvalError.EvalError, declared.error.EvalError.TheVariants.{Fault, OutOfMemory}}
-use Rattle.dw_eval.specs.declared.{error.Kind.Kind, error.Kind.TheVariants.Device, stack.Flow.Flow, stack.Stop.Stop}
+use Rattle.dw_eval.specs.declared.{error.Kind.Kind, error.Kind.TheVariants.{Device, StackUnderflow, MissingPiece}, stack.Flow.Flow, stack.Stop.Stop}
 use Rattle.dw_eval.specs.declared.stack.Flow.TheVariants as flow
 use Rattle.dw_eval.specs.declared.stack.Stop.TheVariants as stop
 
@@ -28,6 +28,12 @@ reached i (Ok (flow.Jump j)) = Ok j
 reached i (Err (stop.Fault kind)) = Err (Fault kind i)
 reached i (Err stop.Device) = Err (Fault Device i)
 reached i (Err stop.OutOfMemory) = Err OutOfMemory
+
+-- why an operation that answers so on the stack is no piece: the stack is too short, or the piece is missing
+abbrev pub refusal : ℕ → Result Flow Stop → EvalError
+refusal i (Err (stop.Fault StackUnderflow)) = Fault StackUnderflow i
+refusal i (Err stop.OutOfMemory) = OutOfMemory
+refusal i other = Fault MissingPiece i
 
 -- a step of the code from operation i: it leads to a state, given its index, or to an error
 abbrev pub StepsTo : {S : Type 0} → Result S Kind → Type 0 → ℕ → ℕ → (ℕ → S) → Result ℕ EvalError → ℕ → Type 0

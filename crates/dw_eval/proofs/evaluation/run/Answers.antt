@@ -1,4 +1,4 @@
-use Rattle.dw_eval.proofs.{Words.{ap, ◌∙◌, arith, err_from_is_err_and, context}, ValueLoop.{access_at, value_more, value_stop, value_limit}}
+use Rattle.dw_eval.proofs.{Words.{ap, ◌∙◌, arith, refl, map, Nop, bare, err_from_is_err_and, context, index_of, value_step, value_start, value_reads, top_of}, Effects.value_stays, Steps.{access_at, step_more, step_stop, step_limit}}
 use Rattle.dw_eval.proofs.evaluation.run.Goals as goal
 
 pub step-requires-clause-access : goal.step-requires-clause-access
@@ -7,13 +7,17 @@ step-requires-clause-access g c = access_at c.args.env.now.target c.args.ops.now
 pub returns-in_err-index-clause-so : goal.returns-in_err-index-clause-so
 returns-in_err-index-clause-so g c =
     let p = err_from_is_err_and c.from_residual.result c.from_residual.ensures.1 in
-    rw (p.1, p.2) (value_stop _ _ c.args.ops.now c.args.stack.now c.args.steps c.steps.taken c.steps.index c.steps.stack c.step.new.stack _ _ _ _ _ (ap (context c.args.env.now) c.steps.invariant.same) c.steps.invariant.runs c.steps-test.true c.if-index-ops.false c.steps.invariant.count c.in_err-index.ensures.so)
+    rw (p.1, p.2) (step_stop index_of value_step value_reads (λ len s. top_of len s.stack) _ _ c.args.ops.now (value_start c.args.stack.now) c.steps.taken c.steps.index _ _ (record { index = c.steps.index; stack = c.steps.stack }) _
+    (ap (context c.args.env.now) c.steps.invariant.same) c.steps.invariant.runs refl c.if-index-ops.false c.steps.invariant.count c.args.steps _ (λ k. record { index = k; stack = c.step.new.stack }) _ c.steps-test.true c.in_err-index.ensures.so)
 
 pub steps-preserved : goal.steps-preserved
 steps-preserved g c =
-    let p = value_more _ _ c.args.ops.now c.args.stack.now c.steps.taken c.steps.index c.in_ok-index.index c.steps.stack c.step.new.stack _ _ _ _ (ap (context c.args.env.now) c.steps.invariant.same) c.requires.range c.steps.invariant.runs c.if-index-ops.false c.steps.invariant.count c.in_ok-index.ensures.so in
+    let p = step_more index_of value_step value_reads (λ len s. top_of len s.stack) _ _ c.args.ops.now (value_start c.args.stack.now) c.steps.taken c.steps.index _ _ (record { index = c.steps.index; stack = c.steps.stack }) _
+    (ap (context c.args.env.now) c.steps.invariant.same) c.steps.invariant.runs refl c.if-index-ops.false c.steps.invariant.count c.in_ok-index.index _ (λ k. record { index = k; stack = c.step.new.stack })
+    (value_stays _ (map bare c.args.ops.now) c.requires.range) (λ k. refl) c.in_ok-index.ensures.so in
     record { runs = p.0; within = p.1; same = c.in_ok-index.ensures.same ∙ c.steps.invariant.same; count = p.2 }
 
 pub returns-then-index-ops-2-clause-so : goal.returns-then-index-ops-2-clause-so
 returns-then-index-ops-2-clause-so g c =
-    value_limit _ c.args.ops.now c.args.stack.now c.args.steps c.steps.taken c.steps.index c.steps.stack _ _ c.steps.invariant.runs (omega arith) c.if-index-ops-2.true c.steps.invariant.count
+    step_limit index_of value_step value_reads (λ len s. top_of len s.stack) _ _ c.args.ops.now (value_start c.args.stack.now) c.steps.taken c.steps.index _ _ _ Nop (ap (context c.args.env.now) c.steps.invariant.same)
+    c.steps.invariant.runs refl c.if-index-ops-2.true c.steps.invariant.count c.args.steps (omega arith)

@@ -1,5 +1,5 @@
 use Rattle.std.proofs.lemmas.Grind.{common_steps}
-use Rattle.dw_eval.proofs.{Words.{◌<◌, length, Ok, Err, inr, arith, option_map, Fault, MissingPiece, bare_place}, PlaceLoop.behind_pieces}
+use Rattle.dw_eval.proofs.{Words.{◌<◌, length, Ok, Err, inr, arith, option_map, Fault, MissingPiece, bare_place}, PlaceSteps.behind_pieces}
 use Rattle.dw_eval.proofs.description.Description.finish.Goals as goal
 
 pub returns-then-leaves_some : goal.returns-then-leaves_some
