@@ -44,7 +44,7 @@ module _ (t : Target) (m : Member) (own initial : ℕ) (h : IsPriced t m own ini
       let row = initial_row (m ∷ ms) in
       let within : IsWithin t h.i h.j row = record {
         fits = initial_fits t (m ∷ ms) fits;
-        cfa = elim (initial_cfa_or t m ms fits) [ inl none ↦ rw none (omega arith) | inr same ↦ rw same (h.first.cfa) ];
+        cfa = elim (initial_cfa_or m ms) [ inl none ↦ rw none (omega arith) | inr same ↦ rw same (h.first.cfa) ];
         rules = λ r. elim (initial_or t m ms fits r) [ inl none ↦ rw none (omega arith) | inr same ↦ rw same (h.first.rules r) ];
       } in
       step_len t h.i h.j blank blank row (λ r e. omega arith) within

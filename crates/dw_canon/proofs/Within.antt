@@ -4,9 +4,9 @@ use Rattle.dw_cfa.specs.declared.rule.CfaRule.TheVariants as cfa
 use Rattle.dw_cfa.specs.declared.rule.RegRule.TheVariants as rules
 use Rattle.dw_section.proofs.Lent.Fitting.{all_onto, back_keeps}
 use Rattle.dw_canon.specs.Spelling.{instr_bytes as instr_with}
-use Rattle.dw_canon.proofs.Words.{◌≡◌, ℕ, ◌+◌, ◌*◌, ◌≤◌, List, [], ◌∷◌, ◌++◌, length, sym, subst, inl, inr, arith, ℤ, AllByRecursion, keys_of, eqb_tells, length-append, suc-mul, Order, Size, Four, Eight}
-use Rattle.dw_canon.proofs.Words.{Target, fixed_bytes, byte_count, length-fixed, Instr, DefCfa, DefCfaRegister, DefCfaOffset, DefCfaExpression, Set, Restore, CfaRule, RegRule, with_offset, cfa_change, rule_change, cfa_after, rule_after}
-use Rattle.dw_canon.proofs.{Words.{initial_cfa, initial_rule, HoldsAfter, onto, Rules, rule, RowFits, either, move, difference, later_changes, instr_bytes, program_bytes, advance_bytes}, AscendingRegisters.{Rise, with_all_rise, keys_rise}}
+use Rattle.dw_canon.proofs.Words.{◌≡◌, ℕ, ◌+◌, ◌*◌, ◌≤◌, List, [], ◌∷◌, ◌++◌, length, sym, subst, inl, inr, arith, ℤ, AllByRecursion, keys_of, eqb_tells, length-append, suc-mul}
+use Rattle.dw_canon.proofs.Words.{Target, Instr, DefCfa, DefCfaRegister, DefCfaOffset, DefCfaExpression, Set, Restore, CfaRule, RegRule, with_offset, cfa_change, rule_change, cfa_after, rule_after}
+use Rattle.dw_canon.proofs.{Words.{initial_cfa, initial_rule, HoldsAfter, onto, Rules, rule, RowFits, either, move, difference, later_changes, instr_bytes, program_bytes}, AscendingRegisters.{Rise, with_all_rise, keys_rise}}
 use Rattle.dw_canon.proofs.{Costs.{RowWithin, bytes_more, difference_len}, Sums.{sum_of, sum_more, sum_none, once_own, sum_once}, Weights.{rule_len, cfa_len, rule_weight, own_weight, cfa_weight}}
 
 -- ---- what an instruction makes of a rule

@@ -2,7 +2,7 @@
 use Rattle.dw_canon.specs.Bound.{share, Shares, WithinShares}
 use Rattle.dw_canon.specs.Inner.Laid as layout
 use Rattle.dw_canon.proofs.Words.{rules, ◌≡◌, ℕ, ◌+◌, ◌*◌, ◌<◌, ◌≤◌, List, [], ◌∷◌, length, map, refl, ap, subst, inl, inr, arith, ◌∙◌, nat_eq, AllByRecursion, eqb_tells, length-append, Size, Four, Eight, Target}
-use Rattle.dw_canon.proofs.Words.{AreBytes, byte_count, length-fixed, Accepted, group_of, groups_of, part_of, parts_of, canon, cie_instrs, initial_of, return_registers, MemberStands, group, cie_of, Member}
+use Rattle.dw_canon.proofs.Words.{AreBytes, length-fixed, Accepted, group_of, groups_of, part_of, parts_of, canon, cie_instrs, initial_of, return_registers, MemberStands, group, cie_of, Member}
 use Rattle.dw_canon.proofs.{Words.{IsMember, AreMembers, fde_of, changes_of, program_bytes, cie_id, cie_spelling, entry_bytes, section_bytes, cie_field_bytes}, AscendingRegisters.{Rise, with_all_rise}}
 use Rattle.dw_canon.proofs.Lent.{Differences.In, Extra.{section_append, up, entry_up, fde_length}, Forms.whole_is, Layout.laid_is, MemberPlaces.all_some, Rendered.{fits, stand, nonempty, low_registers}, Shared.MemberFits}
 use Rattle.dw_canon.proofs.{Prices.{IsPriced, is_priced, fde_len, cie_len}, Squares.changes_most, Sums.{sum_of, if_own, once_own, sum_once}, Weights.register_len, Within.all_len}
