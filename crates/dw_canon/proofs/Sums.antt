@@ -29,10 +29,7 @@ none_own q weight low (r ∷ rs) lt up = search (rules, none_own q weight (suc r
 -- is counted once where they ascend
 pub once_own : (q weight low : ℕ) (rs : List ℕ) → Rise low rs → sum_of (if_own q weight) rs ≤ weight
 once_own q weight low [] up = omega arith
-once_own q weight low (r ∷ rs) up = elim (eqb_tells q r) [
-  | inl is ↦ rw (is.0) (omega (arith, none_own q weight (suc r) rs (omega (arith, is.1)) up.1))
-  | inr not ↦ rw (not.0) (omega (arith, once_own q weight (suc r) rs up.1))
-]
+once_own q weight low (r ∷ rs) up = search (rules, none_own, once_own q weight (suc r) rs up.1)
 
 -- what each thing adds to numbers is at most what it has
 pub sum_once : {X : Type 0} (own : ℕ → X → ℕ) (all : X → ℕ) (rs : List ℕ) → ((x : X) → sum_of (λ (r : ℕ). own r x) rs ≤ all x) → (xs : List X)

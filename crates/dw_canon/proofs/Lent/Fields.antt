@@ -22,12 +22,8 @@ section_more target w ws = length-append (entry_bytes target w) (section_bytes t
 pub stands_below : (target : Target) (at : ℕ) (ws : List Written) (place register : ℕ) (initial : List Instr) → StandsAt target at ws place register initial → place < at + length (section_bytes target ws)
 stands_below target at [] place register initial h = absurd h
 stands_below target at (cie r instrs program ∷ ws) place register initial (inl h) = search rules
-stands_below target at (cie r instrs program ∷ ws) place register initial (inr h) =
-    let w = cie r instrs program in
-    omega (arith, section_more target w ws, stands_below target (at + length (entry_bytes target w)) ws place register initial h)
-stands_below target at (fde c b n instrs program ∷ ws) place register initial h =
-    let w = fde c b n instrs program in
-    omega (arith, section_more target w ws, stands_below target (at + length (entry_bytes target w)) ws place register initial h)
+stands_below target at (cie r instrs program ∷ ws) place register initial (inr h) = search (rules, section_more, stands_below target (at + length (entry_bytes target (cie r instrs program))) ws place register initial h)
+stands_below target at (fde c b n instrs program ∷ ws) place register initial h = search (rules, section_more, stands_below target (at + length (entry_bytes target (fde c b n instrs program))) ws place register initial h)
 
 pub stands_among : (target : Target) (at : ℕ) (ws : List Written) (place register : ℕ) (initial : List Instr) → StandsAt target at ws place register initial → is_among place (cies_at target at ws) ≡ true
 stands_among target at [] place register initial h = absurd h
@@ -177,14 +173,8 @@ module _ (target : Target) (all : List Written) (small : length (section_bytes t
 
   same_places : (at : ℕ) (ws : List Written) → AllByRecursion (Fits target all) ws → cie_places (pieces target.order at (map (item_of target) ws)) ≡ cies_at target at ws
   same_places at [] h = refl
-  same_places at (cie register instrs program ∷ ws) h =
-      let next = at + length (entry_bytes target (cie register instrs program)) in
-      ap (λ (k : Kind). cons_option (place_if k at) (cie_places (pieces target.order next (map (item_of target) ws)))) (cie_kind target register instrs program) ∙ ap (λ (l : List ℕ). at ∷ l) (same_places next ws h.1)
-  same_places at (fde cie_at begin range instrs program ∷ ws) h =
-      let next = at + length (entry_bytes target (fde cie_at begin range instrs program)) in
-      let stands = h.0.4 in
-      ap (λ (k : Kind). cons_option (place_if k at) (cie_places (pieces target.order next (map (item_of target) ws)))) (fde_kind target cie_at begin range instrs program (points_low cie_at stands.0 stands.1 stands.2))
-      ∙ same_places next ws h.1
+  same_places at (cie register instrs program ∷ ws) h = search (rules, cie_kind, same_places (at + length (entry_bytes target (cie register instrs program))) ws h.1)
+  same_places at (fde cie_at begin range instrs program ∷ ws) h = search (rules, fde_kind, points_low, same_places (at + length (entry_bytes target (fde cie_at begin range instrs program))) ws h.1)
 
 -- ---- the cut
 

@@ -22,7 +22,4 @@ module _ (t : Target) (ms : List Member) where
 
   pub laid_is : canon t ms ≡ section_bytes t (laid t (groups_of t ms) (parts_of t ms))
   unfolding canon_with
-  laid_is =
-      let cies = map cie_of (groups_of t ms) in
-      let fdes = map (layout.fde_of t (groups_of t ms)) (parts_of t ms) in
-      ap (λ (l : List ℕ). l ++ flat_map (fde_bytes t ms) ms) (cies_laid (return_registers ms)) ∙ ap (λ (l : List ℕ). section_bytes t cies ++ l) (fdes_laid ms) ∙ sym (section_append t cies fdes)
+  laid_is = search (rules, cies_laid, fdes_laid, section_append)

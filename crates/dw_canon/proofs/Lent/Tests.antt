@@ -1,4 +1,5 @@
 -- Whatever tells equal rules leads from one row to another by the same instructions.
+use Rattle.std.proofs.Common.{rules}
 use Rattle.dw_canon.proofs.Words.{◌≡◌, ℕ, Bool, List, [], ◌∷◌, ◌++◌, refl, ap, ◌∙◌, ◌↔◌, IsTrue, if◌then◌else◌, flat_map, Instr, Set, Restore, CfaRule, RegRule, same_cfa, same_rule, cfa_tells, rule_tells, Rules, rule, blank, cfa_to, either}
 use Rattle.dw_canon.proofs.Words.{move, cie_instrs, fde_instrs, cfa_difference, rule_to, rule_difference, difference, later_changes, Member}
 use Rattle.std.specs.Bool.{one_answer}
@@ -19,25 +20,18 @@ module _ (test_cfa : CfaRule → CfaRule → Bool) (tells_cfa : (a b : CfaRule) 
 
     module _ (old new : Rules) where
       same_one : (r : ℕ) → form.rule_difference test_cfa test_rule initial old new r ≡ rule_difference initial old new r
-      same_one r =
-          ap (λ (x : Bool). if x then [] else form.rule_to test_cfa test_rule initial r (rule new r) ∷ []) (rule_answer (rule old r) (rule new r))
-          ∙ ap (λ (i : Instr). if same_rule (rule old r) (rule new r) then [] else i ∷ []) (same_to r (rule new r))
+      same_one r = search (rules, rule_answer, same_rule, same_to)
 
       same_rules : (rs : List ℕ) → flat_map (form.rule_difference test_cfa test_rule initial old new) rs ≡ flat_map (rule_difference initial old new) rs
       same_rules [] = refl
-      same_rules (r ∷ rs) =
-          ap (λ (l : List Instr). l ++ flat_map (form.rule_difference test_cfa test_rule initial old new) rs) (same_one r) ∙ ap (λ (l : List Instr). rule_difference initial old new r ++ l) (same_rules rs)
+      same_rules (r ∷ rs) = search (rules, same_one, same_rules rs)
 
       same_difference : form.difference test_cfa test_rule initial old new ≡ difference initial old new
-      same_difference =
-          ap (λ (l : List Instr). l ++ flat_map (form.rule_difference test_cfa test_rule initial old new) (either old new)) (same_cfas old.cfa new.cfa)
-          ∙ ap (λ (l : List Instr). cfa_difference old.cfa new.cfa ++ l) (same_rules (either old new))
+      same_difference = search (rules, either, same_cfas, same_rules)
 
     same_later : (at : ℕ) (row : Rules) (changes : List (ℕ × Rules)) → form.later_changes test_cfa test_rule initial at row changes ≡ later_changes initial at row changes
     same_later at row [] = refl
-    same_later at row (change ∷ changes) =
-        ap (λ (l : List Instr). move at change.0 ∷ (l ++ form.later_changes test_cfa test_rule initial change.0 change.1 changes)) (same_difference row change.1)
-        ∙ ap (λ (l : List Instr). move at change.0 ∷ (difference initial row change.1 ++ l)) (same_later change.0 change.1 changes)
+    same_later at row (change ∷ changes) = search (rules, same_difference, same_later change.0 change.1 changes)
 
     pub same_fde : (m : Member) → canon.fde_instrs test_cfa test_rule initial m ≡ fde_instrs initial m
     same_fde m = cc (same_difference initial m.first, same_later m.begin m.first m.later)
