@@ -30,12 +30,6 @@ module _ (known : List Bool) (values : List ℕ) (far : List (Option ℕ)) (end 
   pub view_holds : (r : ℕ) → held (first_held (any_held known values far) end) r ≡ any_held known values far r
   view_holds r = first_is end (any_held known values far) so.beyond r
 
-  pub view_near : (r : ℕ) → r < 128 → held (first_held (any_held known values far) end) r ≡ near_held known values r
-  view_near r lt = view_holds r ∙ near_is known values far r lt
-
-  pub view_far : (r : ℕ) → 128 ≤ r → held (first_held (any_held known values far) end) r ≡ held far (r - 128)
-  view_far r le = view_holds r ∙ far_is known values far r le
-
   pub view_end : (r : ℕ) → end ≤ r → held (first_held (any_held known values far) end) r ≡ None
   view_end r le = view_holds r ∙ so.beyond r le
 
