@@ -1,5 +1,4 @@
 -- An FDE of a normal form starts as many rows as it has changes.
-use Rattle.std.proofs.Common.{rules}
 use Rattle.dw_canon.proofs.Words.{◌≡◌, ℕ, ◌+◌, ◌<◌, ◌≤◌, List, [], ◌∷◌, ◌++◌, map, length, sym, ap, ◌∙◌, subst, arith, AllByRecursion, AreBytes, Target, Rules, row_starts, nops, row_starts_nops, Fde, Accepted, ChangesOf, one_change_list}
 use Rattle.dw_canon.proofs.Words.{one_programs, Group, Part, fde_in, laid, section_bytes, IsPartOf, IsRendered, Renders, part_of, initial_of, MemberStands, Member, IsMember, programs_rules, row_exists, rules_covered}
 use Rattle.dw_canon.proofs.{Lent.MemberPlaces.group_fits, Lent.Readback.{bn, in_n, listed_part, okn, part_in, part_listed, part_there, reads_back}, Lent.Rendered.fde_is, Lent.Shared.MemberFits, ProgramLaws.member_program}

@@ -1,5 +1,4 @@
 -- The laws of programs.
-use Rattle.std.proofs.Common.{rules}
 use Rattle.dw_canon.specs.Inner.Laws.{InitialProgram, MemberProgram, ChangesAreOne}
 use Rattle.dw_canon.proofs.Words.{◌≡◌, ℕ, List, subst, length, append-nil, address_limit, Instr, ProgramSpells, CieKept, FdeKept, initial_cfa, initial_rule, row_starts, rule, AreChanges, cie_instrs, fde_instrs}
 use Rattle.dw_canon.proofs.{Words.{changes_of, program_bytes, factors, one_changes}, MemberLaws.{cie_spelled, cie_kept, cie_cfa, cie_rules, member_spelled, member_kept, member_changes, member_starts}}

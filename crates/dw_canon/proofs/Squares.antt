@@ -1,5 +1,4 @@
 -- A product is at most a quarter of the square of the sum.
-use Rattle.std.proofs.Common.{rules}
 use Rattle.dw_canon.proofs.Words.{ℕ, ◌+◌, ◌-◌, ◌*◌, ◌≤◌, arith, mul-le-mul}
 
 upward : (a d : ℕ) → 4 * (a * (a + d)) ≤ (a + (a + d)) * (a + (a + d))

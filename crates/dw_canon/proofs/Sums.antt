@@ -1,5 +1,5 @@
 -- Sums over lists, and over numbers that ascend.
-use Rattle.dw_canon.proofs.{Words.{rules, ◌≡◌, ℕ, suc, ◌+◌, ◌<◌, ◌≤◌, List, [], ◌∷◌, ◌++◌, refl, arith, inl, inr, nat_eq, if◌then◌else◌, eqb_tells}, AscendingRegisters.Rise}
+use Rattle.dw_canon.proofs.{Words.{rules, ◌≡◌, ℕ, suc, ◌+◌, ◌<◌, ◌≤◌, List, [], ◌∷◌, ◌++◌, refl, arith, nat_eq, if◌then◌else◌}, AscendingRegisters.Rise}
 
 abbrev pub sum_of : {X : Type 0} → (X → ℕ) → List X → ℕ
 sum_of f [] = 0

@@ -135,7 +135,4 @@ module _ (t : Target) (s : List ℕ) (b : AreBytes s) (ok : Accepted t s) (ms : 
       )
 
 pub within_shares : WithinShares
-within_shares t s n sum b h shares =
-    let same = ap length (whole_is t s n b h) in
-    let most = canon_within t s b h.accepted h.members h.are sum shares in
-    omega (arith, same, most)
+within_shares t s n sum b h shares = search (rules, ap length (whole_is t s n b h), canon_within t s b h.accepted h.members h.are sum shares)

@@ -33,10 +33,7 @@ members_of t s (f ∷ fs) h =
     (one.member ∷ rest.0, ap (λ (g : Fde). g ∷ map fde_of rest.0) one.of ∙ ap (λ (l : List Fde). f ∷ l) rest.1, (one.is, rest.2))
 
 pub members_exist : (t : Target) (s : List ℕ) → AreBytes s → Accepted t s → (ms : List Member) × AreMembers t s ms
-members_exist t s b ok =
-    let fdes = fdes_exist t s b ok in
-    let made = members_of t s fdes.0 (λ f i. let c = listed_change t s b ok fdes.0 f fdes.1 i in made_of t s f c.0 c.1 c.1.change) in
-    (made.0, record { fdes = subst (AreFdes t s) (sym made.1) fdes.1; each = made.2 })
+members_exist t s b ok = search (rules, fdes_exist t s b ok, members_of t s (fdes_exist t s b ok).0 (λ f i. let c = listed_change t s b ok (fdes_exist t s b ok).0 f (fdes_exist t s b ok).1 i in made_of t s f c.0 c.1 c.1.change))
 
 -- ---- and are one list
 
@@ -113,10 +110,7 @@ same_then t a b c h k = search rules
 
 -- sections that say the same have the same members
 same_members : (t : Target) (s u : List ℕ) (ms : List Member) → AreBytes s → AreBytes u → Accepted t s → Accepted t u → AreMembers t s ms → SameMeaning t s u → AreMembers t u ms
-same_members t s u ms bs bu ok okay h same =
-    let fdes = (same.fdes (map fde_of ms)).0 h.fdes in
-    let each = members_there t s u (map fde_of ms) ms (λ f i. i) (λ f changes i. meaning_changes t s u bs bu ok okay same (map fde_of ms) f changes h.fdes i) h.each in
-    record { fdes = fdes; each = each }
+same_members t s u ms bs bu ok okay h same = search (rules, members_there t s u (map fde_of ms) ms (λ f i. i) (λ f changes i. meaning_changes t s u bs bu ok okay same (map fde_of ms) f changes h.fdes i) h.each)
 
 pub same_normal_form : SameNormalForm
 same_normal_form t s u n m bs bu h k small little = (

@@ -1,5 +1,4 @@
 -- Places of what is written, and how many rows its programs start.
-use Rattle.std.proofs.Common.{rules}
 use Rattle.dw_canon.proofs.Words.{◌≡◌, ℕ, ◌+◌, ◌*◌, ◌%◌, List, [], ◌∷◌, ◌++◌, length, refl, sym, ap, ◌∙◌, append_assoc, arith, inl, inr, replicate, AllByRecursion, AllZip, length-append, length-replicate, Dwarf32, Size, Four, Eight, Target}
 use Rattle.dw_canon.proofs.Words.{byte_count, fixed_bytes, length-fixed, Instr, row_starts, Head, head_at, FdeSays, Starts, RowStarts, total, IsAmong, Written, cie, fde, fields_of, program_of, nops_of, filled, contents, entry_bytes}
 use Rattle.dw_canon.proofs.Words.{section_bytes, missing, fde_field_bytes, span_of, head_of, heads_at, ranges_at, Fits, Runs, IsSection, nops, row_starts_nops}

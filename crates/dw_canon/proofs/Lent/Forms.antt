@@ -1,8 +1,8 @@
 -- The normal form has the same bytes by any tests that tell equal rules, by any function that gives each list of operations its
 -- least block, and by any that gives each return address register the row that its FDEs share.
-use Rattle.dw_canon.proofs.Words.{rules, ◌≡◌, ℕ, ◌+◌, ◌-◌, Bool, List, [], ◌∷◌, ◌++◌, length, map, refl, sym, ap, ◌∙◌, ◌↔◌, ◌==◌, IsTrue, if◌then◌else◌, AllByRecursion, flat_map, AreBytes, Target, Op, LeastBlock, least_block, Instr}
-use Rattle.dw_canon.proofs.Words.{CfaRule, RegRule, same_cfa, same_rule, cfa_tells, rule_tells, Rules, Accepted, return_registers, group, IsShared, initial_of, cie_instrs, fde_instrs, cie_bytes, cie_at, fde_bytes, canon, InstrFits}
-use Rattle.dw_canon.proofs.Words.{MemberStands, Member, AreMembers, IsNormalForm, written, cie_field_bytes, fde_field_bytes}
+use Rattle.dw_canon.proofs.Words.{rules, ◌≡◌, ℕ, ◌+◌, Bool, List, [], ◌∷◌, length, map, refl, sym, ap, ◌∙◌, ◌↔◌, ◌==◌, IsTrue, if◌then◌else◌, AllByRecursion, flat_map, AreBytes, Target, Op, LeastBlock, least_block, Instr}
+use Rattle.dw_canon.proofs.Words.{CfaRule, RegRule, same_cfa, same_rule, cfa_tells, rule_tells, Rules, Accepted, return_registers, group, IsShared, initial_of, cie_instrs, cie_bytes, cie_at, fde_bytes, canon, InstrFits}
+use Rattle.dw_canon.proofs.Words.{MemberStands, Member, AreMembers, IsNormalForm, written, cie_field_bytes}
 use Rattle.dw_op.proofs.Lent.LeastOne.{least_block_only}
 use Rattle.dw_canon.specs.{Canon.{canon as canon_with}, Spelling.program_bytes}
 use Rattle.dw_canon.proofs.Lent.{Shared.{MemberFits, shared_is}, Blocks.same_program, InstrFits.{cie_fits, member_fits, with_all}, MemberPlaces.{all_initial, all_some, all_to, group_fits}, Rendered.{fits, stand}, Tests.{same_cie, same_fde}}
@@ -40,12 +40,7 @@ module _ (t : Target) (ms : List Member) (all : AllByRecursion (MemberFits t) ms
 
   module _ (owns : AllByRecursion HasOwn (return_registers ms)) where
     same_fde_bytes : (m : Member) → HasOwn m.register → MemberStands t (initial_of ms m.register) m → form.fde_bytes test_cfa test_rule block initial t ms m ≡ fde_bytes t ms m
-    same_fde_bytes m own stands =
-        let row = initial_of ms m.register in
-        ap (λ (x : Rules). written t (fde_field_bytes t (form.cie_at test_cfa test_rule block initial t 0 (return_registers ms) m.register) m.begin (m.end - m.begin)) (program_bytes block t (form.fde_instrs test_cfa test_rule x m))) own
-        ∙ ap (λ (at : ℕ). written t (fde_field_bytes t at m.begin (m.end - m.begin)) (program_bytes block t (form.fde_instrs test_cfa test_rule row m))) (same_at 0 (return_registers ms) m.register owns)
-        ∙ ap (written t (fde_field_bytes t (cie_at t ms 0 (return_registers ms) m.register) m.begin (m.end - m.begin)))
-        (same_spelled (form.fde_instrs test_cfa test_rule row m) (fde_instrs row m) (same_fde test_cfa tells_cfa test_rule tells_rule row m) (member_fits t row m (group_fits t ms m.register all) stands))
+    same_fde_bytes m own stands = search (rules, initial_of ms m.register, written, program_bytes, same_at, same_spelled, same_fde, member_fits, group_fits)
 
     same_fdes : (xs : List Member) → AllByRecursion (λ (m : Member). HasOwn m.register) xs
         → AllByRecursion (λ (m : Member). MemberStands t (initial_of ms m.register) m) xs → flat_map (form.fde_bytes test_cfa test_rule block initial t ms) xs ≡ flat_map (fde_bytes t ms) xs
@@ -59,10 +54,7 @@ module _ (t : Target) (ms : List Member) (all : AllByRecursion (MemberFits t) ms
   pub same_canon : AllByRecursion (λ (m : Member). HasOwn m.register) ms → AllByRecursion (λ (m : Member). MemberStands t (initial_of ms m.register) m) ms
       → form.canon test_cfa test_rule block initial t ms ≡ canon t ms
   unfolding canon_with
-  same_canon own h =
-      let owns : AllByRecursion HasOwn (return_registers ms) = with_all HasOwn (map (λ (m : Member). m.register) ms) [] (registers_own ms own) tt in
-      ap (λ (b : List ℕ). b ++ flat_map (form.fde_bytes test_cfa test_rule block initial t ms) ms) (same_cies (return_registers ms) owns)
-      ∙ ap (λ (b : List ℕ). flat_map (cie_bytes t ms) (return_registers ms) ++ b) (same_fdes owns ms own h)
+  same_canon own h = search (rules, with_all HasOwn (map (λ (m : Member). m.register) ms) [] (registers_own ms own) tt, same_cies, same_fdes)
 
 own_rows : (t : Target) (ms xs : List Member) (initial : ℕ → Rules) → AllByRecursion (MemberFits t) ms → AllByRecursion (λ (m : Member). IsShared (group m.register ms) (initial m.register)) xs
     → AllByRecursion (λ (m : Member). initial m.register ≡ initial_of ms m.register) xs

@@ -1,7 +1,7 @@
 -- The normal form is its CIEs and FDEs, laid out with their instructions.
 use Rattle.dw_canon.specs.Canon.{canon as canon_with}
 use Rattle.dw_canon.specs.Inner.Laid as layout
-use Rattle.dw_canon.proofs.Words.{rules, ◌≡◌, ℕ, ◌+◌, List, [], ◌∷◌, ◌++◌, length, map, refl, sym, ap, ◌∙◌, ◌==◌, if◌then◌else◌, flat_map, Target, return_registers, cie_bytes, cie_at, fde_bytes}
+use Rattle.dw_canon.proofs.Words.{rules, ◌≡◌, ℕ, ◌+◌, List, [], ◌∷◌, ◌++◌, length, map, refl, ap, ◌==◌, if◌then◌else◌, flat_map, Target, cie_bytes, cie_at, fde_bytes}
 use Rattle.dw_canon.proofs.{Words.{canon, Member, cie_of, place_of, laid, group_of, groups_of, part_of, parts_of, entry_bytes, section_bytes}, Lent.Extra.section_append}
 
 module _ (t : Target) (ms : List Member) where

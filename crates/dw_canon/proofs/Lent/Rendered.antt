@@ -22,9 +22,7 @@ has_group t ms r (q ∷ rs) (inr i) = inr (has_group t ms r rs i)
 
 groups_are : (t : Target) (ms : List Member) (rs : List ℕ) → AllByRecursion (MemberFits t) ms → AllByRecursion (λ (r : ℕ). r < 65536) rs → AllByRecursion (IsGroup t) (map (group_of t ms) rs)
 groups_are t ms [] fits h = tt
-groups_are t ms (r ∷ rs) fits h =
-    let law = initial_program t (initial_of ms r) (group_fits t ms r fits) in
-    ((h.0, law.0, law.1), groups_are t ms rs fits h.1)
+groups_are t ms (r ∷ rs) fits h = search (rules, initial_program t (initial_of ms r) (group_fits t ms r fits), groups_are t ms rs fits h.1)
 
 -- ---- FDEs
 

@@ -1,7 +1,7 @@
 -- Whatever tells equal rules leads from one row to another by the same instructions.
 use Rattle.std.proofs.Common.{rules}
-use Rattle.dw_canon.proofs.Words.{◌≡◌, ℕ, Bool, List, [], ◌∷◌, ◌++◌, refl, ap, ◌∙◌, ◌↔◌, IsTrue, if◌then◌else◌, flat_map, Instr, Set, Restore, CfaRule, RegRule, same_cfa, same_rule, cfa_tells, rule_tells, Rules, rule, blank, cfa_to, either}
-use Rattle.dw_canon.proofs.Words.{move, cie_instrs, fde_instrs, cfa_difference, rule_to, rule_difference, difference, later_changes, Member}
+use Rattle.dw_canon.proofs.Words.{◌≡◌, ℕ, Bool, List, [], ◌∷◌, refl, ap, ◌↔◌, IsTrue, if◌then◌else◌, flat_map, Set, Restore, CfaRule, RegRule, same_cfa, same_rule, cfa_tells, rule_tells, Rules, rule, blank, cfa_to, either}
+use Rattle.dw_canon.proofs.Words.{cie_instrs, fde_instrs, cfa_difference, rule_to, rule_difference, difference, later_changes, Member}
 use Rattle.std.specs.Bool.{one_answer}
 use Rattle.dw_canon.specs.Canon as canon
 use Rattle.dw_canon.specs.Difference as form
