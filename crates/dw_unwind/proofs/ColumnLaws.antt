@@ -1,4 +1,5 @@
 -- What the values of columns are over a memory.
+use Rattle.std.proofs.Common.{rules}
 use Rattle.dw_unwind.proofs.Words.{◌≡◌, ◌⊎◌, ℕ, ◌<◌, ◌≤◌, List, Result, Ok, Err, refl, subst, arith, inl, inr, cases_lt, Expression, EvalError, Context, Evaluates, MayFailAt, Column, UnwindError, Eval, Device, OutOfMemory, in_column}
 use Rattle.dw_unwind.proofs.Words.{ValueIs, ValueFails, Over}
 use Rattle.dw_eval.specs.declared.error.EvalError.TheVariants as eval
@@ -14,26 +15,14 @@ pub record Tells (c : Context) (limit : ℕ) (e : Expression) (first : List ℕ)
 module _ (c : Context) (limit : ℕ) (column : Column) (e : Expression) (first : List ℕ) (before after : ℕ) where
   -- the count stays where no failure is answered
   stays : (r : Result ℕ EvalError) → Tells c limit e first before after r → ((i : ℕ) → r ≡ Err (eval.Fault kinds.Device i) → ⊥) → after ≡ before
-  stays r t other = elim (cases_lt before after) [
-    | inl grew ↦ let f = t.failed grew in absurd (other f.0 f.1)
-    | inr same ↦ omega (arith, t.counted)
-  ]
+  stays r t other = search rules
 
   told : (r : Result ℕ EvalError) → Tells c limit e first before after r → ((i : ℕ) → r ≡ Err (eval.Fault kinds.Device i) → ⊥) → (r ≡ Err eval.OutOfMemory → ⊥) → ValueIs c limit column e first (in_column column r) × (after ≡ before)
-  told r t other some =
-      let same = stays r t other in
-      elim (t.answered same) [
-        | inl short ↦ absurd (some short)
-        | inr is ↦ (record { evaluated = r; evaluates = is; is = refl }, same)
-      ]
+  told r t other some = search (rules, stays)
 
   pub value_over : (r : Result ℕ EvalError) → Tells c limit e first before after r → Over (ValueIs c limit column e first) (ValueFails c limit column first e) before (in_column column r) after
   value_over (Ok v) t = told (Ok v) t (λ i p. absurd cc) (λ p. absurd cc)
-  value_over (Err (eval.Fault kinds.Device i)) t =
-      let grew = t.device i refl in
-      let f = t.failed grew in
-      let same : f.0 ≡ i = cc in
-      ((i, subst (MayFailAt e.ops c first limit) same f.2, refl), grew)
+  value_over (Err (eval.Fault kinds.Device i)) t = search rules
   value_over (Err (eval.Fault kind i)) t = told (Err (eval.Fault kind i)) t (λ j p. absurd cc) (λ p. absurd cc)
   value_over (Err eval.OutOfMemory) t = stays (Err eval.OutOfMemory) t (λ i p. absurd cc)
 

@@ -1,4 +1,5 @@
 -- The lines of a dump have a reading or a first fault.
+use Rattle.std.proofs.Common.{rules}
 use Rattle.dw_unwind.proofs.Words.{◌≡◌, ◌≢◌, ◌⊎◌, ℕ, zero, suc, ◌+◌, ◌-◌, ◌<◌, ◌≤◌, false, List, [], ◌∷◌, ◌++◌, length, take, drop, Option, Some, None, Ok, Err, refl, sym, ap, ap₂, subst, ◌∙◌, arith, inl, inr, ⊎_elim, true≢false}
 use Rattle.dw_unwind.proofs.Words.{append_assoc, codes, is_some, slice_index, Result, cases_lt, cases_eq, eqb_tells, leb_tells, append-nil, append_cancel_left, slice_get_past, decode_of, DumpCode, BadLine, ValueTooLarge, Repeated}
 use Rattle.dw_unwind.proofs.Words.{DumpFault, SaysWithin, Say, FirstFault, IsFaulty, number_behind, Hexadecimal, RegisterName, HexPairs, CounterLine, RegisterLine, MemoryLine, SkippedLine, LineSays, Statement, DumpItem, Fits, nothing}
@@ -41,8 +42,7 @@ hexadecimal text = number_with (number_behind 16 0 text) (λ v. Hexadecimal v te
     (λ v is h. record { some = h.0; most = h.1; number = is }) (λ v h. (h.number, (h.some, h.most))) (λ v. both (at_most 1 (length text)) (at_most (length text) 16))
 
 is_plain : (text : List ℕ) → Decided (1 < length text → slice_index text 0 ≢ 48)
-is_plain text = or_else (⊎_elim (λ same. inr same.1) (λ other. inl (λ more. other.1)) (eqb_tells (slice_index text 0) 48))
-    (λ same. ⊎_elim (λ more. inr (λ h. h more same)) (λ one. inl (λ more. absurd (omega arith))) (cases_lt 1 (length text)))
+is_plain text = search (rules, or_else)
 
 register_name : (text : List ℕ) → Found (λ (r : ℕ). RegisterName r text)
 register_name text = number_with (number_behind 10 0 text) (λ r. RegisterName r text) (λ r. ((0 < length text) × (length text ≤ 5)) × ((1 < length text → slice_index text 0 ≢ 48) × (r < 65536)))

@@ -1,4 +1,5 @@
 -- The registers of a frame, one after another.
+use Rattle.std.proofs.Common.{rules}
 use Rattle.dw_unwind.proofs.Words.{◌≡◌, ℕ, zero, suc, ◌<◌, ◌≤◌, true, false, List, [], ◌∷◌, ◌++◌, length, get_or, Option, Ok, refl, sym, subst, ◌∙◌, arith, inl, inr, AllByRecursion, AllPairs, ◌||◌, Bool, IsTrue, is_some, cases_lt, eq-eqb}
 use Rattle.dw_unwind.proofs.Words.{ne_eqb, RegRule, Rules, AreSpecified, is_specified, rule, rule_in, Context, Fde, IsAmong, Policy, is_listed, IsListed, Recovers, AreRegisters, Reached, Rise, SoFar, IsLeft}
 use Rattle.dw_cfa.specs.declared.rule.RegRule.TheVariants.{Unspecified}
@@ -71,21 +72,10 @@ module _ (c : Context) (limit : ℕ) (policy : Policy) (row : Rules) (register c
   }
 
   pub so_passed : (n : ℕ) (entries : List (ℕ × Option ℕ)) → So n entries → is_listed c.register row register n ≡ false → So (suc n) entries
-  so_passed n entries so not = record {
-    rise = so.rise;
-    below = all_more (λ (entry : ℕ × Option ℕ). entry.0 < n) (λ entry. entry.0 < suc n) entries (λ x lt. omega arith) so.below;
-    each = so.each;
-    all = λ r lt listed. elim (cases_lt r n) [
-      | inl less ↦ so.all r less listed
-      | inr more ↦ let same : r ≡ n = omega (arith, lt, more) in let is = subst (λ (q : ℕ). is_listed c.register row register q ≡ true) same listed in absurd cc
-    ];
-  }
+  so_passed n entries so not = search (rules, all_more)
 
   pub so_reached : (n : ℕ) (entries : List (ℕ × Option ℕ)) → So n entries → Listed n → Reached c limit policy row register cfa n
-  so_reached n entries so listed = record {
-    listed = listed;
-    earlier = λ q lt is. let found = so.all q lt is in (found.0, (all_among (λ (entry : ℕ × Option ℕ). Value entry.0 entry.1) entries (q, found.0) so.each found.1).1);
-  }
+  so_reached n entries so listed = search (rules, all_among)
 
   pub so_all : (n : ℕ) (entries : List (ℕ × Option ℕ)) → So n entries → ((r : ℕ) → n ≤ r → is_listed c.register row register r ≡ false) → AreRegisters c limit policy row register cfa entries
   so_all n entries so none = record {
@@ -108,14 +98,5 @@ module _ (row : Rules) (from : ℕ) where
   left_none left r le = sym (left.same r le)
 
   module _ (entry : ℕ × RegRule) (rest : List (ℕ × RegRule)) (left : IsLeft row from (entry ∷ rest)) where
-    pub left_own : entry.1 ≡ rule row entry.0
-    left_own = let found : rule_in (entry ∷ rest) entry.0 ≡ entry.1 = rw (eq-eqb entry.0 entry.0 refl) refl in sym found ∙ left.same entry.0 left.ascending.0
-
     pub left_before : (r : ℕ) → from ≤ r → r < entry.0 → rule row r ≡ Unspecified
     left_before r le lt = sym (left.same r le) ∙ unlisted r entry.0 (entry ∷ rest) (omega arith, left.ascending.1, left.ascending.2) lt
-
-    pub left_rest : IsLeft row (suc entry.0) rest
-    left_rest = record {
-      ascending = left.ascending.2;
-      same = λ r le. let passed : rule_in (entry ∷ rest) r ≡ rule_in rest r = rw (ne_eqb entry.0 r (λ same. omega (arith, same, le))) refl in sym passed ∙ left.same r (omega (arith, le, left.ascending.0));
-    }

@@ -1,4 +1,5 @@
 -- Statements one after the other: what they give, and how often.
+use Rattle.std.proofs.Common.{rules}
 use Rattle.dw_unwind.proofs.Words.{◌≡◌, ◌⊎◌, ℕ, suc, ◌+◌, ◌<◌, ◌≤◌, true, false, cond, List, [], ◌∷◌, ◌++◌, length, Option, Some, None, refl, sym, ap, subst, ◌∙◌, arith, add-zero, inl, inr, append_assoc}
 use Rattle.dw_unwind.proofs.Words.{length-append, is_some, ◌==◌, cases_Bool, eqb_tells, append-nil, sum_by-cons, sum_by_push, held, Gathered, Range, LineSays, Keeps, IsWhole, HasBytes, ranges_of}
 use Rattle.dw_unwind.proofs.{Words.{bytes_by, bytes_of, option_or, Statement, DumpItem, nothing, counter_is, register_is, memory_is, counter, register, told, given, times}, Elements.all_push}

@@ -1,23 +1,14 @@
 -- Words and prefixes of a line.
+use Rattle.std.proofs.Common.{rules}
 use Rattle.dw_unwind.proofs.Words.{◌≡◌, ℕ, ◌+◌, ◌*◌, ◌<◌, ◌≤◌, List, [], ◌∷◌, ◌++◌, length, take, drop, Option, Some, None, refl, sym, ap, subst, ◌∙◌, arith, add-one, inl, inr, length-append, option_and_then, codes, append_cancel_left}
 use Rattle.dw_unwind.proofs.Words.{eqb_tells, Statement, nothing, counter_is, register_is, memory_is, digit, number_behind, Hexadecimal, RegisterName, SkippedLine, CounterLine, RegisterLine, MemoryLine, LineSays, MemoryHead, Lacks}
 use Rattle.dw_unwind.proofs.Words.{len_until}
 
 -- ---- the first character of a kind
 
-pub len_until-le : (kind : ℕ) (text : List ℕ) → len_until kind text ≤ length text
-len_until-le kind [] = omega arith
-len_until-le kind (c ∷ cs) = elim (eqb_tells c kind) [
-  | inl same ↦ rw (same.0) (omega arith)
-  | inr other ↦ let rest = len_until-le kind cs in rw (other.0) (omega arith)
-]
-
 pub lacks_front : (kind : ℕ) (text : List ℕ) → Lacks kind (take (len_until kind text) text)
 lacks_front kind [] = tt
-lacks_front kind (c ∷ cs) = elim (eqb_tells c kind) [
-  | inl same ↦ rw (same.0) tt
-  | inr other ↦ rw (other.0) (other.1, lacks_front kind cs)
-]
+lacks_front kind (c ∷ cs) = search (rules, lacks_front kind cs)
 
 pub until_parts : (kind : ℕ) (text : List ℕ) → len_until kind text < length text → text ≡ take (len_until kind text) text ++ (kind ∷ drop (len_until kind text + 1) text)
 until_parts kind [] lt = absurd (omega arith)
@@ -27,14 +18,8 @@ until_parts kind (c ∷ cs) lt = elim (eqb_tells c kind) [
 ]
 
 pub len_until-word : (kind : ℕ) (word rest : List ℕ) → Lacks kind word → len_until kind (word ++ kind ∷ rest) ≡ length word
-len_until-word kind [] rest lacks = elim (eqb_tells kind kind) [
-  | inl same ↦ rw (same.0) refl
-  | inr other ↦ absurd (other.1 refl)
-]
-len_until-word kind (c ∷ cs) rest lacks = elim (eqb_tells c kind) [
-  | inl same ↦ absurd (lacks.0 same.1)
-  | inr other ↦ let more = len_until-word kind cs rest lacks.1 in rw (other.0) (omega arith)
-]
+len_until-word kind [] rest lacks = search rules
+len_until-word kind (c ∷ cs) rest lacks = search (rules, len_until-word kind cs rest lacks.1)
 
 -- a text with a word and what ends it is longer than the word
 pub word_within : (kind : ℕ) (prefix text word rest : List ℕ) → prefix ++ text ≡ prefix ++ (word ++ kind ∷ rest) → Lacks kind word → len_until kind text < length text
@@ -49,11 +34,7 @@ pub one_word : (kind : ℕ) (a b c d : List ℕ) → Lacks kind a → Lacks kind
 one_word kind [] b [] d h k e = record { word = refl; rest = cc }
 one_word kind [] b (z ∷ c) d h k e = let same : z ≡ kind = cc in absurd (k.0 same)
 one_word kind (x ∷ a) b [] d h k e = let same : x ≡ kind = cc in absurd (h.0 same)
-one_word kind (x ∷ a) b (z ∷ c) d h k e =
-    let more : a ++ (kind ∷ b) ≡ c ++ (kind ∷ d) = cc in
-    let one = one_word kind a b c d h.1 k.1 more in
-    let same : x ≡ z = cc in
-    record { word = ap (λ (v : ℕ). v ∷ a) same ∙ ap (λ (v : List ℕ). z ∷ v) one.word; rest = one.rest }
+one_word kind (x ∷ a) b (z ∷ c) d h k e = search (rules, one_word kind a b c d h.1 k.1 (cc))
 
 -- ---- digits are no space
 
@@ -81,20 +62,14 @@ pub record RegisterParts (r v : ℕ) (name text : List ℕ) : Type 0 where
   pub behind : text ≡ codes "0x" ++ digits
 
 pub register_parts : (line name text : List ℕ) → Lacks 32 name → line ≡ codes "r" ++ (name ++ (32 ∷ text)) → (r v : ℕ) → RegisterLine r v line → RegisterParts r v name text
-register_parts line name text lacks is r v said =
-    let whole : codes "r" ++ (name ++ (32 ∷ text)) ≡ codes "r" ++ (said.0 ++ (32 ∷ (codes "0x" ++ said.1))) = sym is ∙ said.4 in
-    let one = one_word 32 name text said.0 (codes "0x" ++ said.1) lacks (digits_lack_space 10 0 r said.0 said.2.number) (append_cancel_left (codes "r") (name ++ (32 ∷ text)) (said.0 ++ (32 ∷ (codes "0x" ++ said.1))) whole) in
-    record { digits = said.1; is_name = subst (RegisterName r) (sym one.word) said.2; is_value = said.3; behind = one.rest }
+register_parts line name text lacks is r v said = search (rules, one_word, digits_lack_space)
 
 pub record MemoryParts (start : ℕ) (text digits pairs : List ℕ) : Type 0 where
   pub is_start : Hexadecimal start digits
   pub behind : pairs ≡ text
 
 pub memory_parts : (line digits pairs : List ℕ) → Lacks 32 digits → line ≡ codes "mem 0x" ++ (digits ++ (32 ∷ pairs)) → (start : ℕ) (text : List ℕ) → MemoryHead start text line → MemoryParts start text digits pairs
-memory_parts line digits pairs lacks is start text said =
-    let whole : codes "mem 0x" ++ (digits ++ (32 ∷ pairs)) ≡ codes "mem 0x" ++ (said.0 ++ (32 ∷ text)) = sym is ∙ said.2 in
-    let one = one_word 32 digits pairs said.0 text lacks (digits_lack_space 16 0 start said.0 said.1.number) (append_cancel_left (codes "mem 0x") (digits ++ (32 ∷ pairs)) (said.0 ++ (32 ∷ text)) whole) in
-    record { is_start = subst (Hexadecimal start) (sym one.word) said.1; behind = one.rest }
+memory_parts line digits pairs lacks is start text said = search (rules, one_word, digits_lack_space)
 
 -- a line that has none of the forms says nothing
 pub none_said : (line : List ℕ) → (SkippedLine line → ⊥) → ((v : ℕ) → CounterLine v line → ⊥) → ((r v : ℕ) → RegisterLine r v line → ⊥) → ((v : ℕ) (bytes : List ℕ) → MemoryLine v bytes line → ⊥) → (s : Statement) → LineSays line s → ⊥

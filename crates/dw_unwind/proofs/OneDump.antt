@@ -1,4 +1,5 @@
 -- A line says one thing, so lines that say something have no fault.
+use Rattle.std.proofs.Common.{rules}
 use Rattle.dw_unwind.proofs.Words.{◌≡◌, ℕ, suc, ◌+◌, ◌<◌, ◌≤◌, cond, List, [], ◌∷◌, ◌++◌, length, length-append, Some, Ok, Err, refl, sym, ap, subst, ◌∙◌, arith, inl, inr, append_assoc, codes, is_some, Result, IfOk, IfErr, MatchResult}
 use Rattle.dw_unwind.proofs.Words.{AllZip, cases_lt, append_cancel_left, sum_by-append, decode_of, DumpCode, BadLine, ValueTooLarge, Repeated, DumpFault, SaysWithin, Say, FirstFault, IsFaulty, OneDump, NamesLine, number_behind, LineSays}
 use Rattle.dw_unwind.proofs.Words.{SkippedLine, Hexadecimal, RegisterName, HexPairs, Statement, DumpItem, Fits, nothing, counter_is, register_is, memory_is, told, times}
@@ -56,10 +57,7 @@ pub record Parts (limit : ℕ) (before : List (List ℕ)) (line : List ℕ) (ss 
 -- what lines say begins with what the first of them say
 said_parts : (limit : ℕ) (before : List (List ℕ)) (line : List ℕ) (after : List (List ℕ)) (ss known : List Statement) → AllZip (SaysWithin limit) (before ++ line ∷ after) ss → AllZip (SaysWithin limit) before known → Parts limit before line ss known
 said_parts limit [] line after (s ∷ ss) [] h k = record { statement = s; after = ss; whole = refl; holds = h.0 }
-said_parts limit (b ∷ before) line after (s ∷ ss) (t ∷ known) h k =
-    let more = said_parts limit before line after ss known h.1 k.1 in
-    let same : s ≡ t = says_one b s t h.0.0 k.0.0 in
-    record { statement = more.statement; after = more.after; whole = ap (λ (u : Statement). u ∷ ss) same ∙ ap (λ (us : List Statement). t ∷ us) more.whole; holds = more.holds }
+said_parts limit (b ∷ before) line after (s ∷ ss) (t ∷ known) h k = search (rules, says_one, said_parts limit before line after ss known h.1 k.1)
 said_parts limit before line after ss known h k = absurd assumption
 
 not_faulty : (limit : ℕ) (ss known : List Statement) (line : List ℕ) (code : DumpCode) (s : Statement) (after : List Statement) → ss ≡ known ++ s ∷ after → ((item : DumpItem) → times ss item ≤ 1) → SaysWithin limit line s → IsFaulty limit known line code → ⊥
@@ -100,11 +98,7 @@ only_dump limit lines (Err OutOfMemory) found first ss say = refl
 cut_within : {X : Type 0} (xs ys : List X) (x y : X) (more others : List X) → xs ++ x ∷ more ≡ ys ++ y ∷ others → length xs < length ys → (mid : List X) × (ys ≡ xs ++ x ∷ mid)
 cut_within xs [] x y more others same less = absurd (omega arith)
 cut_within [] (z ∷ ys) x y more others same less = let first : x ≡ z = cc in (ys, ap (λ (w : _). w ∷ ys) (sym first))
-cut_within (w ∷ xs) (z ∷ ys) x y more others same less =
-    let first : w ≡ z = cc in
-    let rest : xs ++ x ∷ more ≡ ys ++ y ∷ others = cc in
-    let found = cut_within xs ys x y more others rest (omega arith) in
-    (found.0, ap (λ (v : _). v ∷ ys) (sym first) ∙ ap (λ (vs : List _). w ∷ vs) found.1)
+cut_within (w ∷ xs) (z ∷ ys) x y more others same less = search (rules, cut_within xs ys x y more others (cc) (omega arith))
 
 pub record SameCut {X : Type 0} (xs ys : List X) (x y : X) : Type 0 where
   pub before : xs ≡ ys
@@ -112,11 +106,7 @@ pub record SameCut {X : Type 0} (xs ys : List X) (x y : X) : Type 0 where
 
 cut_equal : {X : Type 0} (xs ys : List X) (x y : X) (more others : List X) → xs ++ x ∷ more ≡ ys ++ y ∷ others → length xs ≡ length ys → SameCut xs ys x y
 cut_equal [] [] x y more others same len = record { before = refl; here = cc }
-cut_equal (w ∷ xs) (z ∷ ys) x y more others same len =
-    let first : w ≡ z = cc in
-    let rest : xs ++ x ∷ more ≡ ys ++ y ∷ others = cc in
-    let found = cut_equal xs ys x y more others rest (omega arith) in
-    record { before = ap (λ (v : _). v ∷ xs) first ∙ ap (λ (vs : List _). z ∷ vs) found.before; here = found.here }
+cut_equal (w ∷ xs) (z ∷ ys) x y more others same len = search (rules, cut_equal xs ys x y more others (cc) (omega arith))
 cut_equal xs ys x y more others same len = absurd (omega arith)
 
 -- a fault before the first one would be among lines that have none
@@ -138,14 +128,7 @@ one_code limit known line Repeated ValueTooLarge v w = absurd (w.2 (subst (Fits 
 one_code limit known line Repeated Repeated v w = refl
 
 same_place : (limit : ℕ) (lines : List (List ℕ)) (f g : DumpFault) (v : FirstFault limit lines f) (w : FirstFault limit lines g) → length v.before ≡ length w.before → f ≡ g
-same_place limit lines f g v w len =
-    let cut = cut_equal v.before w.before v.line w.line v.after w.after (sym v.whole ∙ w.whole) len in
-    let said = said_one limit w.before v.statements w.statements (subst (λ (ls : List (List ℕ)). AllZip (SaysWithin limit) ls v.statements) cut.before v.say.each) w.say.each in
-    let moved : IsFaulty limit v.statements w.line f.code = subst (λ (l : List ℕ). IsFaulty limit v.statements l f.code) cut.here v.faulty in
-    let there : IsFaulty limit w.statements w.line f.code = subst (λ (ss : List Statement). IsFaulty limit ss w.line f.code) said moved in
-    let code : f.code ≡ g.code = one_code limit w.statements w.line f.code g.code there w.faulty in
-    let line : f.line ≡ g.line = v.number ∙ ap (λ (n : ℕ). n + 1) len ∙ sym w.number in
-    ap (λ (k : DumpCode). let r : DumpFault = record { code = k; line = f.line } in r) code ∙ ap (λ (n : ℕ). let r : DumpFault = record { code = g.code; line = n } in r) line
+same_place limit lines f g v w len = search (rules, cut_equal, said_one, one_code)
 
 one_fault : (limit : ℕ) (lines : List (List ℕ)) (f g : DumpFault) → FirstFault limit lines f → FirstFault limit lines g → f ≡ g
 one_fault limit lines f g v w = elim (cases_lt (length v.before) (length w.before)) [

@@ -49,10 +49,7 @@ module _ (Listed : ℕ → Type 0) (P : ℕ → Option ℕ → Type 0) (one : (r
   All low es = (r : ℕ) → low ≤ r → Listed r → (v : Option ℕ) × IsAmong (r, v) es
 
   rest_has : (x : Entry) (es : List Entry) (low : ℕ) → low ≤ x.0 → All low (x ∷ es) → All (suc x.0) es
-  rest_has x es low le all = λ r more listed. let found = all r (omega (arith, le, more)) listed in elim (found.1) [
-    | inl is ↦ let same : r ≡ x.0 = ap (λ (y : Entry). y.0) is in absurd (omega (arith, same, more))
-    | inr i ↦ (found.0, i)
-  ]
+  rest_has x es low le all = grind arith
 
   same_list : (low : ℕ) (es fs : List Entry) → Rise low es → Rise low fs → Each es → Each fs → All low es → All low fs → es ≡ fs
   same_list low [] [] up down each every all others = refl
@@ -93,19 +90,10 @@ module _ (c : Context) (limit : ℕ) (policy : Policy) (row : Rules) (register :
       same_list Listed (λ r a. Is cfa r (Ok a)) (one_ok cfa) 0 es fs (pairs_rise 0 es (λ i d lt. omega arith) v.rise) (pairs_rise 0 fs (λ i d lt. omega arith) w.rise) v.each w.each (λ r le is. v.all r is) (λ r le is. w.all r is)
 
   registers_apart : (cfa : ℕ) (es : List Entry) (e : UnwindError) → AreRegisters c limit policy row register cfa es → RegistersAre c limit policy row register cfa (Err e) → ⊥
-  registers_apart cfa es e v w =
-      let found = v.all w.0 w.1.listed in
-      let is = all_among (λ (entry : Entry). Listed entry.0 × Is cfa entry.0 (Ok entry.1)) es (w.0, found.0) v.each found.1 in
-      ok_apart cfa w.0 found.0 e is.1 w.2
+  registers_apart cfa es e v w = grind (arith, all_among, ok_apart)
 
   registers_error : (cfa : ℕ) (e f : UnwindError) → RegistersAre c limit policy row register cfa (Err e) → RegistersAre c limit policy row register cfa (Err f) → e ≡ f
-  registers_error cfa e f v w = elim (cases_lt v.0 w.0) [
-    | inl less ↦ let found = w.1.earlier v.0 less v.1.listed in absurd (ok_apart cfa v.0 found.0 e found.1 v.2)
-    | inr more ↦ elim (cases_lt w.0 v.0) [
-      | inl less ↦ let found = v.1.earlier w.0 less w.1.listed in absurd (ok_apart cfa w.0 found.0 f found.1 w.2)
-      | inr le ↦ let same : w.0 ≡ v.0 = omega arith in one_error cfa v.0 e f v.2 (subst (λ (n : ℕ). Is cfa n (Err f)) same w.2)
-    ]
-  ]
+  registers_error cfa e f v w = grind (arith, ok_apart, one_error)
 
   abbrev Cfa : Result ℕ UnwindError → Type 0
   Cfa answer = CfaIs c limit row.cfa answer
@@ -122,13 +110,7 @@ module _ (c : Context) (limit : ℕ) (policy : Policy) (row : Rules) (register :
       registers_apart a.cfa a.registers e v.2 (subst (λ (n : ℕ). RegistersAre c limit policy row register n (Err e)) (cfa_same a.cfa w.0 v.0 w.1) w.2)
 
   same_frame : (a b : Frame) → FrameIs c limit policy row register (Ok a) → FrameIs c limit policy row register (Ok b) → a ≡ b
-  same_frame a b v w =
-      let cfas : b.cfa ≡ a.cfa = cfa_same a.cfa b.cfa v.0 w.0 in
-      let returns : a.return_register ≡ b.return_register = v.1 ∙ sym w.1 in
-      let registers = same_registers a.cfa a.registers b.registers v.2 (subst (λ (n : ℕ). AreRegisters c limit policy row register n b.registers) cfas w.2) in
-      ap (λ (n : ℕ). let f : Frame = record { cfa = n; return_register = a.return_register; registers = a.registers } in f) (sym cfas)
-      ∙ ap (λ (n : ℕ). let f : Frame = record { cfa = b.cfa; return_register = n; registers = a.registers } in f) returns
-      ∙ ap (λ (l : List Entry). let f : Frame = record { cfa = b.cfa; return_register = b.return_register; registers = l } in f) registers
+  same_frame a b v w = grind (arith, cfa_same, same_registers)
 
   frame_error : (e f : UnwindError) → FrameIs c limit policy row register (Err e) → FrameIs c limit policy row register (Err f) → e ≡ f
   frame_error e f (inl v) (inl w) = let same = one_cfa c limit row.cfa (Err e) (Err f) v w in cc

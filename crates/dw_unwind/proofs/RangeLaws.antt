@@ -1,4 +1,5 @@
 -- Ranges that rise, that are apart, and that meet.
+use Rattle.std.proofs.Common.{rules}
 use Rattle.std.proofs.lemmas.List.Elements.{recursion_from_All, All-from_recursion}
 use Rattle.dw_unwind.specs.Inner.Ranges.{Rise}
 use Rattle.dw_unwind.proofs.Words.{◌≡◌, ◌⊎◌, ℕ, zero, suc, ◌+◌, ◌-◌, ◌<◌, ◌≤◌, Bool, true, false, cond, List, [], ◌∷◌, length, get_or, Option, Some, None, refl, sym, ap, ◌∙◌, arith, add-one, inl}
@@ -8,13 +9,7 @@ use Rattle.dw_unwind.proofs.{Words.{MatchBool, sum_by-cons, slice_get-get_or, Ra
 -- ---- whether a range covers an address
 
 pub covers_tells : (a : ℕ) (r : Range) → ((covers a r ≡ true) × (r.address ≤ a) × (a < end_of r)) ⊎ ((covers a r ≡ false) × ((a < r.address) ⊎ (end_of r ≤ a)))
-covers_tells a r = elim (leb_tells r.address a) [
-  | inl low ↦ elim (leb_tells (suc a) (end_of r)) [
-    | inl high ↦ inl (rw (low.0, high.0) refl, low.1, omega (arith, high.1))
-    | inr high ↦ inr (rw (low.0, high.0) refl, inr (omega (arith, high.1)))
-  ]
-  | inr low ↦ inr (rw (low.0) refl, inl low.1)
-]
+covers_tells a r = search (rules, end_of)
 
 count_of : (a : ℕ) (r : Range) (rs : List Range) → cover_count a (r ∷ rs) ≡ cond (covers a r) 1 0 + cover_count a rs
 count_of a r rs = sum_by-cons (λ (q : Range). cond (covers a q) 1 0) r rs
@@ -27,10 +22,7 @@ count_no a r rs is = count_of a r rs ∙ rw is (omega arith)
 
 count_behind : (a : ℕ) (rs : List Range) → AllByRecursion (λ q. a < q.address) rs → cover_count a rs ≡ 0
 count_behind a [] h = refl
-count_behind a (r ∷ rs) h = elim (covers_tells a r) [
-  | inl held ↦ absurd (omega (arith, h.0, held.1))
-  | inr off ↦ count_no a r rs off.0 ∙ count_behind a rs h.1
-]
+count_behind a (r ∷ rs) h = search (rules, covers_tells, count_no, count_behind a rs h.1)
 
 -- ---- rising ranges are apart
 
@@ -57,10 +49,7 @@ counts_two a (r ∷ q ∷ rs) (suc k) d lt e f = let rest = counts_two a (q ∷ 
 counts_two a rs k d lt e f = absurd (omega arith)
 
 covered : (a : ℕ) (r : Range) → r.address ≤ a → a < end_of r → covers a r ≡ true
-covered a r low high = elim (covers_tells a r) [
-  | inl held ↦ held.0
-  | inr off ↦ elim off.1 [ inl p ↦ absurd (omega arith) | inr p ↦ absurd (omega arith) ]
-]
+covered a r low high = search (rules, covers_tells)
 
 pub meet_at : (rs : List Range) (k : ℕ) (d : Range) → AllByRecursion (λ (r : Range). 0 < r.len) rs → IsNonDecreasingBy (λ (r : Range). r.address) rs → suc k < length rs → (get_or rs (suc k) d).address < end_of (get_or rs k d) → Meet rs
 meet_at rs k d some up lt below =
@@ -150,10 +139,7 @@ begins_rise (r ∷ rs) h (suc i) zero d le lt = absurd (omega arith)
 begins_rise (r ∷ rs) h (suc i) (suc j) d le lt = begins_rise rs h.1 i j d (omega arith) (omega arith)
 
 uncovered : (a : ℕ) (r : Range) → (a < r.address) ⊎ (end_of r ≤ a) → covers a r ≡ false
-uncovered a r h = elim (covers_tells a r) [
-  | inl held ↦ elim h [ inl p ↦ absurd (omega (arith, held.1)) | inr p ↦ absurd (omega (arith, held.2)) ]
-  | inr off ↦ off.0
-]
+uncovered a r h = search (rules, covers_tells)
 
 pub none_begun : (bytes : List ℕ) (a : ℕ) (rs : List Range) → ((k : ℕ) (d : Range) → k < length rs → a < (get_or rs k d).address) → byte_among bytes a rs ≡ None
 none_begun bytes a [] h = refl

@@ -80,8 +80,7 @@ none_specified t [] r h le = refl
 none_specified t (x ∷ xs) r h le = rw (ne_eqb x.0 r (λ same. omega (arith, same, h.0.0, le))) (none_specified t xs r h.1 le)
 
 none_listed : (registers : List (Option ℕ)) (t : Target) (row : Rules) (return_register : ℕ) → RowFits t row → (r : ℕ) → length registers + (65536 + suc return_register) ≤ r → is_listed (held registers) row return_register r ≡ false
-none_listed registers t row return_register fits r le =
-    rw (none_held registers r (omega (arith, le)), none_specified t row.registers r fits.registers (omega (arith, le)), ne_eqb r return_register (λ same. omega (arith, same, le))) refl
+none_listed registers t row return_register fits r le = grind (arith, none_held, none_specified)
 
 -- ---- the FDE
 
