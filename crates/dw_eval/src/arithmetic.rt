@@ -89,10 +89,7 @@ pub(crate) fn magnitude(t: u64, size: Size) -> u64
 fn bit_count(size: Size) -> u64
     ensures { result ≡ bit_count size }
 {
-    match size {
-        Size::Four => 32,
-        Size::Eight => 64,
-    }
+    8 * u64::from(size.byte_count())
 }
 
 /// A number shifted to the left by any number of bits.

@@ -14,23 +14,11 @@ use crate::stack::{Answer, Flow, Stack, Stop};
 use dw_num::Size;
 
 impl Stack {
-    pub(crate) fn dup(&mut self) -> Answer
-        ensures { Does (on_top self.old (λ t below. Next (t ∷ t ∷ below))) result self.new }
-    {
-        self.pick(0)
-    }
-
     pub(crate) fn drop_top(&mut self) -> Answer
         ensures { Does (on_top self.old (λ t below. Next below)) result self.new }
     {
         self.take()?;
         Ok(Flow::Next)
-    }
-
-    pub(crate) fn over(&mut self) -> Answer
-        ensures { Does (on_two self.old (λ s t below. Next (s ∷ t ∷ s ∷ below))) result self.new }
-    {
-        self.pick(1)
     }
 
     pub(crate) fn pick(&mut self, index: u8) -> Answer
@@ -46,14 +34,19 @@ impl Stack {
         ensures { Does (on_two self.old (λ s t below. Next (s ∷ t ∷ below))) result self.new }
     {
         let (s, t) = self.take_two()?;
-        self.put_two(t, s)
+        self.put(t)?;
+        self.put(s)
     }
 
     pub(crate) fn rot(&mut self) -> Answer
         ensures { Does (on_three self.old (λ third s t below. Next (s ∷ third ∷ t ∷ below))) result self.new }
     {
-        let (third, s, t) = self.take_three()?;
-        self.put_three(t, third, s)
+        let t = self.take()?;
+        let s = self.take()?;
+        let third = self.take()?;
+        self.put(t)?;
+        self.put(third)?;
+        self.put(s)
     }
 
     pub(crate) fn abs(&mut self, size: Size) -> Answer

@@ -1,7 +1,7 @@
 //! The stack of values (2.5.1).
 
 ghost use Rattle.std.specs.Prelude.{◌≡◌, ℕ, List, [], ◌∷◌, length, slice_get, MatchOption, IfOk, IfErr};
-ghost use Rattle.dw_eval.specs.{Effect.{OpEffect, Next, Faults, on_top, on_two, on_three}, declared.error.Kind.TheVariants.StackUnderflow, Inner.Steps.Does};
+ghost use Rattle.dw_eval.specs.{Effect.{OpEffect, Next, Faults, on_two}, declared.error.Kind.TheVariants.StackUnderflow, Inner.Steps.Does};
 
 use crate::error::Kind;
 use std::alloc::Global;
@@ -97,7 +97,7 @@ impl Stack {
     /// Takes the top, of which there has to be one.
     pub(crate) fn take(&mut self) -> Result<u64, Stop>
         ensures found { IfOk result (λ t. self.old ≡ t ∷ self.new) }
-        ensures short { IfErr result (λ e. (e ≡ Stop.Fault StackUnderflow) × ((f : ℕ → List ℕ → OpEffect) → on_top self.old f ≡ Faults StackUnderflow)) }
+        ensures short { IfErr result (λ e. (e ≡ Stop.Fault StackUnderflow) × (self.old ≡ [])) }
     {
         match self.pop() {
             Some(top) => Ok(top),
@@ -117,38 +117,5 @@ impl Stack {
             return Err(Stop::Fault(Kind::StackUnderflow));
         };
         Ok((second, top))
-    }
-
-    /// Takes the third, the second and the top, in this order, of which there have to be three.
-    pub(crate) fn take_three(&mut self) -> Result<(u64, u64, u64), Stop>
-        ensures found { IfOk result (λ p. self.old ≡ p.2 ∷ p.1 ∷ p.0 ∷ self.new) }
-        ensures short { IfErr result (λ e. (e ≡ Stop.Fault StackUnderflow) × ((f : ℕ → ℕ → ℕ → List ℕ → OpEffect) → on_three self.old f ≡ Faults StackUnderflow)) }
-    {
-        let Some(top) = self.pop() else {
-            return Err(Stop::Fault(Kind::StackUnderflow));
-        };
-        let Some(second) = self.pop() else {
-            return Err(Stop::Fault(Kind::StackUnderflow));
-        };
-        let Some(third) = self.pop() else {
-            return Err(Stop::Fault(Kind::StackUnderflow));
-        };
-        Ok((third, second, top))
-    }
-
-    /// Puts two values on the stack, the second one on the top.
-    pub(crate) fn put_two(&mut self, first: u64, second: u64) -> Answer
-        ensures { Does (Next (second ∷ first ∷ self.old)) result self.new }
-    {
-        self.put(first)?;
-        self.put(second)
-    }
-
-    /// Puts three values on the stack, the third one on the top.
-    pub(crate) fn put_three(&mut self, first: u64, second: u64, third: u64) -> Answer
-        ensures { Does (Next (third ∷ second ∷ first ∷ self.old)) result self.new }
-    {
-        self.put_two(first, second)?;
-        self.put(third)
     }
 }
