@@ -1,6 +1,6 @@
 -- What the values of columns are over a memory.
 use Rattle.std.proofs.Common.{rules}
-use Rattle.dw_unwind.proofs.Words.{◌≡◌, ◌⊎◌, ℕ, ◌<◌, ◌≤◌, List, Result, Ok, Err, refl, subst, arith, inl, inr, cases_lt, Expression, EvalError, Context, Evaluates, MayFailAt, Column, UnwindError, Eval, Device, OutOfMemory, in_column}
+use Rattle.dw_unwind.proofs.Words.{◌≡◌, ◌⊎◌, ℕ, ◌<◌, ◌≤◌, List, Result, Ok, Err, refl, arith, inl, inr, Expression, EvalError, Context, Evaluates, MayFailAt, Column, UnwindError, Eval, Device, OutOfMemory, in_column}
 use Rattle.dw_unwind.proofs.Words.{ValueIs, ValueFails, Over}
 use Rattle.dw_eval.specs.declared.error.EvalError.TheVariants as eval
 use Rattle.dw_eval.specs.declared.error.Kind.TheVariants as kinds

@@ -32,10 +32,7 @@ some_either (Some v) y e = inl refl
 
 pub times_none : (ss : List Statement) (item : DumpItem) → given ss item ≡ None → times ss item ≡ 0
 times_none [] item e = refl
-times_none (s ∷ ss) item e =
-    let both = none_both (told s item) (given ss item) e in
-    let rest = times_none ss item both.1 in
-    times_cons s ss item ∙ rw (both.0) (omega arith)
+times_none (s ∷ ss) item e = search (rules, none_both (told s item) (given ss item) e, times_none ss item (none_both (told s item) (given ss item) e).1, times_cons)
 
 pub times_some : (ss : List Statement) (item : DumpItem) → is_some (given ss item) ≡ true → 0 < times ss item
 times_some [] item e = absurd cc
@@ -75,11 +72,7 @@ ranges_push line place [] s = rw (add-zero, add-zero) refl
 ranges_push line place (nothing ∷ ss) s = ranges_push (suc line) place ss s ∙ at_places (suc line) place _ _ _ _ ss s (omega arith) refl
 ranges_push line place (counter_is v ∷ ss) s = ranges_push (suc line) place ss s ∙ at_places (suc line) place _ _ _ _ ss s (omega arith) refl
 ranges_push line place (register_is r v ∷ ss) s = ranges_push (suc line) place ss s ∙ at_places (suc line) place _ _ _ _ ss s (omega arith) refl
-ranges_push line place (memory_is start bytes ∷ ss) s =
-    let both = length-append bytes (bytes_of ss) in
-    let r : Range = record { address = start; place = place; len = length bytes; line = line } in
-    ap (λ (rs : List Range). r ∷ rs) (ranges_push (suc line) (place + length bytes) ss s
-    ∙ at_places (suc line) (place + length bytes) (suc line + length ss) (line + suc (length ss)) (place + length bytes + length (bytes_of ss)) (place + length (bytes ++ bytes_of ss)) ss s (omega arith) (omega arith))
+ranges_push line place (memory_is start bytes ∷ ss) s = search (rules, length-append bytes (bytes_of ss), at_places, ranges_push (suc line) (place + length bytes) ss s)
 
 -- one more statement
 pub keeps_more : {limit : ℕ} {old : Gathered} {ss : List Statement} (new : Gathered) (s : Statement) → Keeps limit old ss

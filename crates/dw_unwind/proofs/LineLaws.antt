@@ -1,5 +1,4 @@
 -- Lines, one after the other.
-use Rattle.std.proofs.Common.{rules}
 use Rattle.dw_unwind.specs.Inner.Gathered.{SoFar}
 use Rattle.dw_unwind.proofs.Words.{◌≡◌, ℕ, zero, suc, ◌+◌, ◌<◌, ◌≤◌, Bool, true, false, List, [], ◌∷◌, ◌++◌, length, take, drop, refl, sym, ap, ◌∙◌, arith, add-one, inl, inr}
 use Rattle.dw_unwind.proofs.{Words.{append_assoc, length-append, length-drop, ◌==◌, eqb_tells, Gathered, SaysWithin, Keeps, lines_of, in_front, len_until, Statement}, Elements.zip_push}

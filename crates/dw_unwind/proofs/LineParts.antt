@@ -1,6 +1,6 @@
 -- Words and prefixes of a line.
 use Rattle.std.proofs.Common.{rules}
-use Rattle.dw_unwind.proofs.Words.{◌≡◌, ℕ, ◌+◌, ◌*◌, ◌<◌, ◌≤◌, List, [], ◌∷◌, ◌++◌, length, take, drop, Option, Some, None, refl, sym, ap, subst, ◌∙◌, arith, add-one, inl, inr, length-append, option_and_then, codes, append_cancel_left}
+use Rattle.dw_unwind.proofs.Words.{◌≡◌, ℕ, ◌+◌, ◌*◌, ◌<◌, List, [], ◌∷◌, ◌++◌, length, take, drop, Option, Some, None, refl, ap, subst, arith, add-one, inl, inr, length-append, option_and_then, codes, append_cancel_left}
 use Rattle.dw_unwind.proofs.Words.{eqb_tells, Statement, nothing, counter_is, register_is, memory_is, digit, number_behind, Hexadecimal, RegisterName, SkippedLine, CounterLine, RegisterLine, MemoryLine, LineSays, MemoryHead, Lacks}
 use Rattle.dw_unwind.proofs.Words.{len_until}
 

@@ -33,18 +33,12 @@ says_one line (counter_is v) (register_is q w) h k = absurd (let same = begins_o
 says_one line (counter_is v) (memory_is start bytes) h k = absurd (let same = begins_one 112 109 line _ _ h.2 k.4 in omega arith)
 says_one line (register_is r v) nothing h k = absurd (let same = skipped_begins 114 line _ k h.4 in omega arith)
 says_one line (register_is r v) (counter_is w) h k = absurd (let same = begins_one 114 112 line _ _ h.4 k.2 in omega arith)
-says_one line (register_is r v) (register_is q w) h k =
-    let parts = register_parts line h.0 (codes "0x" ++ h.1) (digits_lack_space 10 0 r h.0 h.2.number) h.4 q w k in
-    ap (λ (n : ℕ). register_is n v) (one_name r q h.0 h.2 parts.is_name)
-    ∙ ap (register_is q) (one_number v w h.1 parts.digits h.3 parts.is_value (append_cancel_left (codes "0x") h.1 parts.digits parts.behind))
+says_one line (register_is r v) (register_is q w) h k = search (rules, register_parts line h.0 (codes "0x" ++ h.1) (digits_lack_space 10 0 r h.0 h.2.number) h.4 q w k, one_name, one_number)
 says_one line (register_is r v) (memory_is start bytes) h k = absurd (let same = begins_one 114 109 line _ _ h.4 k.4 in omega arith)
 says_one line (memory_is start bytes) nothing h k = absurd (let same = skipped_begins 109 line _ k h.4 in omega arith)
 says_one line (memory_is start bytes) (counter_is w) h k = absurd (let same = begins_one 109 112 line _ _ h.4 k.2 in omega arith)
 says_one line (memory_is start bytes) (register_is q w) h k = absurd (let same = begins_one 109 114 line _ _ h.4 k.4 in omega arith)
-says_one line (memory_is start bytes) (memory_is other more) h k =
-    let parts = memory_parts line h.0 h.1 (digits_lack_space 16 0 start h.0 h.2.number) h.4 other k.1 (k.0, k.2, k.4) in
-    ap (λ (n : ℕ). memory_is n bytes) (one_number start other h.0 h.0 h.2 parts.is_start refl)
-    ∙ ap (memory_is other) (one_pairs bytes more h.1 k.1 h.3 k.3 parts.behind)
+says_one line (memory_is start bytes) (memory_is other more) h k = search (rules, memory_parts line h.0 h.1 (digits_lack_space 16 0 start h.0 h.2.number) h.4 other k.1 (k.0, k.2, k.4), one_number, one_pairs)
 
 -- ---- lines that say something have no fault
 
@@ -150,10 +144,7 @@ one_dump = record {
 -- ---- its line is one of the lines
 
 fault_within : (limit : ℕ) (lines : List (List ℕ)) (fault : DumpFault) → FirstFault limit lines fault → (1 ≤ fault.line) × (fault.line ≤ length lines)
-fault_within limit lines fault first =
-    let number = first.number in
-    let len : length lines ≡ length first.before + suc (length first.after) = ap length first.whole ∙ length-append first.before (first.line ∷ first.after) in
-    (omega (arith, number), omega (arith, number, len))
+fault_within limit lines fault first = search (rules, first.number, ap length first.whole ∙ length-append first.before (first.line ∷ first.after))
 
 pub refuses_within : (limit : ℕ) (lines : List (List ℕ)) (result : Result Dump DumpError) → IfErr result (RefusesDump limit lines) → IfErr result (NamesLine lines)
 refuses_within limit lines (Err (Fault fault)) h = fault_within limit lines fault h

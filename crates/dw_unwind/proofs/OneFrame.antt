@@ -3,7 +3,7 @@ use Rattle.dw_eval.proofs.Lent.Results.{same_value}
 use Rattle.dw_cfa.specs.declared.rule.CfaRule.TheVariants as cfa
 use Rattle.dw_cfa.specs.declared.rule.RegRule.TheVariants as rules
 use Rattle.dw_section.specs.{Accepted.Accepted, Headers.Head, Overlap.{Range, AreApart, IsIndex, end_of}}
-use Rattle.dw_unwind.proofs.Words.{◌≡◌, ℕ, suc, ◌≤◌, List, [], ◌∷◌, Option, Result, Ok, Err, refl, sym, ap, subst, ◌∙◌, arith, inl, inr, AllByRecursion, AllZip, cases_lt, Target, Expression, CfaRule, RegRule}
+use Rattle.dw_unwind.proofs.Words.{◌≡◌, ℕ, suc, ◌≤◌, List, [], ◌∷◌, Option, Result, Ok, Err, refl, sym, ap, subst, ◌∙◌, arith, inl, inr, AllByRecursion, AllZip, Target, Expression, CfaRule, RegRule}
 use Rattle.dw_unwind.proofs.Words.{Rules, rule, Context, Fde, OneFdes, OneHeaders, OneRules, IsAmong, Lists, Covers, NoneCovers, Column, Frame, Policy, UnwindError, in_column, recovered, on_value, saved_at, on_cfa}
 use Rattle.dw_unwind.proofs.{Words.{ValueIs, SavedBy, CfaIs, RegisterIs, IsCovered, IsUncovered, IsListed, Recovers, AreRegisters, RegistersAre, FrameIs, OneFrame, Rise}, Elements.all_among, FrameLaws.pairs_rise}
 
@@ -142,12 +142,8 @@ module _ (hs : List Head) where
   one_fde a [] (d ∷ fs) f g apart z i j cf cg = absurd z
   one_fde a (x ∷ index) [] f g apart z i j cf cg = absurd i
   one_fde a (x ∷ index) (d ∷ fs) f g apart z (inl is) (inl same) cf cg = is ∙ sym same
-  one_fde a (x ∷ index) (d ∷ fs) f g apart z (inl is) (inr j) cf cg =
-      let le = later x index fs g apart.0 z.1 j in
-      let here = subst (Covers a) is cf in absurd (omega (arith, le, here.1, cg.0, z.0.end))
-  one_fde a (x ∷ index) (d ∷ fs) f g apart z (inr i) (inl same) cf cg =
-      let le = later x index fs f apart.0 z.1 i in
-      let here = subst (Covers a) same cg in absurd (omega (arith, le, here.1, cf.0, z.0.end))
+  one_fde a (x ∷ index) (d ∷ fs) f g apart z (inl is) (inr j) cf cg = grind (arith, later x index fs g apart.0 z.1 j)
+  one_fde a (x ∷ index) (d ∷ fs) f g apart z (inr i) (inl same) cf cg = grind (arith, later x index fs f apart.0 z.1 i)
   one_fde a (x ∷ index) (d ∷ fs) f g apart z (inr i) (inr j) cf cg = one_fde a index fs f g apart.1 z.1 i j cf cg
 
 none_there : (a : ℕ) (fs : List Fde) (f : Fde) → NoneCovers a fs → IsAmong f fs → Covers a f → ⊥
@@ -162,8 +158,7 @@ OneOrder = (hs : List Head) (index other : List Range) → IsIndex hs index → 
 -- by the laws of sections
 module _ (one_headers : OneHeaders) (one_order : OneOrder) (one_fdes : OneFdes) (one_rules : OneRules) where
   apart : (target : Target) (s : List ℕ) (a register : ℕ) (row : Rules) → IsUncovered target s a → IsCovered target s a register row → ⊥
-  apart target s a register row v w =
-      let same = one_fdes target s v.0 w.fdes v.1 w.are in none_there a w.fdes w.fde (subst (NoneCovers a) same v.2) w.among w.covers
+  apart target s a register row v w = grind (arith, one_fdes target s v.0 w.fdes v.1 w.are, none_there)
 
   one_returns : (target : Target) (s : List ℕ) (a register other : ℕ) (row another : Rules) → Accepted target s → IsCovered target s a register row → IsCovered target s a other another → register ≡ other
   one_returns target s a register other row another accepted v w =

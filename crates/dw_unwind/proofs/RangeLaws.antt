@@ -3,7 +3,7 @@ use Rattle.std.proofs.Common.{rules}
 use Rattle.std.proofs.lemmas.List.Elements.{recursion_from_All, All-from_recursion}
 use Rattle.dw_unwind.specs.Inner.Ranges.{Rise}
 use Rattle.dw_unwind.proofs.Words.{◌≡◌, ◌⊎◌, ℕ, zero, suc, ◌+◌, ◌-◌, ◌<◌, ◌≤◌, Bool, true, false, cond, List, [], ◌∷◌, length, get_or, Option, Some, None, refl, sym, ap, ◌∙◌, arith, add-one, inl}
-use Rattle.dw_unwind.proofs.Words.{inr, AllByRecursion, sum_by, IsPermutation, IsNonDecreasingBy, cases_lt, leb_tells, sum_by-IsPermutation, IsPermutation-sym, All-permutation, get_or_default}
+use Rattle.dw_unwind.proofs.Words.{inr, AllByRecursion, sum_by, IsPermutation, IsNonDecreasingBy, cases_lt, sum_by-IsPermutation, IsPermutation-sym, All-permutation, get_or_default}
 use Rattle.dw_unwind.proofs.{Words.{MatchBool, sum_by-cons, slice_get-get_or, Range, end_of, covers, byte_of, byte_among, cover_count, AreApart, Meet, IsSoundRange}, Elements.all_more}
 
 -- ---- whether a range covers an address
@@ -123,11 +123,7 @@ sorted_tells xs (y ∷ ys) false some p up h = meet_permuted xs (y ∷ ys) p (me
 
 -- what is read at places of a list, whatever stands past its end
 pub neighbours_at : (rs : List Range) (i : ℕ) (d e : Range) → 1 ≤ i → i < length rs → (get_or rs i e).address < end_of (get_or rs (i - 1) e) → (get_or rs (i - 1 + 1) d).address < end_of (get_or rs (i - 1) d)
-neighbours_at rs i d e low lt below =
-    let same : i - 1 + 1 ≡ i = omega arith in
-    let here = get_or_default rs i d e lt in
-    let before = get_or_default rs (i - 1) d e (omega arith) in
-    rw (same, here, before) below
+neighbours_at rs i d e low lt below = search (rules, get_or_default rs i d e lt, get_or_default rs (i - 1) d e (omega arith))
 
 -- ---- the byte at an address, by the last range that begins at or below it
 
