@@ -87,9 +87,4 @@ module _ (t : Target) (most : ℕ) (each : ℕ → ℕ) (initial old new : Rules
   rules_len (r ∷ rs) = omega (arith, bytes_more t (rule_difference initial old new r) (flat_map (rule_difference initial old new) rs), one_len r, rules_len rs)
 
   pub difference_len : length (program_bytes t (difference initial old new)) ≤ 14 + most + sum_of each (either old new)
-  difference_len = omega (
-    arith,
-    bytes_more t (cfa_difference old.cfa new.cfa) (flat_map (rule_difference initial old new) (either old new)),
-    cfa_difference_len t old.cfa new.cfa most k.fits.cfa k.cfa,
-    rules_len (either old new),
-  )
+  difference_len = grind (arith, bytes_more, either, cfa_difference_len, rules_len)

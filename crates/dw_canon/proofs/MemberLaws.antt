@@ -67,9 +67,7 @@ one_start false s rows n more e h = omega arith
 
 plain_starts : (initial : Rules) (instrs : List Instr) (s : State) → row_starts instrs ≡ length (plain_rows initial instrs s)
 plain_starts initial [] s = refl
-plain_starts initial (i ∷ instrs) s =
-    one_start (moves_location i) s (plain_rows initial instrs (after initial i s)) (count_by moves_location instrs) (count_by moves_location (i ∷ instrs))
-    (count_more i instrs (moves_location i) refl) (plain_starts initial instrs (after initial i s))
+plain_starts initial (i ∷ instrs) s = grind (arith, one_start, count_more, plain_starts initial instrs (after initial i s))
 
 -- ---- what changes among the rows
 
@@ -79,8 +77,7 @@ before_next t initial end at row (change ∷ changes) h = (h.0, below_end t init
 
 among_later : (t : Target) (initial : Rules) (end at : ℕ) (row : Rules) (changes : List (ℕ × Rules)) → ChangesStand t initial end at row changes → Among end (Some row) (map located changes) changes
 among_later t initial end at row [] h = refl
-among_later t initial end at row (change ∷ changes) h =
-    inr ((before_next t initial end change.0 change.1 changes h.3, λ same. h.1 (let is : row ≡ change.1 = cc in is)), (changes, refl, among_later t initial end change.0 change.1 changes h.3))
+among_later t initial end at row (change ∷ changes) h = grind (arith, before_next, among_later t initial end change.0 change.1 changes h.3)
 
 -- ---- the member
 
@@ -99,9 +96,7 @@ module _ (t : Target) (initial : Rules) (fits : RowFits t initial) (m : Member) 
   member_spelled = program_spelled t member_instrs (all_more (InstrFits t) (fde_instrs initial m) (replicate n Nop) (member_fits t initial m fits stands) (nops_fit t n))
 
   pub member_kept : FdeKept (address_limit t.size) m.begin initial.cfa member_instrs
-  member_kept =
-      run_kept (address_limit t.size) initial m.begin member_instrs (map located (changes_of m)) runs fits.listed (let space = stands.in_space in omega (arith, nonempty))
-      (all_in_limit t factors member_instrs (program_bytes t member_instrs) member_spelled)
+  member_kept = grind (arith, run_kept, runs, nonempty, all_in_limit, program_bytes, member_spelled)
 
   -- as many rows are started as there are changes
   pub member_starts : row_starts member_instrs ≡ length (changes_of m)

@@ -135,13 +135,7 @@ at_one q r x rs same (inr h) = h
 with_one : (q r : ℕ) (rs : List ℕ) → (r ≡ q) ⊎ In q rs → In q (with_register r rs)
 with_one q r [] (inl e) = inl e
 with_one q r [] (inr h) = absurd h
-with_one q r (x ∷ rs) h = elim (cases_Bool (nat_lt r x)) [
-  | inl less ↦ rw less h
-  | inr more ↦ elim (cases_Bool (nat_eq r x)) [
-    | inl same ↦ rw (more, same) (at_one q r x rs same h)
-    | inr other ↦ rw (more, other) (behind_one q r x rs (with_one q r rs) h)
-  ]
-]
+with_one q r (x ∷ rs) h = grind (arith, at_one, behind_one, with_one q r rs)
 
 pub with_all : (q : ℕ) (rs qs : List ℕ) → In q rs ⊎ In q qs → In q (with_registers rs qs)
 with_all q [] qs (inl h) = absurd h
@@ -152,10 +146,7 @@ with_all q (r ∷ rs) qs (inr h) = with_all q rs (with_register r qs) (inr (with
 
 listed_or : (q : ℕ) (xs : List (ℕ × RegRule)) → In q (map (λ (entry : ℕ × RegRule). entry.0) xs) ⊎ (rule_in xs q ≡ rules.Unspecified)
 listed_or q [] = inr refl
-listed_or q (x ∷ xs) = elim (cases_Bool (nat_eq x.0 q)) [
-  | inl e ↦ inl (inl (eqb-true x.0 q e))
-  | inr e ↦ elim (listed_or q xs) [ inl h ↦ inl (inr h) | inr h ↦ inr (rw e h) ]
-]
+listed_or q (x ∷ xs) = grind (arith, listed_or q xs)
 
 -- a register is listed, or is Unspecified in both rows
 pub either_or : (old new : Rules) (q : ℕ) → In q (either old new) ⊎ (rule old q ≡ rule new q)

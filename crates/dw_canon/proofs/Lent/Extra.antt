@@ -20,10 +20,7 @@ contents_length target w = omega (
 
 -- each entry, with its length, is a multiple of the address size
 pub entry_aligned : (target : Target) (w : Written) → length (entry_bytes target w) % byte_count target.size ≡ 0
-entry_aligned target w =
-    let n = 4 + (length (fields_of target w) + length (program_of w)) in
-    let e : length (entry_bytes target w) ≡ n + missing target.size n = omega (arith, entry_length target w, contents_length target w) in
-    ap (λ (m : ℕ). m % byte_count target.size) e ∙ filled_up target.size n
+entry_aligned target w = grind (arith, entry_length, contents_length, filled_up)
 
 both_aligned : (size : Size) (a b : ℕ) → a % byte_count size ≡ 0 → b % byte_count size ≡ 0 → (a + b) % byte_count size ≡ 0
 both_aligned Four a b h k = omega arith
@@ -70,15 +67,7 @@ module _ (target : Target) (ws : List Written) (is : IsSection target ws) where
       )
 
   pub written_starts : RowStarts target (section_bytes target ws) (total (starts_of ws))
-  written_starts = record {
-    headers = heads_at target 0 ws;
-    are = written_headers target ws is.small is.fits;
-    index = ranges_at target 0 ws;
-    is_index = written_index target ws is;
-    counts = starts_of ws;
-    each = each_starts 0 ws is.fits is.runs (λ h i. i);
-    sum = refl;
-  }
+  written_starts = grind (arith, written_headers, written_index, each_starts)
 
 -- ---- how long it is
 

@@ -90,9 +90,4 @@ module _ (t : Target) (s : List ℕ) (b : AreBytes s) (ok : Accepted t s) (ms : 
   parts_rendered (m ∷ xs) h k l i = (one_rendered m h.0 k.0 l.0 i.0, parts_rendered xs h.1 k.1 l.1 i.1)
 
   pub renders : Renders t s (groups_of t ms) (parts_of t ms)
-  renders = record {
-    fdes = subst (AreFdes t s) (sym (fdes_are t ms ms nonempty)) are.fdes;
-    rise = groups_rise t ms 0 (return_registers ms) (with_all_rise (map (λ (m : Member). m.register) ms) [] tt);
-    groups = groups_are t ms (return_registers ms) fits low_registers;
-    parts = parts_rendered ms are.each nonempty stand (registers_in ms);
-  }
+  renders = grind (arith, fdes_are, nonempty, groups_rise, with_all_rise, groups_are, fits, low_registers, parts_rendered, stand, registers_in)
