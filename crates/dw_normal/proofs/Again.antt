@@ -1,35 +1,12 @@
 -- An FDE that begins with a row of a CIE leaves the rows of the groups as they are, where another one with this row came before.
+use Rattle.std.proofs.lemmas.Bool.Decides.{nat_tests}
 use Rattle.dw_section.specs.declared.opening.CieRow.{CieRow}
 use Rattle.dw_section.proofs.Lent.OpeningLaws.{Opened, Specifies, one_first, opened}
 use Rattle.dw_canon.proofs.Lent.{Joins.{PartOf, first_part, joined_again, next_part}, Shared.MemberFits}
 use Rattle.dw_normal.specs.declared.groups.Joined.{Joined}
 use Rattle.dw_normal.proofs.Words.{Equal, eq-eqb, ◌≡◌, ℕ, zero, suc, ◌<◌, true, false, List, [], ◌∷◌, length, take, get_or, Option, Some, None, refl, sym, ap, ◌∙◌, subst, inl, inr, arith, nat_eq, nat_lt}
 use Rattle.dw_normal.proofs.Words.{IfSome, insert_entry, AllByRecursion, nat_cmp, le-ltb, Target, AreBytes, agreed, Rules, Accepted, OpensBehind, RowFits, all_get, initial_of, group, kept_by, Member}
-use Rattle.dw_normal.proofs.{Words.{AreMembers, IsMember, fde_of, group_fits, fits, nonempty, HasJoined, begun_with, initial_rows, joined_by, row_of, with_member}, Grouped.{look_members, some_of, told}}
-
--- ---- a row that is written twice
-
-self_is : (k : ℕ) → nat_cmp k k ≡ Equal
-self_is k = let lt : nat_lt k k ≡ false = le-ltb k k (omega arith) in let eq : nat_eq k k ≡ true = eq-eqb k k refl in rw (lt, eq) refl
-
-pub there_is : (k e : ℕ) → k ≡ e → nat_cmp k e ≡ Equal
-there_is k e same = subst (λ (n : ℕ). nat_cmp k n ≡ Equal) same (self_is k)
-
-pub found_written : (k : ℕ) (v : Rules) (es : List (ℕ × Rules)) → row_of (insert_entry nat_cmp es k v) k ≡ Some v
-found_written k v [] = let here = self_is k in rw here refl
-found_written k v (e ∷ es) = elim (told k e.0) [
-  | inl low ↦ let less = low.less in let here = self_is k in rw (less, here) refl
-  | inr (inl same) ↦ let here = self_is k in let there = there_is k e.0 same in rw (there, there) refl
-  | inr (inr high) ↦ let greater = high.greater in rw (greater, greater) (found_written k v es)
-]
-
-pub written_twice : (k : ℕ) (v : Rules) (es : List (ℕ × Rules)) → insert_entry nat_cmp (insert_entry nat_cmp es k v) k v ≡ insert_entry nat_cmp es k v
-written_twice k v [] = let here = self_is k in rw here refl
-written_twice k v (e ∷ es) = elim (told k e.0) [
-  | inl low ↦ let less = low.less in let here = self_is k in rw (less, here) refl
-  | inr (inl same) ↦ let here = self_is k in let there = there_is k e.0 same in rw (there, there) refl
-  | inr (inr high) ↦ let greater = high.greater in rw (greater, greater) (ap (λ (l : List (ℕ × Rules)). e ∷ l) (written_twice k v es))
-]
+use Rattle.dw_normal.proofs.{Words.{AreMembers, IsMember, fde_of, group_fits, fits, nonempty, HasJoined, begun_with, initial_rows, joined_by, row_of, with_member}, Grouped.{found_in, look_members, some_of, written_twice}}
 
 -- ---- what the row of a group is part of
 
@@ -38,17 +15,16 @@ part_then t None m h k = first_part t m.first m.later k.0
 part_then t (Some s) m h k = next_part t s m h k
 
 all_taken : {X : Type 0} (P : X → Type 0) (n : ℕ) (xs : List X) → AllByRecursion P xs → AllByRecursion P (take n xs)
-all_taken P zero [] h = tt
-all_taken P zero (x ∷ xs) h = tt
+all_taken P zero xs h = tt
 all_taken P (suc n) [] h = tt
 all_taken P (suc n) (x ∷ xs) h = (h.0, all_taken P n xs h.1)
 
-some_fits : (t : Target) (row : Rules) (ms : List Member) → RowFits t row → IfSome (some_of row ms) (RowFits t)
-some_fits t row [] h = tt
-some_fits t row (m ∷ ms) h = h
-
 row_fits : (t : Target) (xs : List Member) (q : ℕ) → AllByRecursion (MemberFits t) xs → IfSome (row_of (initial_rows xs) q) (RowFits t)
-row_fits t xs q h = subst (λ (o : Option Rules). IfSome o (RowFits t)) (sym (look_members (initial_of xs) q xs)) (some_fits t (initial_of xs q) (group q xs) (group_fits t xs q h))
+row_fits t xs q h = rw (look_members (initial_of xs) q xs) (some_fits (group q xs))
+  where
+    some_fits : (ms : List Member) → IfSome (some_of (initial_of xs q) ms) (RowFits t)
+    some_fits [] = tt
+    some_fits (m ∷ ms) = group_fits t xs q h
 
 -- ---- another FDE that begins with a row of a CIE
 
@@ -58,12 +34,9 @@ again_same : (t : Target) (rows : List (ℕ × Rules)) (n m : Member) → IfSome
 again_same t rows n m h k register first specify =
     let q = n.register in
     let v = kept_by (begun_with (row_of rows q) n.first) n.later in
-    let made = insert_entry nat_cmp rows q v in
     let all = subst (λ (x : Rules). AllByRecursion (λ (change : ℕ × Rules). Specifies change.1 x) m.later) first specify in
     let stays : kept_by (agreed v n.first) m.later ≡ v = joined_again t v n.first (part_then t (row_of rows q) n h k) k.0 m.later all in
-    let there : kept_by (begun_with (row_of made q) m.first) m.later ≡ v =
-    ap (λ (o : Option Rules). kept_by (begun_with o m.first) m.later) (found_written q v rows) ∙ ap (λ (x : Rules). kept_by (agreed v x) m.later) first ∙ stays in
-    ap (λ (r : ℕ). insert_entry nat_cmp made r (kept_by (begun_with (row_of made r) m.first) m.later)) register ∙ ap (insert_entry nat_cmp made q) there ∙ written_twice q v rows
+    grind (arith, nat_tests, found_in q q v rows, written_twice q v rows, stays, register, first)
 
 module _ (t : Target) (s : List ℕ) (b : AreBytes s) (ok : Accepted t s) (ms : List Member) (are : AreMembers t s ms) where
   pub opened_member : (d : Member) (k : ℕ) (row : CieRow) → k < length ms → (o : OpensBehind t s (fde_of (get_or ms k d)) row) → Opened o.initial row.cfa_offset ((get_or ms k d).begin, (get_or ms k d).first) (get_or ms k d).later

@@ -1,112 +1,39 @@
 -- The initial rows of the groups, one FDE after another, are those of all of them.
 use Rattle.std.specs.List.Sorted.{IsStrictlySortedBy}
-use Rattle.std.proofs.lemmas.Map.Keys.{sorted_head, sorted_tail}
-use Rattle.dw_normal.proofs.Words.{Less, Equal, Greater, eq-eqb, ◌≡◌, ◌⊎◌, ◌+◌, ℕ, suc, length, take, get_or, ◌<◌, ◌≤◌, Bool, true, false, List, [], ◌∷◌, ◌++◌, map, Option, Some, None, refl, sym, ap, ◌∙◌, subst, inl}
-use Rattle.dw_normal.proofs.Words.{inr, arith, nat_eq, nat_lt, insert_entry, is_at, AllByRecursion, keys_of, lookup, set_value, nat_cmp, le-ltb, ne_eqb, cases_Bool, append-nil, take_more, Rules, blank}
-use Rattle.dw_normal.proofs.{Words.{return_registers, initial_of, with_register, with_registers, group, initial_row, kept_by, Member, initial_rows, begun_with, row_of, with_member}, Passes.{group_more, next_member}}
+use Rattle.std.proofs.lemmas.{Bool.Decides.nat_tests, List.Sums.fold-append, List.map-append, Map.Keys.{sorted_head, sorted_tail}}
+use Rattle.dw_normal.proofs.Words.{Less, ◌≡◌, ◌+◌, ℕ, suc, length, take, get_or, ◌<◌, ◌≤◌, List, [], ◌∷◌, ◌++◌, map, cond, Option, Some, None, refl, sym, ap, ◌∙◌, if◌then◌else◌}
+use Rattle.dw_normal.proofs.Words.{arith, nat_eq, insert_entry, is_at, AllByRecursion, keys_of, set_value, nat_cmp, take_more, rules, Rules, blank}
+use Rattle.dw_normal.proofs.{Words.{return_registers, initial_of, with_register, with_registers, group, initial_row, kept_by, Member, initial_rows, begun_with, row_of, with_member}, Passes.next_member, RegistersBehind.{Rise, all_rise}}
 
--- ---- the order of two registers
+-- ---- a row that is written over the one of its register, or comes in
 
-pub record Lower (a b : ℕ) : Type 0 where
-  pub lt : a < b
-  pub is : nat_lt a b ≡ true
-  pub back : nat_lt b a ≡ false
-  pub other : nat_eq b a ≡ false
-  pub less : nat_cmp a b ≡ Less
-  pub greater : nat_cmp b a ≡ Greater
-
-lower : (a b : ℕ) → a < b → Lower a b
-lower a b lt = grind arith
-
-self_lt : (a : ℕ) → nat_lt a a ≡ false
-self_lt a = le-ltb a a (omega arith)
-
-self_eq : (a : ℕ) → nat_eq a a ≡ true
-self_eq a = eq-eqb a a refl
-
-pub told : (a b : ℕ) → Lower a b ⊎ ((a ≡ b) ⊎ Lower b a)
-told a b = grind arith
-
--- ---- a row that is written over the one of its register
-
-absent : (k a : ℕ) (es : List (ℕ × Rules)) → k < a → AllByRecursion (λ y. nat_cmp a y ≡ Less) (keys_of es) → lookup (is_at (nat_cmp k)) es ≡ None
+absent : (k a : ℕ) (es : List (ℕ × Rules)) → k < a → AllByRecursion (λ y. nat_cmp a y ≡ Less) (keys_of es) → row_of es k ≡ None
 absent k a [] lt up = refl
-absent k a (e ∷ es) lt up = elim (told a e.0) [
-  | inl low ↦ let less = (lower k e.0 (omega (arith, lt, low.lt))).less in rw less (absent k a es lt up.1)
-  | inr (inl same) ↦
-      let here : nat_cmp a a ≡ Equal = rw (self_lt a, self_eq a) refl in
-      let there : nat_cmp a e.0 ≡ Equal = subst (λ (n : ℕ). nat_cmp a n ≡ Equal) same here in
-      let less : nat_cmp a e.0 ≡ Less = up.0 in absurd cc
-  | inr (inr high) ↦ let less : nat_cmp a e.0 ≡ Less = up.0 in let greater = high.greater in absurd cc
-]
+absent k a (e ∷ es) lt up = grind (arith, nat_tests, absent k a es lt up.1, up.0)
 
-pub written : (k : ℕ) (es : List (ℕ × Rules)) (x w : Rules) → IsStrictlySortedBy nat_cmp (keys_of es) → lookup (is_at (nat_cmp k)) es ≡ Some x → set_value (is_at (nat_cmp k)) es w ≡ insert_entry nat_cmp es k w
+pub written : (k : ℕ) (es : List (ℕ × Rules)) (x w : Rules) → IsStrictlySortedBy nat_cmp (keys_of es) → row_of es k ≡ Some x → set_value (is_at (nat_cmp k)) es w ≡ insert_entry nat_cmp es k w
 written k [] x w up found = absurd cc
-written k (e ∷ es) x w up found = elim (told k e.0) [
-  | inl low ↦
-      let none : lookup (is_at (nat_cmp k)) (e ∷ es) ≡ None = (let less = low.less in rw less (absent k e.0 es low.lt (sorted_head nat_cmp e.0 (keys_of es) up))) in
-      let both : Some x ≡ None = sym found ∙ none in absurd cc
-  | inr (inl same) ↦
-      let here : nat_cmp k k ≡ Equal = rw (self_lt k, self_eq k) refl in
-      let there : nat_cmp k e.0 ≡ Equal = subst (λ (n : ℕ). nat_cmp k n ≡ Equal) same here in
-      rw there refl
-  | inr (inr high) ↦
-      let greater = high.greater in
-      let step : lookup (is_at (nat_cmp k)) (e ∷ es) ≡ lookup (is_at (nat_cmp k)) es = rw greater refl in
-      rw greater (ap (λ (l : List (ℕ × Rules)). e ∷ l) (written k es x w (sorted_tail nat_cmp e.0 (keys_of es) up) (sym step ∙ found)))
-]
+written k (e ∷ es) x w up found = grind (arith, nat_tests, written k es x w (sorted_tail nat_cmp e.0 (keys_of es) up), absent k e.0 es, sorted_head nat_cmp e.0 (keys_of es) up)
 
--- ---- the register of one FDE more comes in last
+pub found_in : (k q : ℕ) (v : Rules) (es : List (ℕ × Rules)) → row_of (insert_entry nat_cmp es k v) q ≡ cond (nat_eq k q) (Some v) (row_of es q)
+found_in k q v [] = grind (arith, nat_tests)
+found_in k q v (e ∷ es) = grind (arith, nat_tests, found_in k q v es)
 
-last_in : (q : ℕ) (rs qs : List ℕ) → with_registers (rs ++ q ∷ []) qs ≡ with_register q (with_registers rs qs)
-last_in q [] qs = refl
-last_in q (r ∷ rs) qs = last_in q rs (with_register r qs)
-
-pub registers_more : (xs : List Member) (m : Member) → return_registers (xs ++ m ∷ []) ≡ with_register m.register (return_registers xs)
-registers_more xs m = ap (λ (l : List ℕ). with_registers l []) (each xs) ∙ last_in m.register (map (λ (n : Member). n.register) xs) []
-  where
-    each : (ys : List Member) → map (λ (n : Member). n.register) (ys ++ m ∷ []) ≡ map (λ (n : Member). n.register) ys ++ m.register ∷ []
-    each [] = refl
-    each (y ∷ ys) = ap (λ (l : List ℕ). y.register ∷ l) (each ys)
-
--- ---- a row comes in
-
-abbrev Rise : ℕ → List ℕ → Type 0
-Rise low [] = Unit {0}
-Rise low (r ∷ rs) = (low ≤ r) × Rise (suc r) rs
-
-rise_one : (low r : ℕ) (rs : List ℕ) → low ≤ r → Rise low rs → Rise low (with_register r rs)
-rise_one low r [] le h = (le, tt)
-rise_one low r (x ∷ rs) le h = elim (told r x) [
-  | inl o ↦ rw (o.is) (le, (omega (arith, o.lt), h.1))
-  | inr (inl same) ↦ subst (λ (n : ℕ). Rise low (with_register n (x ∷ rs))) (sym same) (rw (self_lt x, self_eq x) h)
-  | inr (inr o) ↦ rw (o.back, o.other) (h.0, rise_one (suc x) r rs (omega (arith, o.lt)) h.1)
-]
-
-registers_rise : (rs qs : List ℕ) → Rise 0 qs → Rise 0 (with_registers rs qs)
-registers_rise [] qs h = h
-registers_rise (r ∷ rs) qs h = registers_rise rs (with_register r qs) (rise_one 0 r qs (omega arith) h)
+pub written_twice : (k : ℕ) (v : Rules) (es : List (ℕ × Rules)) → insert_entry nat_cmp (insert_entry nat_cmp es k v) k v ≡ insert_entry nat_cmp es k v
+written_twice k v [] = grind (arith, nat_tests)
+written_twice k v (e ∷ es) = grind (arith, nat_tests, written_twice k v es)
 
 abbrev paired : (ℕ → Rules) → List ℕ → List (ℕ × Rules)
 paired f rs = map {B = ℕ × Rules} (λ (r : ℕ). (r, f r)) rs
 
-module _ (f g : ℕ → Rules) (q : ℕ) (v : Rules) (here : g q ≡ v) (else : (r : ℕ) → (r ≡ q → ⊥) → g r ≡ f r) where
+module _ (f g : ℕ → Rules) (q : ℕ) (others : (r : ℕ) → (r ≡ q → ⊥) → g r ≡ f r) where
   above : (low : ℕ) (rs : List ℕ) → q < low → Rise low rs → paired f rs ≡ paired g rs
   above low [] lt h = refl
   above low (r ∷ rs) lt h = grind (arith, above (suc r) rs (omega (arith, h.0)) h.1)
 
-  pub comes_in : (low : ℕ) (rs : List ℕ) → Rise low rs → insert_entry nat_cmp (paired f rs) q v ≡ paired g (with_register q rs)
-  comes_in low [] h = ap (λ (x : Rules). (q, x) ∷ []) (sym here)
-  comes_in low (x ∷ rs) h = elim (told q x) [
-    | inl o ↦ rw (o.less) (ap (λ (y : Rules). (q, y) ∷ paired f (x ∷ rs)) (sym here) ∙ ap (λ (l : List (ℕ × Rules)). (q, g q) ∷ l) (above x (x ∷ rs) o.lt (omega arith, h.1)))
-    | inr (inl same) ↦
-        let eq : nat_cmp q x ≡ Equal = subst (λ (n : ℕ). nat_cmp q n ≡ Equal) same (rw (self_lt q, self_eq q) refl) in
-        let value : v ≡ g x = sym here ∙ ap g same in
-        rw eq (ap (λ (y : Rules). (x, y) ∷ paired f rs) value ∙ ap (λ (l : List (ℕ × Rules)). (x, g x) ∷ l) (above (suc x) rs (omega (arith, same)) h.1))
-    | inr (inr o) ↦
-        let own = else x (λ e. omega (arith, o.lt)) in
-        rw (o.greater) (ap (λ (y : Rules). (x, y) ∷ insert_entry nat_cmp (paired f rs) q v) (sym own) ∙ ap (λ (l : List (ℕ × Rules)). (x, g x) ∷ l) (comes_in (suc x) rs h.1))
-  ]
+  comes_in : (low : ℕ) (rs : List ℕ) → Rise low rs → insert_entry nat_cmp (paired f rs) q (g q) ≡ paired g (with_register q rs)
+  comes_in low [] h = refl
+  comes_in low (r ∷ rs) h = grind (arith, nat_tests, others r, comes_in (suc r) rs h.1, above (suc r) rs, h)
 
 -- ---- a row is found
 
@@ -116,80 +43,44 @@ some_of row [] = None
 some_of row (m ∷ ms) = Some row
 
 module _ (f : ℕ → Rules) (q : ℕ) where
-  abbrev rows_at : List ℕ → List (ℕ × Rules)
-  rows_at rs = paired f rs
+  -- with the registers of some FDEs more
+  abbrev look : List Member → List ℕ → Option Rules
+  look ms rs = row_of (paired f (with_registers (map (λ (m : Member). m.register) ms) rs)) q
 
-  abbrev found : Bool → Option Rules → Option Rules
-  found true rest = Some (f q)
-  found false rest = rest
+  look_one : (r : ℕ) (rs : List ℕ) → row_of (paired f (with_register r rs)) q ≡ cond (nat_eq r q) (Some (f q)) (row_of (paired f rs) q)
+  look_one r [] = grind (arith, nat_tests)
+  look_one r (x ∷ rs) = grind (arith, nat_tests, look_one r rs)
 
-  head_look : (r : ℕ) (rest : List (ℕ × Rules)) → row_of ((r, f r) ∷ rest) q ≡ found (nat_eq r q) (row_of rest q)
-  head_look r rest = grind arith
+  look_some : (ms : List Member) (rs : List ℕ) → row_of (paired f rs) q ≡ Some (f q) → look ms rs ≡ Some (f q)
+  look_some [] rs e = e
+  look_some (m ∷ ms) rs e = grind (arith, nat_tests, look_some ms (with_register m.register rs), look_one m.register rs)
 
-  both_orders : (a b : Bool) (rest : Option Rules) → found a (found b rest) ≡ found b (found a rest)
-  both_orders true true rest = refl
-  both_orders true false rest = refl
-  both_orders false true rest = refl
-  both_orders false false rest = refl
+  look_all : (ms : List Member) (rs : List ℕ) → row_of (paired f rs) q ≡ None → look ms rs ≡ some_of (f q) (group q ms)
+  look_all [] rs none = none
+  look_all (m ∷ ms) rs none = grind (arith, nat_tests, look_all ms (with_register m.register rs), look_some ms (with_register m.register rs), look_one m.register rs)
 
-  twice : (a : Bool) (rest : Option Rules) → found a rest ≡ found a (found a rest)
-  twice true rest = refl
-  twice false rest = refl
-
-  look_one : (r : ℕ) (rs : List ℕ) → row_of (rows_at (with_register r rs)) q ≡ found (nat_eq r q) (row_of (rows_at rs) q)
-  look_one r [] = head_look r []
-  look_one r (x ∷ rs) = elim (told r x) [
-    | inl o ↦ rw (o.is) (head_look r (rows_at (x ∷ rs)))
-    | inr (inl same) ↦
-        let one = head_look x (rows_at rs) in
-        subst (λ (n : ℕ). row_of (rows_at (with_register n (x ∷ rs))) q ≡ found (nat_eq n q) (row_of (rows_at (x ∷ rs)) q)) (sym same)
-        (rw (self_lt x, self_eq x) (one ∙ twice (nat_eq x q) (row_of (rows_at rs) q) ∙ ap (found (nat_eq x q)) (sym one)))
-    | inr (inr o) ↦
-        rw (o.back, o.other) (head_look x (rows_at (with_register r rs)) ∙ ap (found (nat_eq x q)) (look_one r rs) ∙ both_orders (nat_eq x q) (nat_eq r q) (row_of (rows_at rs) q) ∙ ap (found (nat_eq r q)) (sym (head_look x (rows_at rs))))
-  ]
-
-  -- a group's row, where it has an element, else what was found without it
-  abbrev before : List Member → Option Rules → Option Rules
-  before [] rest = rest
-  before (m ∷ ms) rest = Some (f q)
-
-  before_some : (ms : List Member) → before ms (Some (f q)) ≡ Some (f q)
-  before_some [] = refl
-  before_some (m ∷ ms) = refl
-
-  before_none : (ms : List Member) → before ms None ≡ some_of (f q) ms
-  before_none [] = refl
-  before_none (m ∷ ms) = refl
-
-  look_before : (xs : List Member) (rs : List ℕ) → row_of (rows_at (with_registers (map (λ (m : Member). m.register) xs) rs)) q ≡ before (group q xs) (row_of (rows_at rs) q)
-  look_before [] rs = refl
-  look_before (x ∷ xs) rs = grind (arith, look_before xs (with_register x.register rs), with_register x.register rs, group q xs, look_one x.register rs, cases_Bool (nat_eq x.register q), nat_eq x.register q, before_some (group q xs))
-
-  pub look_members : (xs : List Member) → row_of (rows_at (return_registers xs)) q ≡ some_of (f q) (group q xs)
-  look_members xs = look_before xs [] ∙ before_none (group q xs)
+  pub look_members : (ms : List Member) → row_of (paired f (return_registers ms)) q ≡ some_of (f q) (group q ms)
+  look_members ms = look_all ms [] refl
 
 -- ---- one FDE more
+
+group_more : (r : ℕ) (ms : List Member) (m : Member) → group r (ms ++ m ∷ []) ≡ (if nat_eq m.register r then group r ms ++ m ∷ [] else group r ms)
+group_more r [] m = grind (arith, nat_tests)
+group_more r (x ∷ ms) m = grind (arith, nat_tests, group_more r ms m)
 
 joined : (m : Member) (ys : List Member) → initial_row (ys ++ m ∷ []) ≡ kept_by (begun_with (some_of (initial_row ys) ys) m.first) m.later
 joined m [] = refl
 joined m (y ∷ ys) = next_member y ys m
 
-pub member_more : (xs : List Member) (m : Member) → with_member (initial_rows xs) m ≡ initial_rows (xs ++ m ∷ [])
-member_more xs m =
+pub member_more : (ms : List Member) (m : Member) → with_member (initial_rows ms) m ≡ initial_rows (ms ++ m ∷ [])
+member_more ms m =
+    let f = initial_of ms in
+    let g = initial_of (ms ++ m ∷ []) in
     let q = m.register in
-    let own : group q (m ∷ []) ≡ m ∷ [] = rw (self_eq q) refl in
-    let look = look_members (initial_of xs) q xs in
-    let here : initial_of (xs ++ m ∷ []) q ≡ kept_by (begun_with (row_of (initial_rows xs) q) m.first) m.later =
-    ap initial_row (group_more q xs (m ∷ []) ∙ ap (λ (l : List Member). group q xs ++ l) own) ∙ joined m (group q xs)
-    ∙ ap (λ (o : Option Rules). kept_by (begun_with o m.first) m.later) (sym look) in
-    comes_in (initial_of xs) (initial_of (xs ++ m ∷ [])) q (kept_by (begun_with (row_of (initial_rows xs) q) m.first) m.later) here others 0 (return_registers xs) (registers_rise (map (λ (n : Member). n.register) xs) [] tt)
-    ∙ ap (paired (initial_of (xs ++ m ∷ []))) (sym (registers_more xs m))
-  where
-    others : (r : ℕ) → (r ≡ m.register → ⊥) → initial_of (xs ++ m ∷ []) r ≡ initial_of xs r
-    others r ne =
-        let no : nat_eq m.register r ≡ false = ne_eqb m.register r (λ e. ne (sym e)) in
-        let none : group r (m ∷ []) ≡ [] = rw no refl in
-        ap initial_row (group_more r xs (m ∷ []) ∙ ap (λ (l : List Member). group r xs ++ l) none ∙ append-nil (group r xs))
+    let own : g q ≡ kept_by (begun_with (row_of (initial_rows ms) q) m.first) m.later = grind (arith, nat_tests, group_more q ms m, joined m (group q ms), look_members f q ms) in
+    let others : (r : ℕ) → (r ≡ q → ⊥) → g r ≡ f r = λ r other. grind (arith, nat_tests, group_more r ms m) in
+    let registers : return_registers (ms ++ m ∷ []) ≡ with_register q (return_registers ms) = search (rules, map-append, fold-append) in
+    rw (← own, registers) (comes_in f g q others 0 (return_registers ms) (all_rise (map (λ (n : Member). n.register) ms) [] tt))
 
 -- ---- the loop
 

@@ -1,16 +1,12 @@
 -- What is known of CIEs stays so while the rows of the groups are narrowed.
-use Rattle.dw_normal.proofs.Words.{◌≡◌, ◌⊎◌, ℕ, true, false, cond, List, [], ◌∷◌, Option, Some, None, Result, Ok, Err, refl, sym, ap, ◌∙◌, subst, inl, inr, IsTrue, IfOk, IfSome, OnOk, cases_Bool, AllByRecursion, nat_cmp, insert_entry}
+use Rattle.dw_normal.proofs.Words.{◌≡◌, ◌⊎◌, ℕ, true, false, cond, List, [], ◌∷◌, Option, Some, None, Result, Ok, Err, refl, sym, ap, ◌∙◌, subst, inl, inr, arith, IsTrue, IfOk, IfSome, OnOk, cases_Bool, AllByRecursion, nat_cmp, insert_entry}
 use Rattle.dw_normal.proofs.Words.{is_at, BTreeMap, AreSpecified, Rules, rule, agreed, same_rule, Changing, kept_by, Member, row_of, shown_row, with_member, get, if◌then◌else◌, RegRule, is_kept, kept, is_agreed}
 use Rattle.dw_normal.proofs.Words.{rules, rule_tells, Registers, AgreesBeside, SameBeside, is_specified, same_rows, Behind, AreChanged, CieLeaves, Section, CieSet, ShownBehind, Agree, AgreesAt, AreLess, Notes}
-use Rattle.std.proofs.lemmas.Map.Entries.{lookup_tail}
+use Rattle.std.proofs.lemmas.{Bool.{cases_eq, Decides.nat_tests}, Option.IfSome_then}
 use Rattle.dw_cfa.specs.declared.rule.RegRule.TheVariants.{Unspecified}
 use Rattle.dw_cfa.proofs.Lent.Narrowed.{filter_keeps, filter_rule}
 use Rattle.dw_normal.specs.Inner.Known.{Puts}
-use Rattle.dw_normal.proofs.{Again.{found_written, there_is}, Grouped.told}
-
-if_some : {A : Type 0} (o : Option A) (P Q : A → Type 0) → ((x : A) → P x → Q x) → IfSome o P → IfSome o Q
-if_some None P Q to h = tt
-if_some (Some x) P Q to h = to x h
+use Rattle.dw_normal.proofs.Grouped.{found_in}
 
 -- ---- rows that specify no more than another
 
@@ -104,57 +100,25 @@ notes_more P Q to place register old new notes at = search rules
 pub puts_notes : (P : Registers → Type 0) (place register : ℕ) (set : Registers) (old mid new : BTreeMap ℕ CieSet) → AreLess old mid → Puts place (record { register = register; set = set }) mid new → P set → Notes P place register old new
 puts_notes P place register set old mid new less puts h at = search rules
 
--- ---- a row that is written is not that of another register
-
-looked : (k q : ℕ) → (k ≡ q) ⊎ (is_at (nat_cmp q) k ≡ false)
-looked k q = search rules
-
-found_other : (k q : ℕ) (v : Rules) (es : List (ℕ × Rules)) → is_at (nat_cmp q) k ≡ false → row_of (insert_entry nat_cmp es k v) q ≡ row_of es q
-found_other k q v [] other = lookup_tail (is_at (nat_cmp q)) (k, v) [] other
-found_other k q v (e ∷ es) other = elim (told k e.0) [
-  | inl low ↦ let less = low.less in rw less (lookup_tail (is_at (nat_cmp q)) (k, v) (e ∷ es) other)
-  | inr (inl same) ↦
-      let here = there_is k e.0 same in
-      let past : is_at (nat_cmp q) e.0 ≡ false = subst (λ (n : ℕ). is_at (nat_cmp q) n ≡ false) same other in
-      rw here (lookup_tail (is_at (nat_cmp q)) (e.0, v) es past ∙ sym (lookup_tail (is_at (nat_cmp q)) e es past))
-  | inr (inr high) ↦ let greater = high.greater in rw greater (ap (λ (o : Option Rules). cond (is_at (nat_cmp q) e.0) (Some e.1) o) (found_other k q v es other))
-]
-
 -- ---- the rows of the groups
 
--- a group begins, of which nothing was known
-pub begun_agree : (s : Section) (rows : List (ℕ × Rules)) (k : ℕ) (own : Rules) (cies : BTreeMap ℕ CieSet) → row_of rows k ≡ None → Agree s rows cies → Agree s (insert_entry nat_cmp rows k own) cies
-begun_agree s rows k own cies none agree place = if_some (get nat_cmp cies place) (AgreesAt s rows place) (AgreesAt s (insert_entry nat_cmp rows k own) place) stays (agree place)
-  where
-    stays : (cie : CieSet) → AgreesAt s rows place cie → AgreesAt s (insert_entry nat_cmp rows k own) place cie
-    stays cie h = elim (looked k cie.register) [
-      | inl same ↦ let there : None ≡ Some h.shared = sym none ∙ ap (row_of rows) same ∙ h.stands in absurd cc
-      | inr other ↦ record { shared = h.shared; stands = found_other k cie.register own rows other ∙ h.stands; agrees = h.agrees }
-    ]
-
--- one is narrowed by an FDE more
-module _ (s : Section) (rows new : List (ℕ × Rules)) (k : ℕ) (x first w : Rules) (later : List (ℕ × Rules)) (up : Ascends x) (found : row_of rows k ≡ Some x) (made : new ≡ insert_entry nat_cmp rows k w) (is : w ≡ kept_by (agreed x first) later) where
+-- a group begins, of which nothing was known, or its row gets narrower
+module _ (s : Section) (rows new : List (ℕ × Rules)) (k : ℕ) (w : Rules) (made : new ≡ insert_entry nat_cmp rows k w)
+    (narrower : (x : Rules) → row_of rows k ≡ Some x → (set : Registers) (row : Rules) → AgreesBeside set x row → AgreesBeside set w row) where
   own_row : row_of new k ≡ Some w
-  own_row = ap (λ (l : List (ℕ × Rules)). row_of l k) made ∙ found_written k w rows
-
-  agrees_still : (set : Registers) (row : Rules) → AgreesBeside set x row → AgreesBeside set w row
-  agrees_still set row agrees =
-      subst (λ (y : Rules). AgreesBeside set y row) (sym is) (kept_still set (agreed x first) row later (agreed_ascends x first up) (agreed_still set x first row up agrees))
+  own_row = grind (arith, nat_tests, made, found_in k k w rows)
 
   stays_at : (place : ℕ) (cie : CieSet) → AgreesAt s rows place cie → AgreesAt s new place cie
-  stays_at place cie h = elim (looked k cie.register) [
-    | inl same ↦
-        let there : Some x ≡ Some h.shared = sym found ∙ ap (row_of rows) same ∙ h.stands in
-        let one : h.shared ≡ x = cc in
-        record { shared = w; stands = ap (row_of new) (sym same) ∙ own_row; agrees = λ row leaves. agrees_still cie.set row (subst (λ (y : Rules). AgreesBeside cie.set y row) one (h.agrees row leaves)) }
-    | inr other ↦ record { shared = h.shared; stands = ap (λ (l : List (ℕ × Rules)). row_of l cie.register) made ∙ found_other k cie.register w rows other ∙ h.stands; agrees = h.agrees }
+  stays_at place cie h = elim (cases_eq k cie.register) [
+    | inl same ↦ record { shared = w; stands = ap (row_of new) (sym same) ∙ own_row; agrees = λ row leaves. narrower h.shared (ap (row_of rows) same ∙ h.stands) cie.set row (h.agrees row leaves) }
+    | inr other ↦ let stands = h.stands in record { shared = h.shared; stands = grind (arith, nat_tests, made, found_in k cie.register w rows, stands); agrees = h.agrees }
   ]
 
-  pub same_agree : (cies : BTreeMap ℕ CieSet) → Agree s rows cies → Agree s new cies
-  same_agree cies agree at = if_some (get nat_cmp cies at) (AgreesAt s rows at) (AgreesAt s new at) (stays_at at) (agree at)
+  pub still_agree : (cies : BTreeMap ℕ CieSet) → Agree s rows cies → Agree s new cies
+  still_agree cies agree place = IfSome_then (get nat_cmp cies place) (agree place) (stays_at place)
 
   noted_at : (place : ℕ) (old cies : BTreeMap ℕ CieSet) → Agree s rows old → Notes (λ set. (row : Rules) → CieLeaves s.target s.bytes place row → AgreesBeside set w row) place k old cies → Agree s new cies
-  noted_at place old cies agree notes at = search (rules, same_agree, own_row)
+  noted_at place old cies agree notes at = search (rules, still_agree, own_row)
 
   -- a CIE leaves one row, so of each row that it leaves the first one has what is outside a set
   pub noted_agree : ((at : ℕ) (y z : Rules) → CieLeaves s.target s.bytes at y → CieLeaves s.target s.bytes at z → y ≡ z) → (changes : Changing) → changes.section ≡ s → (b : Behind) (changed : Registers) → ShownBehind changes changed b
@@ -164,6 +128,13 @@ module _ (s : Section) (rows new : List (ℕ × Rules)) (k : ℕ) (x first w : R
       let more : (set : Registers) → ((row : Rules) → SameBeside changed row (shown_row changes) → AgreesBeside set w row) → (row : Rules) → CieLeaves s.target s.bytes b.cie_at row → AgreesBeside set w row = λ set h row left.
       h row (subst (λ (y : Rules). SameBeside changed y (shown_row changes)) (law b.cie_at stands.row row leaves left) stands.beside) in
       noted_at b.cie_at old cies agree (notes_more _ _ more b.cie_at k old cies notes)
+
+-- what an FDE more leaves of a group's row
+pub narrower : (rows : List (ℕ × Rules)) (k : ℕ) (x first w : Rules) (later : List (ℕ × Rules)) → Ascends x → row_of rows k ≡ Some x → w ≡ kept_by (agreed x first) later
+    → (y : Rules) → row_of rows k ≡ Some y → (set : Registers) (row : Rules) → AgreesBeside set y row → AgreesBeside set w row
+narrower rows k x first w later up found is y same set row agrees =
+    let one : y ≡ x = cc in
+    rw is (kept_still set (agreed x first) row later (agreed_ascends x first up) (agreed_still set x first row up (rw one at agrees)))
 
 pub with_begun : (rows : List (ℕ × Rules)) (k : ℕ) (m : Member) (later : List (ℕ × Rules)) → k ≡ m.register → row_of rows k ≡ None → later ≡ m.later → insert_entry nat_cmp rows k (kept_by m.first later) ≡ with_member rows m
 with_begun rows k m later register none rest = cc
