@@ -4,8 +4,8 @@ use Rattle.dw_section.specs.declared.opening.CieRow.{CieRow}
 use Rattle.dw_section.proofs.Lent.OpeningLaws.{Opened, Specifies, one_first, opened}
 use Rattle.dw_canon.proofs.Lent.{Joins.{PartOf, first_part, joined_again, next_part}, Shared.MemberFits}
 use Rattle.dw_normal.specs.declared.groups.Joined.{Joined}
-use Rattle.dw_normal.proofs.Words.{Equal, eq-eqb, ◌≡◌, ℕ, zero, suc, ◌<◌, true, false, List, [], ◌∷◌, length, take, get_or, Option, Some, None, refl, sym, ap, ◌∙◌, subst, inl, inr, arith, nat_eq, nat_lt}
-use Rattle.dw_normal.proofs.Words.{IfSome, insert_entry, AllByRecursion, nat_cmp, le-ltb, Target, AreBytes, agreed, Rules, Accepted, OpensBehind, RowFits, all_get, initial_of, group, kept_by, Member}
+use Rattle.dw_normal.proofs.Words.{◌≡◌, ℕ, zero, suc, ◌<◌, List, [], ◌∷◌, length, take, get_or, Option, Some, None, sym, ap, ◌∙◌, subst, arith}
+use Rattle.dw_normal.proofs.Words.{IfSome, AllByRecursion, Target, AreBytes, agreed, Rules, Accepted, OpensBehind, RowFits, all_get, initial_of, group, kept_by, Member}
 use Rattle.dw_normal.proofs.{Words.{AreMembers, IsMember, fde_of, group_fits, fits, nonempty, HasJoined, begun_with, initial_rows, joined_by, row_of, with_member}, Grouped.{found_in, look_members, some_of, written_twice}}
 
 -- ---- what the row of a group is part of

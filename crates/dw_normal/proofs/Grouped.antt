@@ -1,7 +1,7 @@
 -- The initial rows of the groups, one FDE after another, are those of all of them.
 use Rattle.std.specs.List.Sorted.{IsStrictlySortedBy}
 use Rattle.std.proofs.lemmas.{Bool.Decides.nat_tests, List.Sums.fold-append, List.map-append, Map.Keys.{sorted_head, sorted_tail}}
-use Rattle.dw_normal.proofs.Words.{Less, ◌≡◌, ◌+◌, ℕ, suc, length, take, get_or, ◌<◌, ◌≤◌, List, [], ◌∷◌, ◌++◌, map, cond, Option, Some, None, refl, sym, ap, ◌∙◌, if◌then◌else◌}
+use Rattle.dw_normal.proofs.Words.{Less, ◌≡◌, ◌+◌, ℕ, suc, length, take, get_or, ◌<◌, List, [], ◌∷◌, ◌++◌, map, cond, Option, Some, None, refl, sym, ap, ◌∙◌, if◌then◌else◌}
 use Rattle.dw_normal.proofs.Words.{arith, nat_eq, insert_entry, is_at, AllByRecursion, keys_of, set_value, nat_cmp, take_more, rules, Rules, blank}
 use Rattle.dw_normal.proofs.{Words.{return_registers, initial_of, with_register, with_registers, group, initial_row, kept_by, Member, initial_rows, begun_with, row_of, with_member}, Passes.next_member, RegistersBehind.{Rise, all_rise}}
 

@@ -1,6 +1,6 @@
 -- What is known of CIEs stays so while the rows of the groups are narrowed.
-use Rattle.dw_normal.proofs.Words.{◌≡◌, ◌⊎◌, ℕ, true, false, cond, List, [], ◌∷◌, Option, Some, None, Result, Ok, Err, refl, sym, ap, ◌∙◌, subst, inl, inr, arith, IsTrue, IfOk, IfSome, OnOk, cases_Bool, AllByRecursion, nat_cmp, insert_entry}
-use Rattle.dw_normal.proofs.Words.{is_at, BTreeMap, AreSpecified, Rules, rule, agreed, same_rule, Changing, kept_by, Member, row_of, shown_row, with_member, get, if◌then◌else◌, RegRule, is_kept, kept, is_agreed}
+use Rattle.dw_normal.proofs.Words.{◌≡◌, ◌⊎◌, ℕ, true, List, [], ◌∷◌, Option, Some, None, Result, Ok, Err, refl, sym, ap, ◌∙◌, subst, inl, inr, arith, IsTrue, IfOk, IfSome, OnOk, cases_Bool, AllByRecursion, nat_cmp, insert_entry}
+use Rattle.dw_normal.proofs.Words.{BTreeMap, AreSpecified, Rules, rule, agreed, same_rule, Changing, kept_by, Member, row_of, shown_row, with_member, get, if◌then◌else◌, RegRule, is_kept, kept, is_agreed}
 use Rattle.dw_normal.proofs.Words.{rules, rule_tells, Registers, AgreesBeside, SameBeside, is_specified, same_rows, Behind, AreChanged, CieLeaves, Section, CieSet, ShownBehind, Agree, AgreesAt, AreLess, Notes}
 use Rattle.std.proofs.lemmas.{Bool.{cases_eq, Decides.nat_tests}, Option.IfSome_then}
 use Rattle.dw_cfa.specs.declared.rule.RegRule.TheVariants.{Unspecified}

@@ -1,6 +1,6 @@
 -- The registers of two rows from one on, and the first of them whose rule differs.
 use Rattle.std.proofs.lemmas.Bool.Decides.{nat_tests}
-use Rattle.dw_normal.proofs.Words.{◌≡◌, ℕ, suc, ◌<◌, ◌≤◌, List, [], ◌∷◌, ◌++◌, None, refl, ap, ◌∙◌, arith, inl, inr, nat_lt, flat_map, keys_of, Instr, Rules, AreSpecified, rule, same_rule}
+use Rattle.dw_normal.proofs.Words.{◌≡◌, ℕ, suc, ◌≤◌, List, [], ◌∷◌, None, refl, arith, inl, inr, flat_map, keys_of, Instr, Rules, AreSpecified, rule, same_rule}
 use Rattle.dw_normal.proofs.Words.{FirstDifference, DiffersFirst, differs_of, either, rule_to, rule_difference, with_register, with_registers, from_on, rules_from, RegRule, rule_tells}
 use Rattle.dw_canon.proofs.Lent.Differences.{In, either_or}
 
