@@ -4,7 +4,7 @@ use Rattle.dw_words.specs.declared.request.Request.{Request}
 use Rattle.dw_words.specs.declared.request.PlanError.TheVariants as errors
 use Rattle.dw_words.specs.declared.request.Request.TheVariants as requests
 use Rattle.dw_words.proofs.Words.{◌≡◌, ◌∙◌, true, false, List, [], Option, Some, None, option_map, Result, Ok, Err, ap, ap₂, sym, inl, inr, box_value, App, HasKind, HasMatchesOf, Row, Text, fault_of, found_of, is_simple_and_free, rows_of}
-use Rattle.dw_words.proofs.{Words.{subcommand_name_of, subcommand_of, subcommand_rows_of, dwframe, PlanError, Planned, is_help, asked, Fails, FromFault, IsSupplied, asked_by, run_in}, Asked.reads, Jobs.none_asked, Subcommands.supplied}
+use Rattle.dw_words.proofs.{Words.{subcommand_name_of, subcommand_of, subcommand_rows_of, dwframe, PlanError, Planned, is_help, asked, Fails, FromFault, IsSupplied, asked_by, is_run}, Asked.reads, Jobs.none_asked, Subcommands.supplied}
 
 module _ {X : Type 0} (f : X → Text) (g : X → List Row) where
   abbrev both : X → Text × List Row
@@ -30,7 +30,7 @@ accepted a words m name rows made none matches named values =
 
 -- words that clap takes, with a value that is none
 pub failed : (words : List Text) (name : Text) (values : List Row) (e : PlanError) → fault_of dwframe words ≡ [] → subcommand_of dwframe words ≡ Some (name, values)
-    → Fails values (IsSupplied name) (run_in name values) e → Planned words (Err e)
+    → Fails values (IsSupplied name) (is_run name values ≡ false) e → Planned words (Err e)
 failed words name values (errors.BadValue what) taken is h =
     (taken, (name, values, is, h.1 (supplied words name values taken is)), λ job asked. none_asked words name values job is h.0 asked)
 failed words name values (errors.Words error) taken is h = absurd h

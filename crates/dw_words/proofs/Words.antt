@@ -15,5 +15,4 @@ unfoldable pub use Rattle.clap.proofs.OnLiterals.{clap_on_literals}
 pub use Rattle.clap.proofs.WalkLemmas.{both, first_value-rows, raw_values-rows, walk_stopped}
 pub use Rattle.dw_words.specs.{CommandLine.{dwframe, file, flag, operand, operands, program}, Plan.{AskFor, IsJob, IsTask, Planned, Says, is_help}, Values.{address, all_read, order_of, size_of}}
 pub use Rattle.dw_words.specs.{declared.request.Name.Name, declared.request.PlanError.PlanError, Inner.CommandLine.{IsArg, IsCommand, asked, choice, needed, over_file, subcommand, subcommand_named, with_subcommands}}
-pub use Rattle.dw_words.specs.Inner.Plan.{Fails, FromFault, Given, GivenAt, HasText, IsSupplied, Run, Task, addresses_in, asked_by, block_in, cap_in, check, cost, default_in, dump_in, entries}
-pub use Rattle.dw_words.specs.Inner.{Plan.{file_in, fits, name_of, options, own, profile_in, rows, run_held, run_in, start_in, steps_in, target_in, task_held, task_in, text_of}, Values.checked_behind}
+pub use Rattle.dw_words.specs.Inner.{Plan.{Fails, FromFault, Given, GivenAt, HasText, IsSupplied, asked_by, fits, is_run, is_task, name_of, options, own, target_in, text_of}, Values.checked_behind}

@@ -3,10 +3,10 @@
 ghost use Rattle.std.specs.Prelude.{◌≡◌, ◌≤◌, [], IfErr, IfOk, IfSome, None, Some, map, option_map, string_bytes};
 ghost use Rattle.clap.specs.Words.{all_of, first_of, found_of, rows_of};
 ghost use Rattle.dw_words.specs.{Plan.{Planned, is_help}, Values.{address, all_read}};
+ghost use Rattle.dw_num.specs.declared.target.Size.{Size as TheSize};
 ghost use Rattle.dw_words.specs.declared.request.{Name.TheVariants.{At, Check, Eval, Expr, Normal, Same, Unwind}, PlanError.TheVariants.BadValue};
-ghost use Rattle.dw_words.specs.Inner.Plan.{Answers, FromFault, Given, GivenAt, IsSupplied, addresses_in, asked_by, at_in, block_in};
-ghost use Rattle.dw_words.specs.Inner.Plan.{cap_in, default_in, eval_in, expr_in, file_in, name_of, normal_in, options, own, profile_in};
-ghost use Rattle.dw_words.specs.Inner.Plan.{run_held, run_in, same_in, start_in, steps_in, target_in, task_held, task_in, unwind_in};
+ghost use Rattle.dw_words.specs.Inner.Plan.{Answers, FromFault, Given, GivenAt, Jobs, Targets, Tasks, addresses_in, asked_by, block_in};
+ghost use Rattle.dw_words.specs.Inner.Plan.{cap_in, file_in, name_of, own, start_in, steps_in};
 
 use crate::command_line::command_line;
 use crate::request::{Evaluation, Job, Lookup, Name, PlanError, Request, Task, Unwinding, Writing};
@@ -67,14 +67,16 @@ fn name_of(text: &str) -> Option<Name>
 }
 
 fn target_in(matches: &ArgMatches<'_>) -> Result<Target, PlanError>
-    ensures { Answers (rows_of (found_of matches.now)) (Given options) target_in (λ target. target) result }
+    ensures { Targets (rows_of (found_of matches.now)) result }
 {
-    let Some(size) = text_of(matches, "size").and_then(|text| size_of(text)) else {
-        return Err(PlanError::BadValue("--size"));
-    };
-    let Some(order) = text_of(matches, "order").and_then(|text| order_of(text)) else {
-        return Err(PlanError::BadValue("--order"));
-    };
+    let size = needed(
+        text_of(matches, "size").and_then(|text| size_of(text)),
+        "--size",
+    )?;
+    let order = needed(
+        text_of(matches, "order").and_then(|text| order_of(text)),
+        "--order",
+    )?;
     Ok(Target { size, order })
 }
 
@@ -107,24 +109,6 @@ fn start_in(matches: &ArgMatches<'_>, size: Size) -> Option<Option<u64>>
     };
     let value = address(text.as_bytes(), size)?;
     Some(Some(value))
-}
-
-fn default_in(matches: &ArgMatches<'_>) -> Option<Policy>
-    ensures { result ≡ default_in (rows_of (found_of matches.now)) }
-{
-    match text_of(matches, "default") {
-        Some(text) => default_of(text),
-        None => None,
-    }
-}
-
-fn profile_in(matches: &ArgMatches<'_>) -> Option<Profile>
-    ensures { result ≡ profile_in (rows_of (found_of matches.now)) }
-{
-    match text_of(matches, "frame") {
-        Some(text) => profile_of(text),
-        None => None,
-    }
 }
 
 fn block_in(alloc: Global, matches: &ArgMatches<'_>) -> Result<Vec<u8>, PlanError>
@@ -166,7 +150,7 @@ fn addresses_in(alloc: Global, matches: &ArgMatches<'_>, size: Size) -> Result<V
 }
 
 fn at_in<'a>(alloc: Global, matches: &ArgMatches<'a>, size: Size) -> Result<Task<'a>, PlanError>
-    ensures { Answers (rows_of (found_of matches.now)) (GivenAt size (own At)) (at_in size) task_held result }
+    ensures { Tasks (rows_of (found_of matches.now)) At size result }
 {
     let path = path_in(matches)?;
     let addresses = addresses_in(alloc, matches, size)?;
@@ -174,7 +158,7 @@ fn at_in<'a>(alloc: Global, matches: &ArgMatches<'a>, size: Size) -> Result<Task
 }
 
 fn eval_in<'a>(alloc: Global, matches: &ArgMatches<'a>, size: Size) -> Result<Task<'a>, PlanError>
-    ensures { Answers (rows_of (found_of matches.now)) (GivenAt size (own Eval)) (eval_in size) task_held result }
+    ensures { Tasks (rows_of (found_of matches.now)) Eval size result }
 {
     let steps = needed(steps_in(matches), "--steps")?;
     let start = needed(start_in(matches, size), "--start")?;
@@ -189,15 +173,18 @@ fn eval_in<'a>(alloc: Global, matches: &ArgMatches<'a>, size: Size) -> Result<Ta
 }
 
 fn expr_in<'a>(alloc: Global, matches: &ArgMatches<'a>) -> Result<Task<'a>, PlanError>
-    ensures { Answers (rows_of (found_of matches.now)) (Given (own Expr)) expr_in task_held result }
+    ensures { (size : TheSize) → Tasks (rows_of (found_of matches.now)) Expr size result }
 {
-    let profile = needed(profile_in(matches), "--frame")?;
+    let profile = needed(
+        text_of(matches, "frame").and_then(|text| profile_of(text)),
+        "--frame",
+    )?;
     let block = block_in(alloc, matches)?;
     Ok(Task::Expr { profile, block })
 }
 
 fn normal_in<'a>(matches: &ArgMatches<'a>) -> Result<Task<'a>, PlanError>
-    ensures { Answers (rows_of (found_of matches.now)) (Given (own Normal)) normal_in task_held result }
+    ensures { (size : TheSize) → Tasks (rows_of (found_of matches.now)) Normal size result }
 {
     let cap = needed(cap_in(matches), "--cap")?;
     let path = needed(text_of(matches, "FILE"), "FILE")?;
@@ -205,7 +192,7 @@ fn normal_in<'a>(matches: &ArgMatches<'a>) -> Result<Task<'a>, PlanError>
 }
 
 fn same_in<'a>(matches: &ArgMatches<'a>) -> Result<Task<'a>, PlanError>
-    ensures { Answers (rows_of (found_of matches.now)) (Given (own Same)) same_in task_held result }
+    ensures { (size : TheSize) → Tasks (rows_of (found_of matches.now)) Same size result }
 {
     let path = needed(text_of(matches, "FILE"), "FILE")?;
     let other = needed(text_of(matches, "FILE2"), "FILE2")?;
@@ -213,10 +200,13 @@ fn same_in<'a>(matches: &ArgMatches<'a>) -> Result<Task<'a>, PlanError>
 }
 
 fn unwind_in<'a>(matches: &ArgMatches<'a>) -> Result<Task<'a>, PlanError>
-    ensures { Answers (rows_of (found_of matches.now)) (Given (own Unwind)) unwind_in task_held result }
+    ensures { (size : TheSize) → Tasks (rows_of (found_of matches.now)) Unwind size result }
 {
     let steps = needed(steps_in(matches), "--steps")?;
-    let default = needed(default_in(matches), "--default")?;
+    let default = needed(
+        text_of(matches, "default").and_then(|text| default_of(text)),
+        "--default",
+    )?;
     let path = needed(text_of(matches, "FILE"), "FILE")?;
     let dump = needed(text_of(matches, "DUMP"), "DUMP")?;
     Ok(Task::Unwind(Unwinding {
@@ -239,7 +229,7 @@ fn task_in<'a>(
     size: Size,
     matches: &ArgMatches<'a>,
 ) -> Result<Task<'a>, PlanError>
-    ensures { Answers (rows_of (found_of matches.now)) (GivenAt size (own name)) (task_in name size) task_held result }
+    ensures { Tasks (rows_of (found_of matches.now)) name size result }
 {
     match name {
         Name::At => at_in(alloc, matches, size),
@@ -265,7 +255,7 @@ fn task_in<'a>(
 
 // The run of a subcommand of this name.
 fn run_in<'a>(alloc: Global, text: &str, matches: &ArgMatches<'a>) -> Result<Job<'a>, PlanError>
-    ensures { Answers (rows_of (found_of matches.now)) (IsSupplied text.now) (run_in text.now) run_held result }
+    ensures { Jobs (rows_of (found_of matches.now)) text.now result }
 {
     let name = needed(name_of(text), "the subcommand")?;
     let target = target_in(matches)?;

@@ -1,19 +1,17 @@
--- What the code and its proofs say beside Plan: the run of a subcommand with its values, as a function.
-use Rattle.std.specs.Prelude.{◌≡◌, ◌≢◌, ⊤, ℕ, ◌||◌, Bool, true, false, not, List, [], ◌∷◌, Option, Some, None, is_some, codes, slice_get}
+-- What the code and its proofs say beside Plan: the values of a subcommand, and whether a run has them.
+use Rattle.std.specs.Prelude.{◌≡◌, ◌≢◌, ⊤, ℕ, ◌&&◌, ◌||◌, Bool, true, false, not, List, [], ◌∷◌, Option, Some, None, is_some, codes, slice_get}
 use Rattle.std.specs.{Prelude.{option_and_then, option_map, if◌then◌else◌, Result, Ok, Err, MatchResult}, Option.option_map_or, Str.bytes_eq}
 use Rattle.clap.specs.{Words.{Row, Text, first_of, kind_of}, declared.error.Error.Error}
 use Rattle.clap.specs.declared.error.ErrorKind.TheVariants as kinds
 use Rattle.dw_num.specs.declared.target.{Size.Size, Target.Target}
 use Rattle.dw_op.specs.declared.profile.Profile.{Profile}
 use Rattle.dw_eval.specs.declared.policy.Policy.{Policy}
-use Rattle.dw_words.specs.Plan.{IsBad, Says, is_help, texts_of}
+use Rattle.dw_words.specs.Plan.{IsBad, IsJob, IsTask, Says, is_help, texts_of}
 use Rattle.dw_words.specs.Values.{address, all_read, block_of, cap_of, decimal, default_of, order_of, profile_of, size_of}
-use Rattle.dw_words.specs.declared.request.{Job.Job, Name.Name, PlanError.PlanError, Request.Request}
+use Rattle.dw_words.specs.declared.request.{Job.Job, Name.Name, PlanError.PlanError, Request.Request, Task.Task}
 use Rattle.dw_words.specs.declared.request.Name.TheVariants as names
 use Rattle.dw_words.specs.declared.request.PlanError.TheVariants as errors
 use Rattle.dw_words.specs.declared.request.Request.TheVariants as requests
-use Rattle.dw_words.specs.declared.request.Task as declared
-use Rattle.dw_words.specs.declared.request.Task.TheVariants as tasks
 
 -- ---- values
 
@@ -80,78 +78,19 @@ dump_in values = first_of (codes "DUMP") values
 
 -- ---- plans
 
--- a subcommand with its options and operands; files by their paths
-pub data Task : Type 0 where
-  -- the section, the addresses
-  at : Text → List ℕ → Task
-  check : Text → Task
-  cost : Text → Task
-  entries : Text → Task
-  -- the most steps, the value on the stack, the block, the dump
-  eval : ℕ → Option ℕ → List ℕ → Option Text → Task
-  expr : Profile → List ℕ → Task
-  -- the cap
-  normal : ℕ → Text → Task
-  rows : Text → Task
-  same : Text → Text → Task
-  -- what a register without a rule is, the most steps, the section, the dump
-  unwind : Policy → ℕ → Text → Text → Task
+-- these are values of a subcommand of this name
+abbrev pub is_task : Name → Size → List Row → Bool
+is_task names.At size values = is_some (file_in values) && is_some (addresses_in size values)
+is_task names.Eval size values = is_some (steps_in values) && (is_some (start_in size values) && is_some (block_in values))
+is_task names.Expr size values = is_some (profile_in values) && is_some (block_in values)
+is_task names.Normal size values = is_some (cap_in values) && is_some (file_in values)
+is_task names.Same size values = is_some (file_in values) && is_some (first_of (codes "FILE2") values)
+is_task names.Unwind size values = is_some (steps_in values) && (is_some (default_in values) && (is_some (file_in values) && is_some (dump_in values)))
+is_task _ size values = is_some (file_in values)
 
-pub record Run : Type 0 where
-  pub target : Target
-  pub task : Task
-
-abbrev pub at_in : Size → List Row → Option Task
-at_in size values = option_and_then (λ path. option_map (λ addresses. at path addresses) (addresses_in size values)) (file_in values)
-
-abbrev pub eval_in : Size → List Row → Option Task
-eval_in size values = option_and_then (λ steps. option_and_then (λ start. option_map (λ block. eval steps start block (dump_in values)) (block_in values)) (start_in size values)) (steps_in values)
-
-abbrev pub expr_in : List Row → Option Task
-expr_in values = option_and_then (λ profile. option_map (λ block. expr profile block) (block_in values)) (profile_in values)
-
-abbrev pub normal_in : List Row → Option Task
-normal_in values = option_and_then (λ cap. option_map (λ path. normal cap path) (file_in values)) (cap_in values)
-
-abbrev pub same_in : List Row → Option Task
-same_in values = option_and_then (λ path. option_map (λ other. same path other) (first_of (codes "FILE2") values)) (file_in values)
-
-abbrev pub unwind_in : List Row → Option Task
-unwind_in values = option_and_then (λ steps. option_and_then (λ default. option_and_then (λ path. option_map (λ dump. unwind default steps path dump) (dump_in values)) (file_in values)) (default_in values)) (steps_in values)
-
--- the task of a subcommand with these values
-abbrev pub task_in : Name → Size → List Row → Option Task
-task_in names.At size values = at_in size values
-task_in names.Check size values = option_map check (file_in values)
-task_in names.Cost size values = option_map cost (file_in values)
-task_in names.Entries size values = option_map entries (file_in values)
-task_in names.Eval size values = eval_in size values
-task_in names.Expr size values = expr_in values
-task_in names.Normal size values = normal_in values
-task_in names.Rows size values = option_map rows (file_in values)
-task_in names.Same size values = same_in values
-task_in names.Unwind size values = unwind_in values
-
--- the run of a subcommand of this name with these values
-abbrev pub run_in : Text → List Row → Option Run
-run_in text values = option_and_then (λ name. option_and_then (λ target. option_map (λ task. record { target = target; task = task }) (task_in name target.size values)) (target_in values)) (name_of text)
-
--- ---- how the code keeps them
-
-abbrev pub task_held : declared.Task → Task
-task_held (tasks.At l) = at l.path.now l.addresses.items
-task_held (tasks.Check path) = check path.now
-task_held (tasks.Cost path) = cost path.now
-task_held (tasks.Entries path) = entries path.now
-task_held (tasks.Eval e) = eval e.steps e.start e.block.items (option_map (λ s. s.now) e.dump)
-task_held (tasks.Expr profile block) = expr profile block.items
-task_held (tasks.Normal w) = normal w.cap w.path.now
-task_held (tasks.Rows path) = rows path.now
-task_held (tasks.Same path other) = same path.now other.now
-task_held (tasks.Unwind u) = unwind u.default u.steps u.path.now u.dump.now
-
-abbrev pub run_held : Job → Run
-run_held job = record { target = job.target; task = task_held job.task }
+-- a run of a subcommand of this name has these values
+abbrev pub is_run : Text → List Row → Bool
+is_run text values = option_map_or (λ name. option_map_or (λ target. is_task name target.size values) (target_in values) false) (name_of text) false
 
 -- ---- what stands in the values of words that clap takes
 
@@ -190,15 +129,29 @@ IsSupplied text values = (name : Name) × (name_of text ≡ Some name) × Given 
 
 -- ---- what the code answers
 
--- an error of values: nothing is wanted, and what is named is bad where the values are known to have these; or memory ran out
-abbrev pub Fails : {X : Type 0} → List Row → (List Row → Type 0) → Option X → PlanError → Type 0
-Fails values Known wanted (errors.BadValue what) = (wanted ≡ None) × (Known values → IsBad values what.now)
-Fails values Known wanted (errors.Words error) = ⊥
-Fails values Known wanted errors.OutOfMemory = ⊤
+-- an error of values: this is so of them, and what is named is bad where the values are known to have these; or memory ran out
+abbrev pub Fails : List Row → (List Row → Type 0) → Type 0 → PlanError → Type 0
+Fails values Known Lack (errors.BadValue what) = Lack × (Known values → IsBad values what.now)
+Fails values Known Lack (errors.Words error) = ⊥
+Fails values Known Lack errors.OutOfMemory = ⊤
 
 -- a value is what is wanted of the values
 abbrev pub Answers : {T X : Type 0} → List Row → (List Row → Type 0) → (List Row → Option X) → (T → X) → Result T PlanError → Type 0
-Answers values Known wanted held result = MatchResult result (λ v. wanted values ≡ Some (held v)) (Fails values Known (wanted values))
+Answers values Known wanted held result = MatchResult result (λ v. wanted values ≡ Some (held v)) (Fails values Known (wanted values ≡ None))
+
+-- what is answered is the target of the options
+abbrev pub Targets : List Row → Result Target PlanError → Type 0
+Targets values result =
+    MatchResult result (λ target. (target_in values ≡ Some target) × Says values (codes "size") size_of target.size × Says values (codes "order") order_of target.order)
+    (Fails values (Given options) (target_in values ≡ None))
+
+-- the task of the subcommand of this name
+abbrev pub Tasks : List Row → Name → Size → Result Task PlanError → Type 0
+Tasks values name size result = MatchResult result (IsTask values (text_of name) size) (Fails values (GivenAt size (own name)) (is_task name size values ≡ false))
+
+-- and the run
+abbrev pub Jobs : List Row → Text → Result Job PlanError → Type 0
+Jobs values text result = MatchResult result (IsJob values text) (Fails values (IsSupplied text) (is_run text values ≡ false))
 
 -- what a fault of clap's becomes
 abbrev pub FromFault : Error → Result Request PlanError → Type 0

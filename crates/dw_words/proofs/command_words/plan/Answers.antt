@@ -1,4 +1,4 @@
-use Rattle.dw_words.proofs.{Words.{◌≡◌, ◌∙◌, true, ap, rules, subst, map, string_bytes, err_from_is_err_and, out-Command, HasKind, app_of, found_of, rows_of, asked}, Asked.reads, Jobs.job_so, Plans.{accepted, failed, refused}}
+use Rattle.dw_words.proofs.{Words.{◌≡◌, ◌∙◌, true, ap, rules, subst, map, string_bytes, err_from_is_err_and, out-Command, HasKind, app_of, found_of, rows_of, asked}, Asked.reads, Plans.{accepted, failed, refused}}
 use Rattle.dw_words.proofs.command_words.plan.Goals as goal
 
 pub returns-in-Err : goal.returns-in-Err
@@ -30,4 +30,4 @@ returns c =
     let rows = rows_of (found_of c.in-Some.matches.now) in
     let made = c.in_ok-command.ensures.0 ∙ ap asked c.asked_by.ensures in
     let h = accepted (app_of c.in_ok-command.command) words c.in-Ok.matches name rows made c.in-Ok.ensures.kinds c.in-Ok.ensures.matches c.in-Some.ensures.name c.in-Some.ensures.rows in
-    (h.0, name, rows, h.1, job_so name rows c.in_ok-job.job c.in_ok-job.ensures)
+    (h.0, name, rows, h.1, c.in_ok-job.ensures)
