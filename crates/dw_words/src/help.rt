@@ -2,6 +2,20 @@
 
 pub const VERSION: &str = "0.1.0";
 
+// What stands below the options of a subcommand over a file: what its statuses say, and an example by its name and the words behind the target.
+macro_rules! after {
+    ($done:literal, $name:literal, $words:literal) => {
+        concat!(
+            "Exit status: ",
+            $done,
+            ", 3 wrong arguments, 4 file or output fails, 5 out of memory\n\nExample:\n  dwframe ",
+            $name,
+            " --size 8 --order little ",
+            $words
+        )
+    };
+}
+
 pub const PROGRAM: &str = "Read a raw .debug_frame section, the call frame information of DWARF 5";
 
 pub const AFTER_PROGRAM: &str =
@@ -52,36 +66,20 @@ pub const CAP: &str =
 
 pub const CHECK: &str = "Tell whether a section is well formed, and count its entries";
 
-pub const AFTER_CHECK: &str =
-    "Exit status: 0 well formed, 2 refused, 3 wrong arguments, 4 file or output fails, 5 out of memory
-
-Example:
-  dwframe check --size 8 --order little a.bin";
+pub const AFTER_CHECK: &str = after!("0 well formed, 2 refused", "check", "a.bin");
 
 pub const ROWS: &str =
     "Print the rules of the CFA and of registers at each address where they change";
 
-pub const AFTER_ROWS: &str =
-    "Exit status: 0 done, 2 refused, 3 wrong arguments, 4 file or output fails, 5 out of memory
-
-Example:
-  dwframe rows --size 8 --order little a.bin";
+pub const AFTER_ROWS: &str = after!("0 done, 2 refused", "rows", "a.bin");
 
 pub const AT: &str = "Print the FDE that covers each of some addresses, and its rules there";
 
-pub const AFTER_AT: &str =
-    "Exit status: 0 done, 2 refused, 3 wrong arguments, 4 file or output fails, 5 out of memory
-
-Example:
-  dwframe at --size 8 --order little a.bin 0x401004 0x401234";
+pub const AFTER_AT: &str = after!("0 done, 2 refused", "at", "a.bin 0x401004 0x401234");
 
 pub const ENTRIES: &str = "List the CIEs and FDEs of a section by place";
 
-pub const AFTER_ENTRIES: &str =
-    "Exit status: 0 done, 2 refused, 3 wrong arguments, 4 file or output fails, 5 out of memory
-
-Example:
-  dwframe entries --size 8 --order little a.bin";
+pub const AFTER_ENTRIES: &str = after!("0 done, 2 refused", "entries", "a.bin");
 
 pub const EXPR: &str = "Print the operations of an expression and its shortest encoding";
 
@@ -119,25 +117,13 @@ Example:
 pub const NORMAL: &str =
     "Write the normal form of a section, which is equal for sections that mean the same";
 
-pub const AFTER_NORMAL: &str =
-    "Exit status: 0 done, 2 refused, 3 wrong arguments, 4 file or output fails, 5 out of memory
-
-Example:
-  dwframe normal --size 8 --order little a.bin > a.normal";
+pub const AFTER_NORMAL: &str = after!("0 done, 2 refused", "normal", "a.bin > a.normal");
 
 pub const SAME: &str =
     "Tell whether two sections mean the same: ranges, return address registers, rules at each address";
 
-pub const AFTER_SAME: &str =
-    "Exit status: 0 same, 1 different, 2 refused, 3 wrong arguments, 4 file or output fails, 5 out of memory
-
-Example:
-  dwframe same --size 8 --order little a.bin b.bin";
+pub const AFTER_SAME: &str = after!("0 same, 1 different, 2 refused", "same", "a.bin b.bin");
 
 pub const COST: &str = "Print the bytes and the rows of a section and of its normal form";
 
-pub const AFTER_COST: &str =
-    "Exit status: 0 done, 2 refused, 3 wrong arguments, 4 file or output fails, 5 out of memory
-
-Example:
-  dwframe cost --size 8 --order little a.bin";
+pub const AFTER_COST: &str = after!("0 done, 2 refused", "cost", "a.bin");
