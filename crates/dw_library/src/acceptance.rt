@@ -2,9 +2,7 @@
 
 ghost use Rattle.dw_library.specs.{Answers.target_of, Checked.{HasCounts, IsChecked}};
 
-use crate::answer::{
-    BAD_ARGUMENT, Counts, OK, OUT_OF_MEMORY, Refused, Section, not_refused, refuse, target_of,
-};
+use crate::answer::{BAD_ARGUMENT, Counts, OK, OUT_OF_MEMORY, Refused, Section, refuse, target_of};
 use dw_num::ReadError;
 use dw_section::{Table, check};
 use std::alloc::Global;
@@ -29,8 +27,8 @@ pub extern "C" fn dwframe_check(
 ) -> u32
     ensures { IsChecked (target_of section.now.address_size section.now.byte_order) section.now.bytes.now result counts.new refused.new }
 {
-    *counts = Counts { cies: 0, fdes: 0 };
-    *refused = not_refused();
+    *counts = Counts::default();
+    *refused = Refused::default();
     let Some(target) = target_of(section.address_size, section.byte_order) else {
         return BAD_ARGUMENT;
     };

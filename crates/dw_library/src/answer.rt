@@ -1,7 +1,7 @@
 //! What calls answer: statuses, refusals and counts, as `include/dwframe.h` declares them.
 
-ghost use Rattle.std.specs.Prelude.{◌≡◌, ◌⊎◌, ◌<◌, ◌≤◌, ◌++◌, drop, length};
-ghost use Rattle.dw_library.specs.Answers.{target_of, told, not_refused, ok, refused as the_refused, too_short};
+ghost use Rattle.std.specs.Prelude.{◌≡◌, ◌⊎◌, ◌<◌, ◌≤◌, ◌++◌, drop, length, slice_set};
+ghost use Rattle.dw_library.specs.Answers.{target_of, told, ok, refused as the_refused, too_short};
 
 use dw_num::{Order, Refusal, Size, Target};
 
@@ -35,7 +35,7 @@ pub struct Section<'a> {
 /// Why a section is refused: the number of the code, which section (1, or 2 for the second of two), and the place of the
 /// first bad byte. All are 0 where none is refused.
 #[repr(C)]
-#[derive(Clone, Copy)]
+#[derive(Clone, Copy, Default)]
 pub struct Refused {
     /// The number of the code, 1 to 27.
     pub code: u32,
@@ -47,22 +47,12 @@ pub struct Refused {
 
 /// How many CIEs and FDEs a section has.
 #[repr(C)]
-#[derive(Clone, Copy)]
+#[derive(Clone, Copy, Default)]
 pub struct Counts {
     /// Common information entries, whose `CIE_id` is all ones (6.4.1).
     pub cies: usize,
     /// Frame description entries, each with a `CIE_pointer`.
     pub fdes: usize,
-}
-
-pub(crate) fn not_refused() -> Refused
-    ensures { result ≡ not_refused }
-{
-    Refused {
-        code: 0,
-        section: 0,
-        at: 0,
-    }
 }
 
 /// The status of a section that is refused, and its refusal.
@@ -109,4 +99,15 @@ pub(crate) fn put_front<T: Copy>(items: &[T], out: &mut [T]) -> u32
     }
     out[..items.len()].copy_from_slice(items);
     OK
+}
+
+/// Writes an item to its place in a buffer, where it has one.
+#[inline(always)]
+pub(crate) fn put_at<T: Copy>(item: T, out: &mut [T], place: usize)
+    ensures inside { place < length out.old → out.new ≡ slice_set out.old place item }
+    ensures outside { length out.old ≤ place → out.new ≡ out.old }
+{
+    if place < out.len() {
+        out[place] = item;
+    }
 }

@@ -55,7 +55,7 @@ pub struct Frame {
 /// and what was wanted: the address and the length of a read where a byte is missing, or the register that is not given. All are
 /// 0 where nothing is wrong.
 #[repr(C)]
-#[derive(Clone, Copy)]
+#[derive(Clone, Copy, Default)]
 pub struct Fault {
     /// A register's number, or 65536 for the CFA.
     pub column: u32,
@@ -103,26 +103,16 @@ pub(crate) fn status_of(error: UnwindError) -> u32
     }
 }
 
-/// Nothing is wrong.
-pub(crate) const NO_FAULT: Fault = Fault {
-    column: 0,
-    kind: 0,
-    wanted: 0,
-    index: 0,
-    address: 0,
-    len: 0,
-};
-
 fn fault_of_read(column: Column, kind: u16, index: usize, address: u64, len: usize) -> Fault
     ensures { result ≡ fault_of_read column kind index address len }
 {
     Fault {
         column: column_of(column),
         kind,
-        wanted: 0,
         index,
         address,
         len,
+        ..Fault::default()
     }
 }
 
@@ -134,8 +124,7 @@ fn fault_of_register(column: Column, kind: u16, index: usize, register: u16) -> 
         kind,
         wanted: register,
         index,
-        address: 0,
-        len: 0,
+        ..Fault::default()
     }
 }
 
@@ -173,7 +162,7 @@ pub(crate) fn told_fault(error: UnwindError) -> Fault
         } => fault_of_read(column, 0, 0, address, len),
         UnwindError::NoRegister { column, register } => fault_of_register(column, 0, 0, register),
         UnwindError::Device { column } => fault_of_register(column, 0, 0, 0),
-        UnwindError::NoFde | UnwindError::OutOfMemory => NO_FAULT,
+        UnwindError::NoFde | UnwindError::OutOfMemory => Fault::default(),
     }
 }
 

@@ -1,14 +1,13 @@
 //! The rows of an FDE, one after another.
 
-ghost use Rattle.std.specs.{Prelude.{◌≡◌, ◌<◌, ◌≤◌, ◌++◌, ℕ, List, [], ◌∷◌, length, slice_index_or, slice_set, IfOk, OnErr}, List.AllByRecursion};
+ghost use Rattle.std.specs.{Prelude.{◌≡◌, ◌<◌, ◌≤◌, ◌++◌, ℕ, List, [], ◌∷◌, length, slice_index_or, IfOk, OnErr}, List.AllByRecursion};
 ghost use Rattle.dw_cfa.specs.Rows.{Rules};
 ghost use Rattle.dw_section.specs.{Meaning.AreFdes, Ranges.fde_in, declared.lookup.Fde.{Fde as TheFde}};
 ghost use Rattle.dw_library.specs.{Answers.target_of, Changes.{AreAllChanges, AreWritten, Fits, TellsChanges, TellsCovering, Told, no_totals}};
 ghost use Rattle.dw_library.specs.{declared.changes.Change.{Change as TheChange}, declared.index.Rule.{Rule as TheRule}, Inner.Changes.IsLow};
 
 use crate::answer::{
-    BAD_ARGUMENT, NO_FDE, OK, OUT_OF_MEMORY, Refused, Section, TOO_SHORT, not_refused, refuse,
-    target_of,
+    BAD_ARGUMENT, NO_FDE, OK, OUT_OF_MEMORY, Refused, Section, TOO_SHORT, put_at, refuse, target_of,
 };
 use crate::index::{Row, Rule, put_rules, told_row};
 use dw_cfa::Row as CfaRow;
@@ -29,18 +28,13 @@ pub struct Change {
 
 /// How many rows an FDE has, and how many rules of registers they have together, each 2^64 - 1 where there are more.
 #[repr(C)]
-#[derive(Clone, Copy)]
+#[derive(Clone, Copy, Default)]
 pub struct Totals {
     /// How many rows.
     pub changes: usize,
     /// How many rules of registers.
     pub rules: usize,
 }
-
-const NO_TOTALS: Totals = Totals {
-    changes: 0,
-    rules: 0,
-};
 
 fn fde_in(entry: &Ranged) -> Fde
     ensures { result ≡ fde_in entry.now }
@@ -49,16 +43,6 @@ fn fde_in(entry: &Ranged) -> Fde
         begin: entry.begin,
         end: u128::from(entry.begin) + u128::from(entry.range),
         return_register: entry.return_register,
-    }
-}
-
-// Writes a change to its place in a buffer, where it has one.
-fn put_at(out: &mut [Change], place: usize, change: Change)
-    ensures inside { place < length out.old → out.new ≡ slice_set out.old place change }
-    ensures outside { length out.old ≤ place → out.new ≡ out.old }
-{
-    if place < out.len() {
-        out[place] = change;
     }
 }
 
@@ -76,7 +60,7 @@ fn put_change(
     let place = before.rules.min(rules.len());
     let count = put_rules(row, &mut rules[place..]);
     let row = told_row(fde_in(entry), entry.range, row, count);
-    put_at(out, before.changes, Change { address, row });
+    put_at(Change { address, row }, out, before.changes);
     Totals {
         changes: before.changes.saturating_add(1),
         rules: before.rules.saturating_add(count),
@@ -93,7 +77,7 @@ fn put_changes(
     requires low { AllByRecursion IsLow changes.old.to_come }
     ensures { IfOk result (λ totals. AreWritten (fde_in entry.now) changes.old.to_come out.old rules.old out.new rules.new totals) }
 {
-    let mut totals = NO_TOTALS;
+    let mut totals = Totals::default();
     'told: while let Some(address) = changes.advance()? {
         let Some(row) = changes.row() else {
             unreachable!();
@@ -169,8 +153,8 @@ pub extern "C" fn dwframe_changes(
 ) -> u32
     ensures { let told : Told = record { status = result; changes = changes.new; rules = rules.new; needed = needed.new } in AreAllChanges (target_of section.now.address_size section.now.byte_order) section.now.bytes.now address changes.old rules.old told refused.new }
 {
-    *needed = NO_TOTALS;
-    *refused = not_refused();
+    *needed = Totals::default();
+    *refused = Refused::default();
     let Some(target) = target_of(section.address_size, section.byte_order) else {
         return BAD_ARGUMENT;
     };

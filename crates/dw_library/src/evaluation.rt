@@ -4,8 +4,8 @@ ghost use Rattle.std.specs.Prelude.{◌≡◌, ◌⊎◌, Err};
 ghost use Rattle.dw_eval.specs.declared.error.EvalError.TheVariants.{OutOfMemory};
 ghost use Rattle.dw_library.specs.{Answers.target_of, CallerFrame.held_in, Evaluation.{IsEvaluated, Told, ValueOf, known_if}};
 
-use crate::answer::{BAD_ARGUMENT, OK, OUT_OF_MEMORY, Refused, not_refused, refuse, target_of};
-use crate::caller::{Fault, Held, NO_FAULT, NO_VALUE, fault_of_kind};
+use crate::answer::{BAD_ARGUMENT, OK, OUT_OF_MEMORY, Refused, refuse, target_of};
+use crate::caller::{Fault, Held, NO_VALUE, fault_of_kind};
 use crate::registers::give_all;
 use crate::windows::Windows;
 use dw_eval::{Env, EvalError, Registers, evaluate};
@@ -94,8 +94,8 @@ pub extern "C" fn dwframe_evaluate(
     ensures { let told : Told = record { status = result; value = value.new; refusal = refused.new; fault = fault.new } in IsEvaluated (target_of context.now.address_size context.now.byte_order) block.now context.now (held_in held.now) told }
 {
     *value = 0;
-    *refused = not_refused();
-    *fault = NO_FAULT;
+    *refused = Refused::default();
+    *fault = Fault::default();
     let Some(target) = target_of(context.address_size, context.byte_order) else {
         return BAD_ARGUMENT;
     };

@@ -5,8 +5,8 @@ ghost use Rattle.dw_library.specs.{Answers.{out_of_memory, target_of}, Expressio
 ghost use Rattle.dw_library.specs.{Expressions.{TellsBlocks, Told, expressions_of, in_cfa, in_rule, no_blocks, says}, Inner.Expressions.Adds};
 
 use crate::answer::{
-    BAD_ARGUMENT, BAD_INDEX, NO_FDE, OK, OUT_OF_MEMORY, Refused, Section, TOO_SHORT, not_refused,
-    refuse, target_of,
+    BAD_ARGUMENT, BAD_INDEX, NO_FDE, OK, OUT_OF_MEMORY, Refused, Section, TOO_SHORT, refuse,
+    target_of,
 };
 use crate::caller::COLUMN_CFA;
 use dw_cfa::{CfaRule, RegRule, Row, RowRoom};
@@ -31,15 +31,13 @@ pub struct Block {
 
 /// How many expressions a row has, and how many bytes their blocks have together. Both are 0 where there is no row.
 #[repr(C)]
-#[derive(Clone, Copy)]
+#[derive(Clone, Copy, Default)]
 pub struct Blocks {
     /// How many expressions.
     pub count: usize,
     /// How many bytes.
     pub len: usize,
 }
-
-const NO_BLOCKS: Blocks = Blocks { count: 0, len: 0 };
 
 // Least blocks one after another, and where each stands.
 #[derive(Drop)]
@@ -152,8 +150,8 @@ pub extern "C" fn dwframe_expressions_at(
     // By any other they are those of the FDE that stands where an entry that covers the address leads, or none.
     ensures any { let old : Buffers = record { blocks = blocks.old; bytes = expressions.old } in let told : Told = record { status = result; buffers = record { blocks = blocks.new; bytes = expressions.new }; all = all.new } in AreAnyExpressions (target_of section.now.address_size section.now.byte_order) section.now.bytes.now index.now address old told refused.new }
 {
-    *all = NO_BLOCKS;
-    *refused = not_refused();
+    *all = Blocks::default();
+    *refused = Refused::default();
     let Some(target) = target_of(section.address_size, section.byte_order) else {
         return BAD_ARGUMENT;
     };

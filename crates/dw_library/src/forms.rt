@@ -4,7 +4,7 @@ ghost use Rattle.std.specs.Prelude.{◌≡◌};
 ghost use Rattle.dw_library.specs.{Answers.target_of, Forms.{IsCompared, IsNormalised, section_of, target_of_both}};
 
 use crate::answer::{
-    BAD_ARGUMENT, OK, OUT_OF_MEMORY, Refused, Section, not_refused, put_front, refuse, target_of,
+    BAD_ARGUMENT, OK, OUT_OF_MEMORY, Refused, Section, put_front, refuse, target_of,
 };
 use dw_normal::{SameError, Which, normalise, same};
 use dw_num::{ReadError, Target};
@@ -26,7 +26,7 @@ pub extern "C" fn dwframe_normalise(
     ensures { IsNormalised (target_of section.now.address_size section.now.byte_order) section.now.bytes.now result out.old out.new needed.new refused.new }
 {
     *needed = 0;
-    *refused = not_refused();
+    *refused = Refused::default();
     let Some(target) = target_of(section.address_size, section.byte_order) else {
         return BAD_ARGUMENT;
     };
@@ -71,7 +71,7 @@ pub extern "C" fn dwframe_same(
     ensures { IsCompared (target_of_both first.now.address_size first.now.byte_order second.now.address_size second.now.byte_order) first.now.bytes.now second.now.bytes.now result alike.new refused.new }
 {
     *alike = 0;
-    *refused = not_refused();
+    *refused = Refused::default();
     let Some(target) = target_of_both(first, second) else {
         return BAD_ARGUMENT;
     };

@@ -9,11 +9,9 @@ ghost use Rattle.dw_library.specs.{Answers.target_of, CallerFrame.{IsFrame, IsUn
 ghost use Rattle.dw_library.specs.{FrameAt.{IsAnyUnwound, IsFrameAt, IsOwnUnwound}, Registers.{told_register, AreTold}};
 ghost use Rattle.dw_library.specs.{Windows.byte_among, Inner.FrameAt.{IsOwn, Why, WhyOwn}};
 
-use crate::answer::{
-    BAD_ARGUMENT, BAD_INDEX, OUT_OF_MEMORY, Refused, Section, not_refused, refuse, target_of,
-};
+use crate::answer::{BAD_ARGUMENT, BAD_INDEX, OUT_OF_MEMORY, Refused, Section, refuse, target_of};
 use crate::caller::{
-    Fault, Frame, Held, NO_FAULT, NO_FRAME, Stop, policy_of, put_frame, status_of, told_fault,
+    Fault, Frame, Held, NO_FRAME, Stop, policy_of, put_frame, status_of, told_fault,
 };
 use crate::registers::{Register, give_all};
 use crate::windows::Windows;
@@ -126,8 +124,8 @@ pub extern "C" fn dwframe_unwind_at(
     ensures any { let told : Told = record { status = result; registers = out.new; frame = frame.new; refusal = refused.new; fault = fault.new } in IsAnyUnwound (target_of section.now.address_size section.now.byte_order) (policy_of stop.now.unset) section.now.bytes.now index.now stop.now (held_in held.now) out.old told }
 {
     *frame = NO_FRAME;
-    *refused = not_refused();
-    *fault = NO_FAULT;
+    *refused = Refused::default();
+    *fault = Fault::default();
     let Some(target) = target_of(section.address_size, section.byte_order) else {
         return BAD_ARGUMENT;
     };
@@ -171,8 +169,8 @@ pub extern "C" fn dwframe_unwind(
     ensures { let told : Told = record { status = result; registers = out.new; frame = frame.new; refusal = refused.new; fault = fault.new } in IsUnwound (target_of section.now.address_size section.now.byte_order) (policy_of stop.now.unset) section.now.bytes.now stop.now (held_in held.now) out.old told }
 {
     *frame = NO_FRAME;
-    *refused = not_refused();
-    *fault = NO_FAULT;
+    *refused = Refused::default();
+    *fault = Fault::default();
     let Some(target) = target_of(section.address_size, section.byte_order) else {
         return BAD_ARGUMENT;
     };

@@ -1,6 +1,6 @@
 //! Look-ups by an index that the caller keeps.
 
-ghost use Rattle.std.specs.Prelude.{◌≡◌, ◌+◌, ◌<◌, ◌≤◌, IfOk, IfErr, OnErr, MatchResult, length, map, slice_set};
+ghost use Rattle.std.specs.Prelude.{◌≡◌, ◌+◌, ◌<◌, ◌≤◌, IfOk, IfErr, OnErr, MatchResult, length, map};
 ghost use Rattle.dw_op.specs.Faults.{IsWithin};
 ghost use Rattle.dw_section.specs.{Ranges.IsTable, StandingFde.{LookUpFault, Misleads, RefusesAs}};
 ghost use Rattle.dw_section.specs.declared.standing_fde.LookUpError.TheVariants as TheLookUpError;
@@ -8,7 +8,7 @@ ghost use Rattle.dw_library.specs.{Answers.target_of, Index.{HasSize, IsAnyRow, 
 ghost use Rattle.dw_library.specs.Index.{TellsRules, Told, cfa_kind_of, cfa_offset_of, cfa_register_of, no_row, over, row_of, rule_of};
 
 use crate::answer::{
-    BAD_ARGUMENT, BAD_INDEX, NO_FDE, OK, OUT_OF_MEMORY, Refused, Section, TOO_SHORT, not_refused,
+    BAD_ARGUMENT, BAD_INDEX, NO_FDE, OK, OUT_OF_MEMORY, Refused, Section, TOO_SHORT, put_at,
     put_front, refuse, target_of,
 };
 use dw_cfa::{CfaRule, RegRule, Row as CfaRow, RowRoom};
@@ -36,7 +36,7 @@ pub struct Rule {
 /// The row of an address: its FDE's first address and how many it covers, the rule of the CFA, how many registers have a
 /// rule, and the number of the one that holds the return address. All are 0 where there is none.
 #[repr(C)]
-#[derive(Clone, Copy)]
+#[derive(Clone, Copy, Default)]
 pub struct Row {
     /// `initial_location` of the FDE (6.4.1).
     pub begin: u64,
@@ -66,7 +66,7 @@ pub extern "C" fn dwframe_index_size(
     ensures { HasSize (target_of section.now.address_size section.now.byte_order) section.now.bytes.now result size.new refused.new }
 {
     *size = 0;
-    *refused = not_refused();
+    *refused = Refused::default();
     let Some(target) = target_of(section.address_size, section.byte_order) else {
         return BAD_ARGUMENT;
     };
@@ -93,7 +93,7 @@ pub extern "C" fn dwframe_index(
     ensures { IsIndexed (target_of section.now.address_size section.now.byte_order) section.now.bytes.now result out.old out.new written.new refused.new }
 {
     *written = 0;
-    *refused = not_refused();
+    *refused = Refused::default();
     let Some(target) = target_of(section.address_size, section.byte_order) else {
         return BAD_ARGUMENT;
     };
@@ -139,17 +139,6 @@ fn any_rule(number: u16, rule: &RegRule<'_>) -> Rule
     }
 }
 
-// Writes a rule to its place in a buffer, where it has one.
-#[inline(always)]
-fn put_rule(out: &mut [Rule], place: usize, rule: Rule)
-    ensures inside { place < length out.old → out.new ≡ slice_set out.old place rule }
-    ensures outside { length out.old ≤ place → out.new ≡ out.old }
-{
-    if place < out.len() {
-        out[place] = rule;
-    }
-}
-
 /// Writes the rules of a row to the front of a buffer, as many as fit, and tells how many there are.
 pub(crate) fn put_rules(row: &CfaRow<'_>, out: &mut [Rule]) -> usize
     ensures count { result ≡ length row.now.registers }
@@ -159,29 +148,15 @@ pub(crate) fn put_rules(row: &CfaRow<'_>, out: &mut [Rule]) -> usize
     let mut count: usize = 0;
     'rules: loop {
         if let Some((number, offset)) = rules.next_offset() {
-            put_rule(out, count, told_rule(number, 3, 0, offset));
+            put_at(told_rule(number, 3, 0, offset), out, count);
             count += 1;
             continue;
         }
         let Some((number, rule)) = rules.next() else {
             return count;
         };
-        put_rule(out, count, any_rule(number, &rule));
+        put_at(any_rule(number, &rule), out, count);
         count += 1;
-    }
-}
-
-pub(crate) fn no_row() -> Row
-    ensures { result ≡ no_row }
-{
-    Row {
-        begin: 0,
-        range: 0,
-        cfa_offset: 0,
-        count: 0,
-        cfa_kind: 0,
-        cfa_register: 0,
-        return_register: 0,
     }
 }
 
@@ -268,8 +243,8 @@ pub extern "C" fn dwframe_row_at(
     // By any other it tells what the FDE says that stands where an entry that covers the address leads, or that no entry or no such FDE does.
     ensures any { let told : Told = record { status = result; row = row.new; rules = rules.new } in IsAnyRow (target_of section.now.address_size section.now.byte_order) section.now.bytes.now index.now address rules.old told refused.new }
 {
-    *row = no_row();
-    *refused = not_refused();
+    *row = Row::default();
+    *refused = Refused::default();
     let Some(target) = target_of(section.address_size, section.byte_order) else {
         return BAD_ARGUMENT;
     };

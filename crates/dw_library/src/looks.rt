@@ -5,9 +5,9 @@ ghost use Rattle.dw_library.specs.{Answers.target_of, Index.over, Looks.{AreLook
 ghost use Rattle.dw_library.specs.{declared.index.Rule.{Rule as TheRule}, Inner.Looks.{IsLeft, status_of}};
 
 use crate::answer::{
-    BAD_ARGUMENT, OK, OUT_OF_MEMORY, Refused, Section, TOO_SHORT, not_refused, refuse, target_of,
+    BAD_ARGUMENT, OK, OUT_OF_MEMORY, Refused, Section, TOO_SHORT, refuse, target_of,
 };
-use crate::index::{Row, Rule, no_row, put_rules, told_row};
+use crate::index::{Row, Rule, put_rules, told_row};
 use dw_num::ReadError;
 use dw_section::{Lookups, Table, check};
 use std::alloc::{AllocError, Global};
@@ -47,7 +47,7 @@ fn put_look(
     table.accepted();
     lookups.find(address)?;
     let Some(specified) = lookups.row() else {
-        *row = no_row();
+        *row = Row::default();
         return Ok(0);
     };
     let Some(found) = lookups.fde() else {
@@ -136,7 +136,7 @@ pub extern "C" fn dwframe_rows_at(
     ensures { let told : ToldRows = record { status = result; done = done.new; rows = rows.new; rules = rules.new } in AreLooks (target_of section.now.address_size section.now.byte_order) section.now.bytes.now addresses.now rows.old rules.old told refused.new }
 {
     *done = 0;
-    *refused = not_refused();
+    *refused = Refused::default();
     let Some(target) = target_of(section.address_size, section.byte_order) else {
         return BAD_ARGUMENT;
     };

@@ -5,11 +5,11 @@ pub rules-preserved-in-Some : goal.rules-preserved-in-Some
 rules-preserved-in-Some c =
     let low : c.in-Some.number < 65536 = search rules in
     let fits : FitsSigned w64 c.in-Some.offset = search rules in
-    overlaid_more c.rules.invariant c.in-Some.ensures (rw (to_z-of_z w64 c.in-Some.offset fits) at c.told_rule.ensures) low c.put_rule.ensures.inside c.put_rule.ensures.outside
+    overlaid_more c.rules.invariant c.in-Some.ensures (rw (to_z-of_z w64 c.in-Some.offset fits) at c.told_rule.ensures) low c.put_at.ensures.inside c.put_at.ensures.outside
 
 pub rules-preserved : goal.rules-preserved
 rules-preserved c =
-    overlaid_more c.rules.invariant (sym c.in_default.ensures ∙ c.in-Some-next.ensures.steps) c.any_rule.ensures.told c.any_rule.ensures.fits c.put_rule-in-rules.ensures.inside c.put_rule-in-rules.ensures.outside
+    overlaid_more c.rules.invariant (sym c.in_default.ensures ∙ c.in-Some-next.ensures.steps) c.any_rule.ensures.told c.any_rule.ensures.fits c.put_at-in-rules.ensures.inside c.put_at-in-rules.ensures.outside
 
 pub returns-in_default-next-clause-rules : goal.returns-in_default-next-clause-rules
 returns-in_default-next-clause-rules c = overlaid_all c.rules.invariant (sym c.in_default.ensures ∙ c.in_default-next.ensures.steps.0)

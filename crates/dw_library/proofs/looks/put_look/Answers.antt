@@ -1,10 +1,10 @@
-use Rattle.dw_library.proofs.{Words.{List, map, [], Some, refl, sym, ap, ◌∙◌, inl, inr, length-map, AreFdes, Fde, rule_of}, Written.{has_fde, lent_listed, none_covers, rules_there}}
+use Rattle.dw_library.proofs.{Words.{List, map, [], Some, refl, rules, sym, ap, ◌∙◌, inl, inr, length-map, AreFdes, Fde, rule_of}, Written.{has_fde, lent_listed, none_covers, rules_there}}
 use Rattle.dw_library.proofs.looks.put_look.Goals as goal
 
 pub returns-in_default-clause-look : goal.returns-in_default-clause-look
 returns-in_default-clause-look c =
     let looks = rw c.requires.section at c.in_ok-find.ensures.found in
-    (record { row = c.no_row.result; rules = [] }, inr (λ fs are. none_covers c.args.table.now fs c.args.address _ _ (looks fs are) c.in_default.ensures, c.no_row.ensures, refl), refl, refl, refl)
+    (record { row = c.default.result; rules = [] }, inr (λ fs are. none_covers c.args.table.now fs c.args.address _ _ (looks fs are) c.in_default.ensures, search rules, refl), refl, refl, refl)
 
 pub returns-clause-look : goal.returns-clause-look
 returns-clause-look c =
