@@ -53,16 +53,10 @@ adds_none : (g : Gathered) → Adds [] g g
 adds_none g = ([], [], (refl, refl), sym (append-nil g.blocks.items), sym (append-nil g.bytes.items))
 
 pub no_cfa : (g : Gathered) (rule : CfaRule) → ((e : Expression) → rule ≡ cfa.Expression e → ⊥) → Adds (in_cfa rule) g g
-no_cfa g cfa.Unset none = adds_none g
-no_cfa g (cfa.Register r n) none = adds_none g
 no_cfa g (cfa.Expression e) none = absurd (none e refl)
+no_cfa g rule none = adds_none g
 
 pub no_rule : (g : Gathered) (r : ℕ) (rule : RegRule) → ((e : Expression) → rule ≡ rules.Expression e → ⊥) → ((e : Expression) → rule ≡ rules.ValExpression e → ⊥) → Adds (in_rule r rule) g g
-no_rule g r rules.Unspecified none other = adds_none g
-no_rule g r rules.Undefined none other = adds_none g
-no_rule g r rules.SameValue none other = adds_none g
-no_rule g r (rules.Offset n) none other = adds_none g
-no_rule g r (rules.ValOffset n) none other = adds_none g
-no_rule g r (rules.Register q) none other = adds_none g
 no_rule g r (rules.Expression e) none other = absurd (none e refl)
 no_rule g r (rules.ValExpression e) none other = absurd (other e refl)
+no_rule g r rule none other = adds_none g

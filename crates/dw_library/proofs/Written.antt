@@ -69,6 +69,14 @@ module _ (s : Section) (fs : List Fde) (a : ℕ) where
       let one : found ≡ fde = same_Some found fde (sym is ∙ same) in
       (subst (λ (f : Fde). IsAmong f fs) one listed, subst (Covers a) one covers)
 
+-- one more item behind those that were put in a buffer
+pub put_next : {X : Type 0} (done old : List X) (x : X) → length done < length old → slice_set (done ++ drop (length done) old) (length done) x ≡ (done ++ x ∷ []) ++ drop (length done + 1) old
+put_next {X} done old x lt =
+    let next : suc (length done) ≡ length done + 1 = omega arith in
+    ap (λ (l : List X). slice_set (done ++ l) (length done) x) (drop-cons old (length done) x lt)
+    ∙ set-append_seam done (get_or old (length done) x) (drop (suc (length done)) old) x ∙ sym (append_snoc done x (drop (suc (length done)) old))
+    ∙ ap (λ (k : ℕ). (done ++ x ∷ []) ++ drop k old) next
+
 zip_more : {X Y : Type 0} (R : X → Y → Type 0) (xs : List X) (ys : List Y) (x : X) (y : Y) → AllZip R xs ys → R x y → AllZip R (xs ++ x ∷ []) (ys ++ y ∷ [])
 zip_more R [] [] x y all r = (r, tt)
 zip_more R [] (b ∷ ys) x y all r = absurd all
@@ -100,16 +108,13 @@ module _ {target : Target} {s asked : List ℕ} {rows rows_now : List Row} {rule
       let long : length before ≡ n = length-map w.looks (λ (k : Look). k.row) ∙ AllZip-long (IsLook target s) (take n asked) w.looks w.each ∙ length-take-le n asked (omega arith) in
       let first : take (n + 1) asked ≡ take n asked ++ get_or asked n 0 ∷ [] = ap (λ (k : ℕ). take k asked) (sym next) ∙ take-suc asked n 0 lt in
       let all : rules_in w.looks ++ l.rules ≡ rules_in (w.looks ++ l ∷ []) = flat_map_more (λ (k : Look). k.rules) [] w.looks l in
-      let rest : rows_now ≡ before ++ get_or rows n l.row ∷ drop (n + 1) rows =
-      w.rows_are ∙ ap (λ (k : List Row). before ++ k) (drop-cons rows n l.row fits ∙ ap (λ (k : ℕ). get_or rows n l.row ∷ drop k rows) next) in
-      let set : slice_set rows_now n l.row ≡ before ++ l.row ∷ drop (n + 1) rows =
-      ap (λ (k : List Row). slice_set k n l.row) rest
-      ∙ subst (λ (k : ℕ). slice_set (before ++ get_or rows n l.row ∷ drop (n + 1) rows) k l.row ≡ before ++ l.row ∷ drop (n + 1) rows) long (set-append_seam before (get_or rows n l.row) (drop (n + 1) rows) l.row) in
+      let set : slice_set rows_now n l.row ≡ (before ++ l.row ∷ []) ++ drop (n + 1) rows =
+      ap (λ (k : List Row). slice_set k n l.row) w.rows_are
+      ∙ subst (λ (k : ℕ). slice_set (before ++ drop k rows) k l.row ≡ (before ++ l.row ∷ []) ++ drop (k + 1) rows) long (put_next before rows l.row (omega (arith, long, fits))) in
       record {
         looks = w.looks ++ l ∷ [];
         each = subst (λ (k : List ℕ). AllZip (IsLook target s) k (w.looks ++ l ∷ [])) (sym first) (zip_more (IsLook target s) (take n asked) w.looks (get_or asked n 0) l w.each is);
-        rows_are = ap (λ (k : Row). slice_set rows_now n k) row_is ∙ set ∙ sym (append_snoc before l.row (drop (n + 1) rows))
-            ∙ ap (λ (k : List Row). k ++ drop (n + 1) rows) (sym (map_push (λ (k : Look). k.row) w.looks l));
+        rows_are = ap (λ (k : Row). slice_set rows_now n k) row_is ∙ set ∙ ap (λ (k : List Row). k ++ drop (n + 1) rows) (sym (map_push (λ (k : Look). k.row) w.looks l));
         rules_are = rules_are ∙ ap (λ (k : List Rule). over k rules) all;
         left = subst (λ (k : List Rule). IsLeft (length rules) k behind) all (subst (λ (k : ℕ). IsLeft k (rules_in w.looks ++ l.rules) behind) same_long left);
       }

@@ -1,13 +1,6 @@
-use Rattle.dw_library.proofs.Words.{◌≡◌, ℕ, suc, ◌+◌, ◌<◌, List, [], ◌∷◌, ◌++◌, length, take, drop, map, get_or, slice_set, sym, ap, subst, ◌∙◌, arith, Option, None, append_snoc, drop-cons, set-append_seam, take-suc, length-map}
-use Rattle.dw_library.proofs.Words.{length-take-le, map_push, Register, told_register}
+use Rattle.dw_library.proofs.Words.{◌≡◌, ℕ, suc, ◌+◌, ◌<◌, List, [], ◌∷◌, ◌++◌, length, take, drop, map, get_or, slice_set, sym, ap, subst, ◌∙◌, arith, Option, None, take-suc, length-map}
+use Rattle.dw_library.proofs.{Words.{length-take-le, map_push, Register, told_register}, Written.put_next}
 use Rattle.dw_library.proofs.registers.put_registers.Goals as goal
-
--- one more item behind those that were put in a buffer
-put_next : (done old : List Register) (r : Register) → length done < length old → slice_set (done ++ drop (length done) old) (length done) r ≡ (done ++ r ∷ []) ++ drop (suc (length done)) old
-put_next done old r lt =
-    ap (λ (l : List Register). slice_set (done ++ l) (length done) r) (drop-cons old (length done) r lt)
-    ∙ set-append_seam done (get_or old (length done) r) (drop (suc (length done)) old) r
-    ∙ sym (append_snoc done r (drop (suc (length done)) old))
 
 told_next : (entries : List (ℕ × Option ℕ)) (old : List Register) (n : ℕ) → n < length entries → n < length old
     → slice_set (map told_register (take n entries) ++ drop n old) n (told_register (get_or entries n (0, None))) ≡ map told_register (take (n + 1) entries) ++ drop (n + 1) old
@@ -18,8 +11,8 @@ told_next entries old n lt fits =
     let long : length done ≡ n = length-map (take n entries) told_register ∙ length-take-le n entries (omega arith) in
     let more : done ++ r ∷ [] ≡ map told_register (take (n + 1) entries) =
     sym (map_push told_register (take n entries) (get_or entries n (0, None))) ∙ ap (map told_register) (sym (take-suc entries n (0, None) lt) ∙ ap (λ (k : ℕ). take k entries) next) in
-    subst (λ (k : ℕ). slice_set (done ++ drop k old) k r ≡ (done ++ r ∷ []) ++ drop (suc k) old) long (put_next done old r (omega (arith, long)))
-    ∙ ap (λ (l : List Register). l ++ drop (suc n) old) more ∙ ap (λ (k : ℕ). map told_register (take (n + 1) entries) ++ drop k old) next
+    subst (λ (k : ℕ). slice_set (done ++ drop k old) k r ≡ (done ++ r ∷ []) ++ drop (k + 1) old) long (put_next done old r (omega (arith, long)))
+    ∙ ap (λ (l : List Register). l ++ drop (n + 1) old) more
 
 pub entries-preserved : goal.entries-preserved
 entries-preserved c =
