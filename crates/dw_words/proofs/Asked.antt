@@ -45,15 +45,7 @@ Alike a b word =
 alike : (n : Name) → Alike (asked (Some n)) dwframe (text_of n)
 unfolding clap_on_literals
 alike names.At = ((refl, refl), (refl, refl), refl, refl, refl, refl)
-alike names.Check = ((refl, refl), (refl, refl), refl, refl, refl, refl)
-alike names.Cost = ((refl, refl), (refl, refl), refl, refl, refl, refl)
-alike names.Entries = ((refl, refl), (refl, refl), refl, refl, refl, refl)
-alike names.Eval = ((refl, refl), (refl, refl), refl, refl, refl, refl)
-alike names.Expr = ((refl, refl), (refl, refl), refl, refl, refl, refl)
-alike names.Normal = ((refl, refl), (refl, refl), refl, refl, refl, refl)
-alike names.Rows = ((refl, refl), (refl, refl), refl, refl, refl, refl)
-alike names.Same = ((refl, refl), (refl, refl), refl, refl, refl, refl)
-alike names.Unwind = ((refl, refl), (refl, refl), refl, refl, refl, refl)
+alike other = ((refl, refl), (refl, refl), refl, refl, refl, refl)
 
 -- a simple command, which wants a subcommand, reads words as the whole one does
 abbrev pub Reads : App → List Text → Type 0

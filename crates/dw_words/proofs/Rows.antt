@@ -128,10 +128,7 @@ use_full again a values rows g none full = go (action_of a) (both (good_by (acti
     go action.SetFalse h = absurd (true≢false (sym h))
     go action.Append h = with_values_full a.id (reading_by a) _ _ _ (set_starts a values h (first_none _ _ none)) full
     go action.Count h = absurd (true≢false (sym h))
-    go action.Help h = full
-    go action.HelpShort h = full
-    go action.HelpLong h = full
-    go action.Version h = full
+    go other h = full
 
 -- ---- the walk
 
@@ -190,19 +187,17 @@ module _ (c : List Rule) (all : list_all good c ≡ true) (again : Bool) where
       go (Some x) (suc skip) e later = later (drop (length (encode_utf8 x)) flags) skip so_far h e full
 
   plain_full : (waiting : Waiting) (word : Text) (h : Held) → Full h.rows → Full (plain_word c waiting word h).0.rows
-  plain_full steps.idle word h full = full
-  plain_full steps.positional word h full = full
   plain_full (steps.option id) word h full = go (arg_by_id c id)
     where
       go : (o : Option Rule) → Full (option_word o id word h).0.rows
       go None = full
       go (Some a) = full
+  plain_full other word h full = full
 
   after_full : (waiting : Waiting) (word : Text) (h : Held) (o : Outcome) → Full h.rows → Full (after_flag c waiting word h o).0.rows
-  after_full waiting word h steps.done full = full
-  after_full waiting word h (steps.waits id) full = full
   after_full waiting word h steps.plain full = plain_full waiting word h full
   after_full waiting word h steps.refused full = plain_full waiting word h full
+  after_full waiting word h other full = full
 
   short_word_full : (waiting : Waiting) (word : Text) (o : Option Text) (h : Held) → option_map_or (λ flags. bundle_fault c again flags h) o [] ≡ [] → Full h.rows
       → Full (short_or_plain c waiting word o h).0.rows
@@ -240,14 +235,12 @@ module _ (s : Shape) (all : list_all good s.rules ≡ true) (names : Names) wher
       go None e = other (bytes_eq word (45 ∷ 45 ∷ [])) e
 
   step_full : (w : Walk) (word : Text) (h : Held) (step : Step) → step_fault s w.position h step ≡ [] → Full h.rows → Full (after_step s.rules word w h step).held.rows
-  step_full w word h (steps.next waiting) none full = full
-  step_full w word h (steps.trailing position) none full = full
-  step_full w word h (steps.subcommand name) none full = full
   step_full w word h steps.value none full = go (arg_by_index s.rules w.position) none
     where
       go : (o : Option Rule) → option_map_or (λ a. positional_fault s.rules s.args_override_self a h) o (stray_fault s) ≡ [] → Full (to_positional s.rules o word w h).held.rows
       go None e = full
       go (Some a) e = positional_full s.rules all s.args_override_self a word h e full
+  step_full w word h other none full = full
 
   turn_full : (w : Walk) (word : Text) → turn_fault s names w word ≡ [] → Full w.held.rows → Full (walked s.rules names w word).held.rows
   unfolding walked

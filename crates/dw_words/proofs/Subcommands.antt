@@ -15,14 +15,12 @@ IsNoSubcommand _ = Unit {0}
 
 plain_is_none : (c : List Rule) (waiting : Waiting) (word : Text) (h : Held) → IsNoSubcommand (plain_word c waiting word h).1
 plain_is_none c steps.idle word h = tt
-plain_is_none c steps.positional word h = tt
-plain_is_none c (steps.option id) word h = tt
+plain_is_none c other word h = tt
 
 flag_is_none : (c : List Rule) (waiting : Waiting) (word : Text) (h : Held) (o : Outcome) → IsNoSubcommand (after_flag c waiting word h o).1
-flag_is_none c waiting word h steps.done = tt
-flag_is_none c waiting word h (steps.waits id) = tt
 flag_is_none c waiting word h steps.plain = plain_is_none c waiting word h
 flag_is_none c waiting word h steps.refused = plain_is_none c waiting word h
+flag_is_none c waiting word h other = tt
 
 short_is_none : (c : List Rule) (waiting : Waiting) (word : Text) (h : Held) (o : Option Text) → IsNoSubcommand (short_or_plain c waiting word o h).1
 short_is_none c waiting word h None = plain_is_none c waiting word h
@@ -42,21 +40,18 @@ IsOther (steps.subcommand name) = bytes_eq name (codes "help") ≡ false
 IsOther _ = Unit {0}
 
 other_than : (step : Step) → IsNoSubcommand step → IsOther step
-other_than (steps.next waiting) h = tt
-other_than (steps.trailing position) h = tt
 other_than (steps.subcommand name) h = absurd h
-other_than steps.value h = tt
+other_than other h = tt
 
 module _ (s : Shape) (enabled : s.disable_help_subcommand ≡ false) (names : Names) where
   step_names : (w : Walk) (word : Text) (h : Held) (step : Step) → IsOther step → IsNotHelp w.stopped → IsNotHelp (after_step s.rules word w h step).stopped
-  step_names w word h (steps.next waiting) ok h0 = h0
-  step_names w word h (steps.trailing position) ok h0 = h0
   step_names w word h (steps.subcommand name) ok h0 = ok
   step_names w word h steps.value ok h0 = go (arg_by_index s.rules w.position)
     where
       go : (o : Option Rule) → IsNotHelp (to_positional s.rules o word w h).stopped
       go None = h0
       go (Some a) = tt
+  step_names w word h other ok h0 = h0
 
   word_names : (t : Bool) (waiting : Waiting) (position : ℕ) (word : Text) (h : Held) → word_fault s names t waiting word h ≡ [] → IsOther (word_met s.rules names t waiting position word h).1
   word_names true waiting position word h none = tt
