@@ -1,21 +1,11 @@
 //! Whether a section is accepted, and the names of refusals.
 
-ghost use Rattle.dw_library.specs.{Answers.target_of, Checked.{HasCounts, IsChecked}};
+ghost use Rattle.dw_library.specs.{Answers.target_of, Checked.IsChecked};
 
 use crate::answer::{BAD_ARGUMENT, Counts, OK, OUT_OF_MEMORY, Refused, Section, refuse, target_of};
 use dw_num::ReadError;
-use dw_section::{Table, check};
+use dw_section::{EntryCounts, check};
 use std::alloc::Global;
-
-fn counts_in(table: &Table<'_>) -> Counts
-    ensures { HasCounts table.now.target table.now.bytes result }
-{
-    let counts = table.counts();
-    Counts {
-        cies: counts.cies,
-        fdes: counts.fdes,
-    }
-}
 
 /// Judges a section: `OK` and how many entries it has where it is accepted, `REFUSED` with its first fault where it is not.
 #[unsafe(no_mangle)]
@@ -34,7 +24,8 @@ pub extern "C" fn dwframe_check(
     };
     match check(alloc, section.bytes, target) {
         Ok(table) => {
-            *counts = counts_in(&table);
+            let EntryCounts { cies, fdes } = table.counts();
+            *counts = Counts { cies, fdes };
             OK
         }
         Err(ReadError::Refused(refusal)) => refuse(refused, 1, refusal),

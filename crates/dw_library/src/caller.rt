@@ -166,17 +166,6 @@ pub(crate) fn told_fault(error: UnwindError) -> Fault
     }
 }
 
-fn told_frame(frame: &CallerFrame<'_>) -> Frame
-    ensures { result ≡ told_frame frame.now }
-{
-    Frame {
-        cfa: frame.cfa,
-        count: frame.registers.values().len(),
-        return_register: frame.return_register,
-        reserved: [0; 3],
-    }
-}
-
 /// What a machine held.
 #[repr(C)]
 #[derive(Clone, Copy)]
@@ -194,6 +183,11 @@ pub(crate) fn put_frame(found: &CallerFrame<'_>, out: &mut [Register], frame: &m
     ensures frame { frame.new ≡ told_frame found.now }
     ensures registers { AreTold (map told_register found.now.registers) out.old result out.new }
 {
-    *frame = told_frame(found);
+    *frame = Frame {
+        cfa: found.cfa,
+        count: found.registers.values().len(),
+        return_register: found.return_register,
+        reserved: [0; 3],
+    };
     put_registers(found.registers.values(), out)
 }
