@@ -13,9 +13,7 @@ use crate::request::{Evaluation, Job, Lookup, Name, PlanError, Request, Task, Un
 use crate::values::{address, block_of, decimal, default_of, order_of, profile_of, size_of};
 use clap::ArgMatches;
 use clap::error::ErrorKind;
-use dw_eval::Policy;
 use dw_num::{Size, Target};
-use dw_op::Profile;
 use hex::FromHexError;
 use std::alloc::{AllocError, Global};
 
