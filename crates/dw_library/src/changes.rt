@@ -1,6 +1,6 @@
 //! The rows of an FDE, one after another.
 
-ghost use Rattle.std.specs.{Prelude.{◌≡◌, ◌<◌, ◌≤◌, ◌++◌, ℕ, List, [], ◌∷◌, length, slice_index_or, IfOk, OnErr}, List.AllByRecursion};
+ghost use Rattle.std.specs.{Prelude.{◌≡◌, ◌<◌, ◌++◌, ℕ, List, [], ◌∷◌, length, slice_index_or, IfOk, OnErr}, List.AllByRecursion};
 ghost use Rattle.dw_cfa.specs.Rows.{Rules};
 ghost use Rattle.dw_section.specs.{Meaning.AreFdes, Ranges.fde_in, declared.lookup.Fde.{Fde as TheFde}};
 ghost use Rattle.dw_library.specs.{Answers.target_of, Changes.{AreAllChanges, AreWritten, Fits, TellsChanges, TellsCovering, Told, no_totals}};
