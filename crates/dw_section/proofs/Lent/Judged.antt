@@ -44,6 +44,9 @@ module _ (target : Target) (hs : List Head) (c : Initial) (is : IsInitial target
   begins_so : InitialInstrs target hs f.cie_at (initial_head is.0 c) is.1
   begins_so = record { among = is.2; stands = place; spelled = is.4.program }
 
+  pub fde_broken : (r : Refusal) → FdeFault c.factors is.3.cfa (input_of target f.program) f.begin r → FdeBroken target hs (fde f) r
+  fde_broken r fault = (initial_head is.0 c, is.1, begins_so, subst (λ (x : CfaRule). FdeFault c.factors x (input_of target f.program) f.begin r) is.4.cfa fault)
+
   module _ (instrs : List Instr) (rows : List LocatedRow) (given : RulesBehind c.factors is.3 (input_of target f.program) f.begin instrs rows) where
     instrs_so : Instrs target hs f.cie_at f.program is.1 instrs
     instrs_so = record { head = initial_head is.0 c; begins = begins_so; spelled = given.program }
