@@ -16,18 +16,18 @@ import sys
 
 # Lines of sources, and of proofs.
 BUDGET = {
-    "dw_num": (987, 1285),
-    "dw_op": (2173, 4233),
-    "dw_eval": (1623, 1463),
-    "dw_cfa": (5774, 5553),
-    "dw_section": (3000, 5794),
-    "dw_canon": (53, 3601),
-    "dw_normal": (2897, 3193),
-    "dw_unwind": (1659, 2430),
-    "dw_words": (976, 1163),
+    "dw_num": (950, 1187),
+    "dw_op": (2102, 3969),
+    "dw_eval": (1519, 1117),
+    "dw_cfa": (4998, 5391),
+    "dw_section": (2976, 5540),
+    "dw_canon": (53, 3324),
+    "dw_normal": (2897, 3009),
+    "dw_unwind": (1658, 2304),
+    "dw_words": (950, 1004),
     "dw_command": (2360, 2150),
     "dwframe": (277, 0),
-    "dw_library": (1992, 806),
+    "dw_library": (1920, 800),
 }
 COLUMNS = ["sources", "functions", "public", "specs", "inner", "proofs", "longest"]
 FUNCTION = re.compile(r'^\s*(pub(?:\([a-z]+\))? )?(?:extern "C" )?fn ', re.M)
