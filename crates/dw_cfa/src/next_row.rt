@@ -36,9 +36,9 @@ pub(crate) fn fail(
     error
 }
 
-// Brings a CIE's row about, where no row of an FDE was gone on to yet. Out of line: room for its errors is cleared at each row else.
+// Brings a CIE's row about, where no row of an FDE was gone on to yet.
 #[tactic(auto, using(crate::proofs::RunSteps::run_ran))]
-#[inline(never)]
+#[inline(always)]
 fn begin<'a>(
     progress: &mut Progress,
     leading: &Leading<'a>,
