@@ -9,9 +9,9 @@ use crate::machine::{End, refused};
 use crate::opcode::{block, plain, signed};
 use dw_num::{Cursor, Refusal};
 
-/// The CFA is a register plus an offset. Out of line, as few programs of FDEs say it.
+/// The CFA is a register plus an offset.
 #[tactic(auto, unfolding(crate::specs::Inner::ByOpcode::def_cfa_at))]
-#[inline(never)]
+#[inline(always)]
 pub(crate) fn run_def_cfa<'a, K: Keep<'a>>(
     cursor: &mut Cursor<'a>,
     keep: &mut K,

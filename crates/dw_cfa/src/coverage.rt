@@ -46,6 +46,7 @@ fn lacks_at_last(lacks: bool, row: &Row<'_>, end: u128, low: u128) -> bool
 }
 
 /// Runs a program to its end, and says whether its rows leave an address below the end without a rule for the CFA.
+#[inline(always)]
 pub(crate) fn lacks_rule<'a>(
     cursor: &mut Cursor<'a>,
     factors: Factors,
@@ -57,20 +58,22 @@ pub(crate) fn lacks_rule<'a>(
     ensures refused { IfErr result (Refuses (λ r. (rows_left factors cursor.old machine.old).fault ≡ Some r)) }
     ensures so { OnOk result (RunsSo machine.new cursor.new) }
     ensures initial { machine.new.initial ≡ machine.old.initial }
+    ensures kept { machine.new.states.kept ≡ machine.old.states.kept }
 {
     let mut lacks = false;
+    let mut low = machine.location;
     let code = Code::Truncated;
     let mut fault = Refusal { code, at: 0 };
     'instrs: while cursor.left() > 0 {
-        let low = machine.location;
         match turn(cursor, factors, machine, &mut fault) {
             End::On => {}
             End::Moved => {
                 lacks = lacks_now(lacks, machine.states.row(), end, low, machine.location);
+                low = machine.location;
             }
             End::Refused => return Err(ReadError::Refused(fault)),
             End::OutOfMemory => return Err(ReadError::OutOfMemory),
         }
     }
-    Ok(lacks_at_last(lacks, machine.states.row(), end, machine.location))
+    Ok(lacks_at_last(lacks, machine.states.row(), end, low))
 }

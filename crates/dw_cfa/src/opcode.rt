@@ -8,9 +8,6 @@ use crate::instr::Factors;
 use dw_num::{Code, Cursor, Refusal, Target, are_bytes};
 use dw_op::ExprRef;
 
-// The greatest offset. The least one is its negative.
-const LAST_OFFSET: i128 = 0x7fff_ffff_ffff_ffff;
-
 /// What a code says of the operands behind it. Three codes hold one in their low six bits.
 #[derive(Clone, Copy)]
 pub(crate) enum Opcode {
@@ -86,13 +83,12 @@ pub(crate) fn known_opcode(code: u8) -> Option<Opcode>
 fn checked_offset(offset: i128, at: u64) -> Result<i64, Refusal>
     ensures { result ≡ offset_in at offset }
 {
-    if -LAST_OFFSET <= offset && offset <= LAST_OFFSET {
-        Ok(offset as i64)
-    } else {
-        Err(Refusal {
+    match i64::try_from(offset) {
+        Ok(offset) if offset != i64::MIN => Ok(offset),
+        _ => Err(Refusal {
             code: Code::OffsetTooLarge,
             at,
-        })
+        }),
     }
 }
 

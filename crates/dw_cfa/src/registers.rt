@@ -50,6 +50,54 @@ pub(crate) fn run_offset<'a, K: Keep<'a>>(
     keep.set(register, RegRule::Offset(offset), at, fault)
 }
 
+/// The same with the register behind the opcode.
+#[tactic(auto, unfolding(crate::specs::Inner::ByOpcode::set_at, crate::specs::Inner::ByOpcode::rule_at))]
+#[inline(never)]
+pub(crate) fn run_offset_extended<'a, K: Keep<'a>>(
+    cursor: &mut Cursor<'a>,
+    factors: Factors,
+    keep: &mut K,
+    at: u64,
+    fault: &mut Refusal,
+) -> End
+    requires { IsWithinLimit (K.machine keep.old) }
+    ensures { Taken K.takes (set_at factors at Opcode.OffsetExtended cursor.old) at keep.old result fault.new cursor.new keep.new }
+{
+    let register = match cursor.register() {
+        Ok(register) => register,
+        Err(refusal) => return refused(refusal, fault),
+    };
+    let offset = match factored(cursor, factors, at) {
+        Ok(offset) => offset,
+        Err(refusal) => return refused(refusal, fault),
+    };
+    keep.set(register, RegRule::Offset(offset), at, fault)
+}
+
+/// The same with an offset that is signed.
+#[tactic(auto, unfolding(crate::specs::Inner::ByOpcode::set_at, crate::specs::Inner::ByOpcode::rule_at))]
+#[inline(never)]
+pub(crate) fn run_offset_extended_sf<'a, K: Keep<'a>>(
+    cursor: &mut Cursor<'a>,
+    factors: Factors,
+    keep: &mut K,
+    at: u64,
+    fault: &mut Refusal,
+) -> End
+    requires { IsWithinLimit (K.machine keep.old) }
+    ensures { Taken K.takes (set_at factors at Opcode.OffsetExtendedSf cursor.old) at keep.old result fault.new cursor.new keep.new }
+{
+    let register = match cursor.register() {
+        Ok(register) => register,
+        Err(refusal) => return refused(refusal, fault),
+    };
+    let offset = match signed(cursor, factors, at) {
+        Ok(offset) => offset,
+        Err(refusal) => return refused(refusal, fault),
+    };
+    keep.set(register, RegRule::Offset(offset), at, fault)
+}
+
 // The rule that an instruction gives the register that was read: its operands behind that.
 #[tactic(auto, unfolding(crate::specs::Inner::ByOpcode::rule_at))]
 fn rule_behind<'a>(

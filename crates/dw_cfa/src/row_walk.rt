@@ -14,6 +14,7 @@ use crate::lead::{Leading, leads_same, ready};
 use crate::machine::Machine;
 use crate::next_row::{Progress, enter, fail, next_row};
 use crate::row::Row;
+use crate::turn::copied;
 use dw_num::{Cursor, Program, ReadError, Target, are_bytes};
 use std::alloc::{AllocError, Global};
 use std::marker::Model;
@@ -146,7 +147,10 @@ impl<'a> RowWalk<'a> {
         if !enter(&mut self.progress, leading, fde, machine, &mut self.kept)? {
             return Ok(None);
         }
-        match next_row(&mut self.progress, fde, leading.factors, machine) {
+        let mut cursor = copied(fde);
+        let next = next_row(&mut self.progress, &mut cursor, leading.factors, machine);
+        *fde = cursor;
+        match next {
             Ok(start) => Ok(start),
             Err(error) => Err(fail(&mut self.progress, &mut self.machine, error)),
         }
@@ -175,7 +179,10 @@ impl<'a> RowWalk<'a> {
         if !enter(&mut self.progress, leading, fde, machine, &mut self.kept)? {
             return Ok(());
         }
-        match run_to(fde, leading.factors, machine, address) {
+        let mut cursor = copied(fde);
+        let ran = run_to(&mut cursor, leading.factors, machine, address);
+        *fde = cursor;
+        match ran {
             Ok(true) => self.progress = Progress::Running,
             Ok(false) => self.progress = Progress::Finished,
             Err(error) => return Err(fail(&mut self.progress, &mut self.machine, error)),
@@ -199,13 +206,17 @@ impl<'a> RowWalk<'a> {
         ensures found { IfOk result (λ lacks. (self.old.steps.outcome.fault ≡ None) × MatchBool lacks (Lacks end self.old.steps.outcome.rows) (Lacks end self.old.steps.outcome.rows → ⊥)) }
         ensures refused { IfErr result (Refuses (λ r. self.old.steps.outcome.fault ≡ Some r)) }
         ensures after { MatchResult result (λ _. self.new.steps ≡ stepping self.new.steps.current finished) (λ e. self.new.steps.error ≡ Some e) }
+        ensures kept { self.new.kept ≡ self.old.kept }
         ensures led { self.new.led ≡ self.old.led }
     {
         let (leading, fde, machine) = (&self.leading, &mut self.fde, &mut self.machine);
         if !enter(&mut self.progress, leading, fde, machine, &mut self.kept)? {
             return Ok(false);
         }
-        match lacks_rule(fde, leading.factors, machine, end) {
+        let mut cursor = copied(fde);
+        let lacks = lacks_rule(&mut cursor, leading.factors, machine, end);
+        *fde = cursor;
+        match lacks {
             Ok(lacks) => {
                 self.progress = Progress::Finished;
                 Ok(lacks)

@@ -33,10 +33,11 @@ returns-clause-found c =
     let l = c.instrs in
     let last = rows_end c.args.factors l.cursor l.machine (omega arith) in
     let none = ap (λ (o : Outcome). o.fault) last in (
-      l.invariant.2 ∙ none,
+      l.invariant.4 ∙ none,
       λ low. c.lacks_at_last.ensures
-          ∙ ap (λ (row : Rules). l.lacks || lacks_from c.args.end 0 false (record { location = l.machine.location; row = row } ∷ [])) c.row-2.ensures
-          ∙ ap (λ (o : Outcome). l.lacks || lacks_from c.args.end 0 false o.rows) (sym last) ∙ l.invariant.3 none
+          ∙ ap (λ (row : Rules). l.lacks || lacks_from c.args.end 0 false (record { location = l.low; row = row } ∷ [])) c.row-2.ensures
+          ∙ ap (λ (n : ℕ). l.lacks || lacks_from c.args.end 0 false (record { location = n; row = l.machine.states.row } ∷ [])) l.invariant.1
+          ∙ ap (λ (o : Outcome). l.lacks || lacks_from c.args.end 0 false o.rows) (sym last) ∙ l.invariant.5 none
           ∙ any_low c.args.end 0 low (rows_left c.args.factors c.args.cursor.now c.args.machine.now).rows,
     )
 
@@ -48,7 +49,9 @@ instrs-preserved c =
     let m = c.turn.new.keep in
     let moved = c.in-Moved.ensures.turned in (
       moved.so,
-      c.in-Moved.ensures.same.0 ∙ l.invariant.1,
-      l.invariant.2 ∙ ap (λ (o : Outcome). o.fault) moved.rows,
-      λ none. cc (c.lacks_now-lacks.ensures, c.row.ensures, lacks_moved f l.cursor l.machine j m moved c.args.end l.lacks none, l.invariant.3 (ap (λ (o : Outcome). o.fault) moved.rows ∙ none)),
+      refl,
+      c.in-Moved.ensures.same.0 ∙ l.invariant.2,
+      c.in-Moved.ensures.same.1 ∙ l.invariant.3,
+      l.invariant.4 ∙ ap (λ (o : Outcome). o.fault) moved.rows,
+      λ none. cc (c.lacks_now-lacks.ensures, c.row.ensures, l.invariant.1, lacks_moved f l.cursor l.machine j m moved c.args.end l.lacks none, l.invariant.5 (ap (λ (o : Outcome). o.fault) moved.rows ∙ none)),
     )

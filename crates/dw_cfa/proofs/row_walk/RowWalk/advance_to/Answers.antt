@@ -35,15 +35,15 @@ returns-then-self-from-clause-stands c row e =
     let w = c.self.inside in
     absurd (walk_none w.leading w.fde w.machine c.args.address (omega (arith, c.from.ensures, c.if-self-from.true)) w.progress c.args.self.now.steps (ap (λ (k : Walking). k.steps) c.self.view_is) row e)
 
-so : (c : In-Ok-true) → WalksSo progress.Running c.enter.new.kept c.self.inside.leading c.run_to.new.cursor c.run_to.new.keep
+so : (c : In-Ok-true) → WalksSo progress.Running c.enter.new.kept c.self.inside.leading c.run_to-ran.new.cursor c.run_to-ran.new.keep
 so c =
     let entered = rw c.if-not-branch.false at c.in_ok-enter.ensures.entered in
-    runs_on c.args.address c.enter.new.progress c.enter.new.kept c.in-Ok-true.field-0 c.self.inside.leading c.self.inside.fde c.run_to.new.cursor c.enter.new.machine c.run_to.new.keep
-    entered.0 c.in_ok-enter.ensures.so c.in-Ok-true.ensures.ran c.in-Ok-true.ensures.same.0
+    runs_on c.args.address c.enter.new.progress c.enter.new.kept c.in-Ok-true.field-0 c.self.inside.leading c.self.inside.fde c.run_to-ran.new.cursor c.enter.new.machine c.run_to-ran.new.keep
+    entered.0 c.in_ok-enter.ensures.so (rw c.copied-cursor.ensures at c.in-Ok-true.ensures.ran) c.in-Ok-true.ensures.same.0
 
 pub invariant_of-self-in-Ok-true : goal.invariant_of-self-in-Ok-true
 invariant_of-self-in-Ok-true c = so (goal.at.invariant_of-self-in-Ok-true c).In-Ok-true
 
 pub returns-in-Ok-true-clause-stands : goal.returns-in-Ok-true-clause-stands
 returns-in-Ok-true-clause-stands c row e =
-    ((left_from c.self.inside.leading.factors c.run_to.new.cursor c.run_to.new.keep).some, (so (goal.at.returns-in-Ok-true-clause-stands c).In-Ok-true).left)
+    ((left_from c.self.inside.leading.factors c.run_to-ran.new.cursor c.run_to-ran.new.keep).some, (so (goal.at.returns-in-Ok-true-clause-stands c).In-Ok-true).left)
