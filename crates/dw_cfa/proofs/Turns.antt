@@ -1,7 +1,7 @@
 -- One turn of the loop, in the rows still to come.
 use Rattle.dw_cfa.proofs.Words.{◌≡◌, ℕ, ◌<◌, ◌^◌, Bool, true, false, length, None, Ok, Err, refl, sym, ap, ◌∙◌, subst, AreBytes, Factors, Input, Instr, Machine, Read, Refusal, Rules, SetLoc, Advance, Restore, RememberState, RestoreState}
 use Rattle.dw_cfa.proofs.Words.{Size, Four, Eight, ◌≤◌, arith, address_limit, moves_location, instr_at, fails, RunsSo, RanTo, WroteTo, IsAfter, State, after, written, cie_fault, state_of, program_fault}
-use Rattle.dw_cfa.specs.{declared.machine.End.End, Inner.Turns.{Did, Does, Entered, Stays, Taken, Turned, cie_machine}}
+use Rattle.dw_cfa.specs.{declared.machine.End.End, Inner.Steps.InLimit, Inner.Turns.{Did, Does, Entered, Stays, Taken, Turned, cie_machine}}
 use Rattle.dw_cfa.proofs.RunSteps.{fde_is, rows_stuck, rows_fault, rows_ran, initial_stuck, initial_fault, initial_wrote}
 use Rattle.dw_cfa.specs.declared.machine.End.TheVariants as ends
 
@@ -38,6 +38,11 @@ module _ {K : Type 0} (machine : K → Machine) (takes : Takes K) (does : Does f
 pub in_limit : (s : Size) → address_limit s ≤ 2 ^ 64
 in_limit Four = omega arith
 in_limit Eight = omega arith
+
+-- an address within a limit is within a greater one
+pub in_greater_limit : (small great : ℕ) (i : Instr) → small ≤ great → InLimit small i → InLimit great i
+in_greater_limit small great (SetLoc a) more within = omega (arith, more, within)
+in_greater_limit small great i more within = tt
 
 cie_is : (limit : ℕ) (i : Instr) (s : State) → program_fault true limit i s ≡ cie_fault i s.row
 cie_is limit (SetLoc a) s = refl

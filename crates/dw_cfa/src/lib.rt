@@ -1,10 +1,9 @@
 //! Call frame instructions, and the machine that runs them (6.4.2, 6.4.3).
 #![tactic(auto)]
 
-mod advance;
 mod among;
 mod behind;
-mod cfa;
+mod common;
 mod coverage;
 mod debug;
 mod dropped;
@@ -26,8 +25,8 @@ mod next_row;
 mod noted;
 mod opcode;
 mod opening;
+mod rare;
 mod register_set;
-mod registers;
 mod room;
 mod row;
 mod row_walk;

@@ -7,10 +7,8 @@ ghost use Rattle.dw_cfa.specs.{Rows.blank, declared.machine.End.End, Inner.Front
 use crate::instr::{Factors, Instr};
 use crate::keep::Keep;
 use crate::machine::End;
-use crate::rule::RegRule;
 use crate::turn::execute;
 use dw_num::{Code, Cursor, Refusal};
-use dw_op::ExprRef;
 
 // The last instruction of a program that was read. It runs none: its machine stays as it is.
 #[derive(Drop)]
@@ -24,73 +22,8 @@ impl<'a> Keep<'a> for Noted<'a> {
     ghost takes = { λ k i at end fault k'. (end ≡ End.On) × (k'.instr ≡ i) };
 
     #[inline(always)]
-    fn nop(&mut self, _at: u64, _fault: &mut Refusal) -> End {
-        self.instr = Instr::Nop;
-        End::On
-    }
-
-    #[inline(always)]
-    fn def_cfa(&mut self, register: u16, offset: i64, _at: u64, _fault: &mut Refusal) -> End {
-        self.instr = Instr::DefCfa { register, offset };
-        End::On
-    }
-
-    #[inline(always)]
-    fn def_cfa_register(&mut self, register: u16, _at: u64, _fault: &mut Refusal) -> End {
-        self.instr = Instr::DefCfaRegister(register);
-        End::On
-    }
-
-    #[inline(always)]
-    fn def_cfa_offset(&mut self, offset: i64, _at: u64, _fault: &mut Refusal) -> End {
-        self.instr = Instr::DefCfaOffset(offset);
-        End::On
-    }
-
-    #[inline(always)]
-    fn def_cfa_expression(
-        &mut self,
-        expression: ExprRef<'a>,
-        _at: u64,
-        _fault: &mut Refusal,
-    ) -> End {
-        self.instr = Instr::DefCfaExpression(expression);
-        End::On
-    }
-
-    #[inline(always)]
-    fn set(&mut self, register: u16, rule: RegRule<'a>, _at: u64, _fault: &mut Refusal) -> End {
-        self.instr = Instr::Set(register, rule);
-        End::On
-    }
-
-    #[inline(always)]
-    fn restore(&mut self, register: u16, _at: u64, _fault: &mut Refusal) -> End {
-        self.instr = Instr::Restore(register);
-        End::On
-    }
-
-    #[inline(always)]
-    fn remember(&mut self, _at: u64, _fault: &mut Refusal) -> End {
-        self.instr = Instr::RememberState;
-        End::On
-    }
-
-    #[inline(always)]
-    fn recall(&mut self, _at: u64, _fault: &mut Refusal) -> End {
-        self.instr = Instr::RestoreState;
-        End::On
-    }
-
-    #[inline(always)]
-    fn advance(&mut self, distance: u128, _at: u64, _fault: &mut Refusal) -> End {
-        self.instr = Instr::Advance(distance);
-        End::On
-    }
-
-    #[inline(always)]
-    fn go(&mut self, address: u64, _at: u64, _fault: &mut Refusal) -> End {
-        self.instr = Instr::SetLoc(address);
+    fn take(&mut self, instr: Instr<'a>, _at: u64, _fault: &mut Refusal) -> End {
+        self.instr = instr;
         End::On
     }
 

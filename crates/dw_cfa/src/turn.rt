@@ -1,63 +1,20 @@
 //! One turn of the loop that runs a program: an opcode is read, and its instruction applied to what is kept while its
 //! operands are read.
 
-ghost use Rattle.std.specs.Prelude.{◌≡◌, ◌<◌, ◌≤◌, length, false};
+ghost use Rattle.std.specs.Prelude.{◌<◌, ◌≤◌, length, false};
 ghost use Rattle.dw_num.specs.Target.{address_limit};
-ghost use Rattle.dw_cfa.specs.Inner.{ByOpcode.{aside_at, operands_at}, FrontInstr.instr_at, Runs.RunsSo, Turns.{Does, IsWithinLimit, Stays, Taken, Turned}};
+ghost use Rattle.dw_cfa.specs.Inner.{ByOpcode.operands_at, FrontInstr.instr_at, Runs.RunsSo, Turns.{Does, IsWithinLimit, Stays, Taken, Turned}};
 
-use crate::advance::{run_fixed_advance, run_long_advance, run_set_loc};
-use crate::cfa::{
-    run_def_cfa, run_def_cfa_expression, run_def_cfa_offset, run_def_cfa_offset_sf,
-    run_def_cfa_register, run_def_cfa_sf,
+use crate::common::{
+    run_def_cfa, run_def_cfa_offset, run_def_cfa_offset_sf, run_fixed_advance, run_offset,
+    run_offset_extended, run_offset_extended_sf,
 };
-use crate::instr::Factors;
+use crate::instr::{Factors, Instr};
 use crate::keep::Keep;
 use crate::machine::{End, refuse, refused};
 use crate::opcode::{Opcode, distance, known_opcode};
-use crate::registers::{
-    run_offset, run_offset_extended, run_offset_extended_sf, run_restore_extended, set,
-};
+use crate::rare::apply_rare;
 use dw_num::{Code, Cursor, Refusal, are_bytes};
-
-/// Another cursor at the same place.
-#[inline(always)]
-pub(crate) fn copied<'a>(cursor: &Cursor<'a>) -> Cursor<'a>
-    ensures { result ≡ cursor.now }
-{
-    Cursor::new(cursor.rest(), cursor.at(), cursor.target())
-}
-
-// Applies an instruction whose function is out of line. It reads from a copy of the cursor: what is lent to such a function lies
-// in memory, and the loop's cursor would too.
-#[tactic(auto, unfolding(crate::specs::Inner::ByOpcode::aside_at))]
-#[inline(always)]
-fn apply_aside<'a, K: Keep<'a>>(
-    opcode: Opcode,
-    cursor: &mut Cursor<'a>,
-    factors: Factors,
-    keep: &mut K,
-    at: u64,
-    fault: &mut Refusal,
-) -> End
-    requires location { IsWithinLimit (K.machine keep.old) }
-    requires limit { address_limit cursor.old.target.size ≤ (K.machine keep.old).limit }
-    ensures { Taken K.takes (aside_at factors at opcode cursor.old) at keep.old result fault.new cursor.new keep.new }
-{
-    let mut own = copied(cursor);
-    let end = match opcode {
-        Opcode::SetLoc => run_set_loc(&mut own, keep, at, fault),
-        Opcode::AdvanceLoc4 => run_long_advance(&mut own, factors, keep, at, 4, fault),
-        Opcode::RestoreExtended => run_restore_extended(&mut own, keep, at, fault),
-        Opcode::DefCfaSf => run_def_cfa_sf(&mut own, factors, keep, at, fault),
-        Opcode::DefCfaRegister => run_def_cfa_register(&mut own, keep, at, fault),
-        Opcode::DefCfaExpression => run_def_cfa_expression(&mut own, keep, at, fault),
-        Opcode::OffsetExtended => run_offset_extended(&mut own, factors, keep, at, fault),
-        Opcode::OffsetExtendedSf => run_offset_extended_sf(&mut own, factors, keep, at, fault),
-        _ => set(opcode, &mut own, factors, keep, at, fault),
-    };
-    *cursor = own;
-    end
-}
 
 // Reads the operands behind an opcode, and applies the instruction to the machine.
 #[tactic(auto, unfolding(crate::specs::Inner::ByOpcode::operands_at))]
@@ -75,9 +32,10 @@ fn apply<'a, K: Keep<'a>>(
     ensures { Taken K.takes (operands_at factors at opcode cursor.old) at keep.old result fault.new cursor.new keep.new }
 {
     match opcode {
-        Opcode::Nop => keep.nop(at, fault),
+        Opcode::Nop => keep.take(Instr::Nop, at, fault),
         Opcode::AdvanceLoc(delta) => {
-            keep.advance(distance(u64::from(delta), factors), at, fault)
+            let distance = distance(u64::from(delta), factors);
+            keep.take(Instr::Advance(distance), at, fault)
         }
         Opcode::AdvanceLoc1 => run_fixed_advance(cursor, factors, keep, at, 1, fault),
         Opcode::AdvanceLoc2 => run_fixed_advance(cursor, factors, keep, at, 2, fault),
@@ -85,10 +43,12 @@ fn apply<'a, K: Keep<'a>>(
         Opcode::DefCfaOffset => run_def_cfa_offset(cursor, keep, at, fault),
         Opcode::DefCfaOffsetSf => run_def_cfa_offset_sf(cursor, factors, keep, at, fault),
         Opcode::Offset(register) => run_offset(cursor, factors, keep, at, register, fault),
-        Opcode::Restore(register) => keep.restore(register, at, fault),
-        Opcode::RememberState => keep.remember(at, fault),
-        Opcode::RestoreState => keep.recall(at, fault),
-        _ => apply_aside(opcode, cursor, factors, keep, at, fault),
+        Opcode::OffsetExtended => run_offset_extended(cursor, factors, keep, at, fault),
+        Opcode::OffsetExtendedSf => run_offset_extended_sf(cursor, factors, keep, at, fault),
+        Opcode::Restore(register) => keep.take(Instr::Restore(register), at, fault),
+        Opcode::RememberState => keep.take(Instr::RememberState, at, fault),
+        Opcode::RestoreState => keep.take(Instr::RestoreState, at, fault),
+        _ => apply_rare(opcode, cursor, factors, keep, at, fault),
     }
 }
 

@@ -1,0 +1,99 @@
+//! Instructions that few programs have. They are read out of line, so that the loop that runs a program stays small.
+
+ghost use Rattle.std.specs.Prelude.{IfOk, ◌≤◌};
+ghost use Rattle.dw_num.specs.{Inner.Front.{Gives}, Target.address_limit};
+ghost use Rattle.dw_cfa.specs.Inner.{ByOpcode.{rare_at, rule_at}, Steps.InLimit, Turns.{IsWithinLimit, Taken}};
+
+use crate::instr::{Factors, Instr};
+use crate::keep::Keep;
+use crate::machine::{End, refused};
+use crate::opcode::{Opcode, block, distance, factored, signed};
+use crate::rule::RegRule;
+use dw_num::{Cursor, Refusal};
+
+// The rule that an instruction gives the register that was read (6.4.2.3): its operands behind that.
+#[tactic(auto, unfolding(crate::specs::Inner::ByOpcode::rule_at))]
+fn rule_behind<'a>(
+    opcode: Opcode,
+    cursor: &mut Cursor<'a>,
+    factors: Factors,
+    at: u64,
+) -> Result<RegRule<'a>, Refusal>
+    ensures { Gives (λ rule. rule) result (rule_at factors at opcode cursor.old) cursor.new }
+{
+    match opcode {
+        Opcode::Undefined => Ok(RegRule::Undefined),
+        Opcode::SameValue => Ok(RegRule::SameValue),
+        Opcode::OffsetExtended => Ok(RegRule::Offset(factored(cursor, factors, at)?)),
+        Opcode::OffsetExtendedSf => Ok(RegRule::Offset(signed(cursor, factors, at)?)),
+        Opcode::ValOffset => Ok(RegRule::ValOffset(factored(cursor, factors, at)?)),
+        Opcode::ValOffsetSf => Ok(RegRule::ValOffset(signed(cursor, factors, at)?)),
+        Opcode::Register => Ok(RegRule::Register(cursor.register()?)),
+        Opcode::Expression => Ok(RegRule::Expression(block(cursor)?)),
+        _ => Ok(RegRule::ValExpression(block(cursor)?)),
+    }
+}
+
+// Reads the operands of one. An address is one of the target's.
+#[tactic(auto, unfolding(crate::specs::Inner::ByOpcode::rare_at, crate::specs::Inner::ByOpcode::set_loc_at, crate::specs::Inner::ByOpcode::advance_at, crate::specs::Inner::ByOpcode::restore_at, crate::specs::Inner::ByOpcode::def_cfa_sf_at, crate::specs::Inner::ByOpcode::def_cfa_register_at, crate::specs::Inner::ByOpcode::def_cfa_expression_at, crate::specs::Inner::ByOpcode::set_at))]
+#[inline(never)]
+fn read_rare<'a>(
+    opcode: Opcode,
+    cursor: &mut Cursor<'a>,
+    factors: Factors,
+    at: u64,
+) -> Result<Instr<'a>, Refusal>
+    ensures exact { Gives (λ i. i) result (rare_at factors at opcode cursor.old) cursor.new }
+    ensures limit { IfOk result (InLimit (address_limit cursor.old.target.size)) }
+{
+    match opcode {
+        Opcode::SetLoc => Ok(Instr::SetLoc(cursor.address()?)),
+        Opcode::AdvanceLoc4 => Ok(Instr::Advance(distance(cursor.fixed(4)?, factors))),
+        Opcode::RestoreExtended => Ok(Instr::Restore(cursor.register()?)),
+        Opcode::DefCfaSf => {
+            let register = cursor.register()?;
+            let offset = signed(cursor, factors, at)?;
+            Ok(Instr::DefCfa { register, offset })
+        }
+        Opcode::DefCfaRegister => Ok(Instr::DefCfaRegister(cursor.register()?)),
+        Opcode::DefCfaExpression => Ok(Instr::DefCfaExpression(block(cursor)?)),
+        _ => {
+            let register = cursor.register()?;
+            let rule = rule_behind(opcode, cursor, factors, at)?;
+            Ok(Instr::Set(register, rule))
+        }
+    }
+}
+
+/// Reads the operands of one, and applies it. They are read from a copy of the cursor: what is lent to a function out of line lies
+/// in memory, and the loop's cursor would too.
+#[tactic(auto, using(crate::proofs::Turns::in_greater_limit))]
+#[inline(always)]
+pub(crate) fn apply_rare<'a, K: Keep<'a>>(
+    opcode: Opcode,
+    cursor: &mut Cursor<'a>,
+    factors: Factors,
+    keep: &mut K,
+    at: u64,
+    fault: &mut Refusal,
+) -> End
+    requires location { IsWithinLimit (K.machine keep.old) }
+    requires limit { address_limit cursor.old.target.size ≤ (K.machine keep.old).limit }
+    ensures { Taken K.takes (rare_at factors at opcode cursor.old) at keep.old result fault.new cursor.new keep.new }
+{
+    let mut own = copied(cursor);
+    let instr = match read_rare(opcode, &mut own, factors, at) {
+        Ok(instr) => instr,
+        Err(refusal) => return refused(refusal, fault),
+    };
+    *cursor = own;
+    keep.take(instr, at, fault)
+}
+
+/// Another cursor at the same place.
+#[inline(always)]
+pub(crate) fn copied<'a>(cursor: &Cursor<'a>) -> Cursor<'a>
+    ensures { result ≡ cursor.now }
+{
+    Cursor::new(cursor.rest(), cursor.at(), cursor.target())
+}
