@@ -1,6 +1,6 @@
 //! Instructions that most programs have. They are applied in line while their operands are read.
 
-ghost use Rattle.dw_num.specs.Fixed.IsWidth;
+ghost use Rattle.dw_num.specs.{Fixed.IsWidth};
 ghost use Rattle.dw_cfa.specs.Inner.{ByOpcode.{advance_at, def_cfa_at, def_cfa_offset_at, def_cfa_offset_sf_at, offset_at, set_at}, Turns.{IsWithinLimit, Taken}};
 
 use crate::instr::{Factors, Instr};

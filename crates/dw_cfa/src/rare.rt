@@ -1,6 +1,6 @@
 //! Instructions that few programs have. They are read out of line, so that the loop that runs a program stays small.
 
-ghost use Rattle.std.specs.Prelude.{IfOk, ◌≤◌};
+ghost use Rattle.std.specs.Prelude.{◌≡◌, ◌≤◌, IfOk};
 ghost use Rattle.dw_num.specs.{Inner.Front.{Gives}, Target.address_limit};
 ghost use Rattle.dw_cfa.specs.Inner.{ByOpcode.{rare_at, rule_at}, Steps.InLimit, Turns.{IsWithinLimit, Taken}};
 
