@@ -1,4 +1,5 @@
 -- A row that becomes a copy of another one: the slots of a mask, outside which all rules are the same.
+use Rattle.std.proofs.lemmas.List.{nil_from_length}
 use Rattle.dw_cfa.proofs.Words.{◌≡◌, ℕ, List, refl, sym, ap, ◌∙◌, arith, nat_tests, cases_lt, bit_at, Entries, EntriesSo, entries_of, rule_in, has, CopiedUpTo, SameUnset, ◌<◌, get_or, inl, inr, false}
 use Rattle.dw_cfa.proofs.Words.{is_specified, length, near_rule, no_slot, subst, IsTrue, RegRule, SameSlots, Slot, bit_at-lt, bit_and, bit_at_and, slot_rule, SameOutside, Unspecified}
 use lib.ListN.{get_or-eq_default}
@@ -26,13 +27,17 @@ SameBelow k mask others near = (q : ℕ) → q < k → bit_at mask q ≡ 1 → g
 unspecified_not : IsTrue (is_specified Unspecified) → ⊥
 unspecified_not e = absurd cc
 
-module _ (old others : Entries) (slots : List Slot) (so : EntriesSo old) (so' : EntriesSo others) (mask : ℕ) (len : length slots ≡ 128) (x : old.expressions.entries ≡ others.expressions.entries)
+module _ (old others : Entries) (slots : List Slot) (so : EntriesSo old) (so' : EntriesSo others) (mask : ℕ) (len : length slots ≡ 128) (none : length old.expressions.entries ≡ 0) (none' : length others.expressions.entries ≡ 0)
     (same : SameUnset mask (entries_of old) (entries_of others)) (copied : SameSlots (bit_and others.used mask) others.slots slots) (stays : SameOutside (bit_and others.used mask) old.slots slots) where
   abbrev new : Entries
   new = record { slots = slots; used = others.used; expressions = old.expressions; far = old.far }
 
   abbrev wanted : ℕ → RegRule
   wanted q = near_rule others.used others.slots others.expressions.entries q
+
+  -- both have no rules beside slots
+  x : old.expressions.entries ≡ others.expressions.entries
+  x = nil_from_length old.expressions.entries none ∙ sym (nil_from_length others.expressions.entries none')
 
   -- a register outside the mask had its rule before
   stayed : (q : ℕ) → q < 128 → bit_at others.used q ≡ 1 → bit_at mask q ≡ 0 → slot_rule (get_or old.slots q no_slot) (rule_in old.expressions.entries q) ≡ wanted q

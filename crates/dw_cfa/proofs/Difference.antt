@@ -1,4 +1,5 @@
 -- The first register whose rule differs between two rows.
+use Rattle.std.proofs.lemmas.List.{nil_from_length}
 use Rattle.dw_cfa.proofs.Words.{◌≡◌, ℕ, suc, ◌+◌, ◌<◌, ◌≤◌, Bool, true, false, List, [], ◌∷◌, length, Option, Some, None, refl, sym, ap, ◌∙◌, subst, arith, bit_or, bit_at, filter, nat_cmp, range_contains, Bound, Unbounded, if◌then◌else◌}
 use Rattle.dw_cfa.proofs.Words.{nat_lt, nat_tests, Entries, Unspecified, AreSpecified, far_behind, rule_in, entries_of, EntriesSo, SameBetween, DiffersFirst, FirstDifference, place_behind, SameUnset, start_behind}
 use Rattle.dw_cfa.proofs.{Lent.RowLists.{Entry, lower, unlisted}, Lent.SameRows.{first_rule, not_specified, same_entries}, Slots.{behind_slots, neither, not_set}, Lent.Narrowed.{filter_keeps, filter_rule}}
@@ -136,3 +137,7 @@ module _ (e f : Entries) (so : EntriesSo e) (so' : EntriesSo f) (from : ℕ) (ne
   first_of_all (Some q) far =
       let high : 128 ≤ q = grind (arith, unlisted q 128 e.far.entries so.far, unlisted q 128 f.far.entries so'.far, far.2) in
       (far.0, (λ r le lt. grind (arith, near r, behind r, far.1 r)), λ same. far.2 (sym (behind q high).0 ∙ same ∙ (behind q high).1))
+
+  -- no register lies in the trees
+  pub none_of_all : length e.far.entries ≡ 0 → length f.far.entries ≡ 0 → FirstDifference from (entries_of e) (entries_of f) None
+  none_of_all one two = first_of_all None (λ r le. rw (nil_from_length e.far.entries one, nil_from_length f.far.entries two) refl)

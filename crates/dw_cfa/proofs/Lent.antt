@@ -13,7 +13,6 @@ pub mod FaultPlaces
 pub mod FaultLaws
 pub mod BehindLaws
 pub mod SameRows
-pub mod Skipped
 pub mod InstrCounts
 pub mod Narrowed
 pub mod Equal

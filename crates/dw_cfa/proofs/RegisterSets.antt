@@ -1,8 +1,8 @@
 -- Sets of registers: one register more, all of another set, and what two rows have in common among them.
 use Rattle.dw_cfa.proofs.Words.{◌≡◌, ◌⊎◌, ℕ, suc, ◌<◌, ◌||◌, Bool, true, false, List, ◌∷◌, Result, Ok, Err, OnErr, OnOk, refl, sym, ap, ◌∙◌, subst, arith, inl, inr, if◌then◌else◌, bit_or, bit_at_or, nat_tests, cases_Bool, IsTrue, ◌↔◌}
-use Rattle.dw_cfa.proofs.Words.{CfaRule, RegRule, Rules, Unset, Unspecified, AreSpecified, rule, rule_in, with_cfa, with_rule, InCommon, IsAgreed, is_agreed, same_rule, rule_tells, left, LeavesAmong, LeavesAt}
+use Rattle.dw_cfa.proofs.Words.{◌≤◌, None, filter, not, cases_lt, CfaRule, RegRule, Rules, Unset, Unspecified, AreSpecified, rule, rule_in, with_rule, DiffersFirst, FirstDifference, InCommon, IsAgreed, is_agreed, same_rule, rule_tells, left, LeavesAmong, LeavesAt}
 use Rattle.dw_cfa.proofs.Words.{[], nat_eq, bit_at-zero, Registers, AgreesBeside, has, in_mask, in_tree, bit_at-lt, on_err_weaker, on_ok_weaker}
-use Rattle.dw_cfa.proofs.Lent.{RowLists.{Entry, lower, unlisted}, Equal.{common_rule, test_of}, Narrowed.{leaves_none, none_left}}
+use Rattle.dw_cfa.proofs.Lent.{RowLists.{Entry, lower, unlisted}, Equal.{common_rule, test_of}, Narrowed.{filter_rule, leaves_none, none_left}}
 
 -- ---- registers that are put in
 
@@ -96,12 +96,46 @@ module _ (m registers : Registers) (is : m ≡ registers) (old other : Rules) (b
         | inr e ↦ both ∙ rw e (sym (agrees_left other.registers r (rule old r) (beside r (outside r e))))
       ]
 
-  common : (r : ℕ) → InCommon Unspecified (rule old r) (rule other r) (rule new r)
+  pub common : (r : ℕ) → InCommon Unspecified (rule old r) (rule other r) (rule new r)
   common r = common_rule (rule old r) (rule other r) (rule new r) (rule_left r)
 
-  module _ (up : AreSpecified 0 new.registers) (a b : CfaRule) (is_own : a ≡ new.cfa) (is_other : b ≡ other.cfa) (stays : new.cfa ≡ old.cfa) where
-    pub same_cfas : a ≡ b → IsAgreed old other new
-    same_cfas e = record { cfa = ((λ same. stays), (λ differ. absurd (differ (sym stays ∙ sym is_own ∙ e ∙ is_other)))); rules = common; listed = up }
+-- registers below one were dropped where another row gives them another rule, and all others are as they were
+pub record AgreedUpTo (k : ℕ) (old other new : List Entry) : Type 0 where
+  pub below : (r : ℕ) → r < k → InCommon Unspecified (rule_in old r) (rule_in other r) (rule_in new r)
+  pub above : (r : ℕ) → k ≤ r → rule_in new r ≡ rule_in old r
 
-    pub other_cfas : (a ≡ b → ⊥) → (unset : Rules) → unset ≡ with_cfa Unset new → IsAgreed old other unset
-    other_cfas differ unset set = subst (IsAgreed old other) (sym set) (record { cfa = ((λ same. absurd (differ (is_own ∙ stays ∙ same ∙ sym is_other))), (λ other. refl)); rules = common; listed = up })
+module _ {k : ℕ} {old other new : List Entry} (h : AgreedUpTo k old other new) where
+  stays_common : (r : ℕ) → k ≤ r → rule_in new r ≡ rule_in other r → InCommon Unspecified (rule_in old r) (rule_in other r) (rule_in new r)
+  stays_common r le same = ((λ e. h.above r le), (λ differ. absurd (differ (sym (h.above r le) ∙ same))))
+
+  pub all_agreed : FirstDifference k new other None → (r : ℕ) → InCommon Unspecified (rule_in old r) (rule_in other r) (rule_in new r)
+  all_agreed none r = elim (cases_lt r k) [ inl lt ↦ h.below r lt | inr ge ↦ stays_common r ge (none r ge) ]
+
+  -- the first register from there on that another row gives another rule is dropped
+  module _ {q : ℕ} {next : List Entry} (d : DiffersFirst k new other q) (up : AreSpecified 0 new) (is : next ≡ filter (λ (x : Entry). not (nat_eq x.0 q)) new) where
+    rule_next : (r : ℕ) → rule_in next r ≡ (if not (nat_eq r q) then rule_in new r else Unspecified)
+    rule_next r = ap (λ (l : List Entry). rule_in l r) is ∙ filter_rule (λ (x : Entry). not (nat_eq x.0 q)) 0 new r up
+
+    others : (r : ℕ) → (r ≡ q → ⊥) → rule_in next r ≡ rule_in new r
+    others r ne = grind (arith, nat_tests, rule_next r)
+
+    here : InCommon Unspecified (rule_in old q) (rule_in other q) (rule_in next q)
+    here = ((λ same. absurd (d.2 (h.above q d.0 ∙ same))), (λ differ. grind (arith, nat_tests, rule_next q)))
+
+    before : (r : ℕ) → r < q → InCommon Unspecified (rule_in old r) (rule_in other r) (rule_in next r)
+    before r lt = rw (others r (omega (arith, lt))) (elim (cases_lt r k) [ inl low ↦ h.below r low | inr ge ↦ stays_common r ge (d.1 r ge lt) ])
+
+    pub one_agreed : AgreedUpTo (suc q) old other next
+    one_agreed = record {
+      below = λ r lt. elim (cases_lt r q) [ inl low ↦ before r low | inr ge ↦ let at : q ≡ r = omega (arith, lt, ge) in subst (λ (n : ℕ). InCommon Unspecified (rule_in old n) (rule_in other n) (rule_in next n)) at here ];
+      above = λ r le. others r (omega (arith, le)) ∙ h.above r (omega (arith, le, d.0));
+    }
+
+-- what both rows have in common, once the CFA's rule is agreed too
+pub agreed_by : (old other mid new : Rules) → mid.cfa ≡ old.cfa → ((r : ℕ) → InCommon Unspecified (rule old r) (rule other r) (rule mid r)) → AreSpecified 0 mid.registers
+    → InCommon Unset mid.cfa other.cfa new.cfa → new.registers ≡ mid.registers → IsAgreed old other new
+agreed_by old other mid new stays each up cfa same = record {
+  cfa = subst (λ (x : CfaRule). InCommon Unset x other.cfa new.cfa) stays cfa;
+  rules = λ r. subst (λ (l : List Entry). InCommon Unspecified (rule old r) (rule other r) (rule_in l r)) (sym same) (each r);
+  listed = subst (AreSpecified 0) (sym same) up;
+}

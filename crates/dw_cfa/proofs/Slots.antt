@@ -59,11 +59,6 @@ module _ (f g : ℕ → RegRule) (far : List Entry) (up : AreSpecified 128 far) 
       is_put r rule (listed_from 0 128 f far) (listed_from 0 128 g far) (slots_ascend f far up) (slots_ascend g far up) (λ q.
       grind (arith, nat_tests, row_rule g far up q, row_rule f far up q, others q, is))
 
-  pub rules_same : ((q : ℕ) → g q ≡ f q) → listed_from 0 128 g far ≡ listed_from 0 128 f far
-  rules_same same =
-      same_entries 0 (listed_from 0 128 g far) (listed_from 0 128 f far) (slots_ascend g far up) (slots_ascend f far up) (λ q.
-      grind (arith, nat_tests, row_rule g far up q, row_rule f far up q, same q))
-
 -- a rule is set behind the slots
 pub far_set : (f : ℕ → RegRule) (far : List Entry) (r : ℕ) (rule : RegRule) (far' : List Entry) → AreSpecified 128 far → 128 ≤ r → far' ≡ put r rule far → listed_from 0 128 f far' ≡ put r rule (listed_from 0 128 f far)
 far_set f far r rule far' up le is =

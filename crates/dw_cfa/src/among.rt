@@ -5,10 +5,11 @@ ghost use Rattle.dw_cfa.specs.{Agreement.IsAgreed, Difference.{FirstDifference, 
 ghost use Rattle.dw_cfa.specs.Inner.{Agreement.is_agreed, Among.{CopiedUpTo, SameUnlisted, in_mask, in_tree}, Difference.SameUnset, Entries.{LeavesAmong, LeavesAt}};
 
 use crate::behind::{place_behind, start_behind};
+use crate::in_common::agree_cfa;
 use crate::near_slots::next_in;
 use crate::register_set::RegisterSet;
 use crate::row::Row;
-use crate::rule::{CfaRule, RegRule};
+use crate::rule::RegRule;
 use std::alloc::AllocError;
 use std::collections::BTreeMap;
 use std::ops::Bound;
@@ -35,7 +36,7 @@ fn copy_near<'a>(row: &Row<'a>, copy: &mut Row<'a>, mask: u128) -> Result<(), Al
     requires { SameUnset mask copy.old.registers row.now.registers }
     ensures { OnOk result (CopiedUpTo 128 row.now.registers copy.old.registers copy.new.registers) }
 {
-    if copy.copy_among(row, mask) {
+    if copy.entries.copy_among(&row.entries, mask) {
         return Ok(());
     }
     copy_each(row, copy, mask)
@@ -223,7 +224,8 @@ impl<'a> Row<'a> {
         if near == 0 {
             return next_far_difference(self, other, far, behind);
         }
-        if let Some(register) = self.next_near_difference(other, near, place_behind(behind)) {
+        let (entries, others) = (&self.entries, &other.entries);
+        if let Some(register) = entries.next_near_difference(others, near, place_behind(behind)) {
             return Some(register);
         }
         next_far_difference(self, other, far, behind)
@@ -242,9 +244,7 @@ impl<'a> Row<'a> {
         agree_near(self, other, registers.near)?;
         agree_far(self, other, &registers.far)?;
         self.ascends();
-        if !self.cfa_rule().is_same(other.cfa_rule()) {
-            self.set_cfa(CfaRule::Unset);
-        }
+        agree_cfa(self, other);
         Ok(())
     }
 }

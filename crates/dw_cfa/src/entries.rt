@@ -1,17 +1,16 @@
 //! The registers of a row with their rules (6.4.1).
 
-ghost use Rattle.std.specs.Prelude.{◌≡◌, ◌<◌, ℤ, [], IfOk, IfSome, OnOk, OnErr, MatchOption, IsTrue, ◌↔◌};
+ghost use Rattle.std.specs.Prelude.{◌≡◌, ◌<◌, [], IfSome, OnOk, OnErr, MatchOption, IsTrue, ◌↔◌};
 ghost use Rattle.dw_cfa.specs.{Difference.{FirstDifference, place_behind}, Rows.{rule_in, is_specified}};
-ghost use Rattle.dw_cfa.specs.declared.{rule.RegRule.{RegRule as TheRule}, rule.RegRule.TheVariants.{Offset, Unspecified}, slot.Slot.TheVariants.Beside};
-ghost use Rattle.dw_cfa.specs.Inner.{Agreement.same_rule, Difference.{FirstBelow, SameUnset}, Entries.{entries_of, EntriesSo, IsSlotOf, slot_rule}, Rows.put};
+ghost use Rattle.dw_cfa.specs.declared.{rule.RegRule.{RegRule as TheRule}, rule.RegRule.TheVariants.Unspecified, slot.Slot.TheVariants.Beside};
+ghost use Rattle.dw_cfa.specs.Inner.{Difference.{FirstBelow, SameUnset}, Entries.{entries_of, EntriesSo, IsSlotOf, slot_rule}, Rows.put};
 
-use crate::behind::{place_behind, start_behind};
+use crate::behind::start_behind;
 use crate::near_slots::{bit_of, is_in, next_in, same_slots};
-use crate::row::Specified;
 use crate::rule::RegRule;
-use crate::slot::{Slot, offset_in, plain_slot, rule_of};
+use crate::slot::{Slot, plain_slot, rule_of};
 use crate::tree::{first_difference, rule_in_tree, set_in_tree};
-use std::alloc::{AllocError, Global};
+use std::alloc::AllocError;
 use std::collections::BTreeMap;
 use std::ops::Bound;
 
@@ -28,21 +27,6 @@ pub(crate) struct Entries<'a> {
 }
 
 impl<'a> Entries<'a> {
-    /// None.
-    #[tactic(auto, using(crate::proofs::Slots::none_hold, crate::proofs::Slots::none_listed))]
-    #[inline(always)]
-    pub(crate) fn none(alloc: Global) -> Entries<'a>
-        ensures entries { entries_of result ≡ [] }
-        ensures so { EntriesSo result }
-    {
-        Entries {
-            slots: [Slot::Undefined; 128],
-            used: 0,
-            expressions: BTreeMap::new(alloc),
-            far: BTreeMap::new(alloc),
-        }
-    }
-
     // The slot of a register that is specified.
     #[tactic(auto, using(crate::proofs::Slots::is_given, crate::proofs::Slots::is_set, crate::proofs::Slots::not_in, crate::proofs::Slots::not_set, crate::proofs::Slots::one_in))]
     #[inline(always)]
@@ -73,29 +57,9 @@ impl<'a> Entries<'a> {
         }
     }
 
-    // The offset at which a register is saved. Read from its slot where it has one, since a rule is moved about.
-    #[inline(always)]
-    pub(crate) fn offset_of(&self, register: u16) -> Option<i64>
-        requires { EntriesSo self.now }
-        ensures { MatchOption result ((n : ℤ) → rule_in (entries_of self.now) register ≡ Offset n → ⊥) (λ n. rule_in (entries_of self.now) register ≡ Offset n) }
-    {
-        if register < NEAR {
-            if let Some(slot) = self.slot(register) {
-                let found = offset_in(slot);
-                if found.is_some() {
-                    return found;
-                }
-            }
-        }
-        match self.rule(register) {
-            RegRule::Offset(offset) => Some(offset),
-            _ => None,
-        }
-    }
-
     // Whether others give a register that may have a slot the same rule.
     #[inline(always)]
-    fn has_same_near(&self, others: &Entries<'_>, register: u16) -> bool
+    pub(crate) fn has_same_near(&self, others: &Entries<'_>, register: u16) -> bool
         requires so { EntriesSo self.now }
         requires others { EntriesSo others.now }
         requires near { register < 128 }
@@ -112,44 +76,6 @@ impl<'a> Entries<'a> {
             (None, None) => true,
             _ => false,
         }
-    }
-
-    // Whether others give a register the same rule.
-    #[inline(always)]
-    pub(crate) fn has_same(&self, others: &Entries<'_>, register: u16) -> bool
-        requires so { EntriesSo self.now }
-        requires others { EntriesSo others.now }
-        ensures same { IsTrue result ↔ (rule_in (entries_of self.now) register ≡ rule_in (entries_of others.now) register) }
-        ensures test { result ≡ same_rule (rule_in (entries_of self.now) register) (rule_in (entries_of others.now) register) }
-    {
-        if register >= NEAR {
-            return self.rule(register).is_same(&others.rule(register));
-        }
-        self.has_same_near(others, register)
-    }
-
-    #[inline(always)]
-    #[tactic(auto, using(crate::proofs::Difference::all_behind))]
-    pub(crate) fn all(&self) -> Specified<'_, 'a>
-        requires { EntriesSo self.now }
-        ensures { result ≡ entries_of self.now }
-    {
-        Specified {
-            at: 0,
-            slots: &self.slots,
-            used: self.used,
-            expressions: &self.expressions,
-            far: &self.far,
-            last: None,
-        }
-    }
-
-    pub(crate) fn is_same(&self, others: &Entries<'_>) -> bool
-        requires before { EntriesSo self.now }
-        requires others { EntriesSo others.now }
-        ensures { IsTrue result ↔ (entries_of self.now ≡ entries_of others.now) }
-    {
-        self.next_difference(others, None).is_none()
     }
 
     // The first register from a place on that has a slot, is in a mask, and whose rule differs.
@@ -181,7 +107,7 @@ impl<'a> Entries<'a> {
     // of line: room for two walks is cleared at each call else.
     #[inline(never)]
     #[tactic(auto, using(crate::proofs::Difference::part_up, crate::proofs::Difference::first_from, crate::proofs::Difference::range_on))]
-    fn far_difference(&self, others: &Entries<'_>, behind: Option<u16>) -> Option<u16>
+    pub(crate) fn far_difference(&self, others: &Entries<'_>, behind: Option<u16>) -> Option<u16>
         requires so { EntriesSo self.now }
         requires others { EntriesSo others.now }
         ensures { FirstDifference (place_behind behind) self.now.far.entries others.now.far.entries result }
@@ -191,33 +117,6 @@ impl<'a> Entries<'a> {
             self.far.range((start, Bound::Unbounded)),
             others.far.range((start, Bound::Unbounded)),
         )
-    }
-
-    // The same, where mostly none is without a slot.
-    #[tactic(auto, using(crate::proofs::Difference::part_up, crate::proofs::Difference::first_from, crate::proofs::Difference::range_on))]
-    fn next_far_difference(&self, others: &Entries<'_>, behind: Option<u16>) -> Option<u16>
-        requires so { EntriesSo self.now }
-        requires others { EntriesSo others.now }
-        ensures { FirstDifference (place_behind behind) self.now.far.entries others.now.far.entries result }
-    {
-        if self.far.is_empty() && others.far.is_empty() {
-            return None;
-        }
-        self.far_difference(others, behind)
-    }
-
-    // The first register behind another one, or from the first one on, whose rule differs.
-    #[tactic(auto, using(crate::proofs::Difference::first_of_all, crate::proofs::Difference::unused))]
-    pub(crate) fn next_difference(&self, others: &Entries<'_>, behind: Option<u16>) -> Option<u16>
-        requires so { EntriesSo self.now }
-        requires others { EntriesSo others.now }
-        ensures { FirstDifference (place_behind behind) (entries_of self.now) (entries_of others.now) result }
-    {
-        let mask = self.used | others.used;
-        if let Some(register) = self.next_near_difference(others, mask, place_behind(behind)) {
-            return Some(register);
-        }
-        self.next_far_difference(others, behind)
     }
 
     // Whether both trees are empty.
@@ -230,28 +129,13 @@ impl<'a> Entries<'a> {
 
     // Empties both trees.
     #[inline(never)]
-    fn clear_trees(&mut self)
+    pub(crate) fn clear_trees(&mut self)
         ensures expressions { self.new.expressions.entries ≡ [] }
         ensures far { self.new.far.entries ≡ [] }
         ensures near { (self.new.slots ≡ self.old.slots) × (self.new.used ≡ self.old.used) }
     {
         self.expressions.clear();
         self.far.clear();
-    }
-
-    // Takes all registers out.
-    #[inline(always)]
-    #[tactic(auto, using(crate::proofs::Slots::none_listed, crate::proofs::Slots::none_hold))]
-    pub(crate) fn clear(&mut self)
-        requires { EntriesSo self.old }
-        ensures entries { entries_of self.new ≡ [] }
-        ensures so { EntriesSo self.new }
-    {
-        self.used = 0;
-        if self.is_narrow() {
-            return;
-        }
-        self.clear_trees();
     }
 
     // Gives a register that has a slot a rule that is no expression.
@@ -287,7 +171,7 @@ impl<'a> Entries<'a> {
 
     // Gives a register that may have a slot a rule.
     #[inline(always)]
-    fn set_near(&mut self, register: u16, rule: RegRule<'a>) -> Result<(), AllocError>
+    pub(crate) fn set_near(&mut self, register: u16, rule: RegRule<'a>) -> Result<(), AllocError>
         requires so { EntriesSo self.old }
         requires near { register < 128 }
         ensures ok { OnOk result (entries_of self.new ≡ put register rule.entry (entries_of self.old)) }
@@ -341,22 +225,6 @@ impl<'a> Entries<'a> {
             return self.copy_beside(others, register);
         }
         self.put_plain(register, slot);
-        Ok(())
-    }
-
-    // Gives a register a rule.
-    #[inline(always)]
-    #[tactic(auto, using(crate::proofs::Slots::far_set, crate::proofs::Slots::put_so, crate::proofs::Lent::RowLists::lower))]
-    pub(crate) fn set(&mut self, register: u16, rule: RegRule<'a>) -> Result<(), AllocError>
-        requires { EntriesSo self.old }
-        ensures ok { OnOk result (entries_of self.new ≡ put register rule.entry (entries_of self.old)) }
-        ensures so { EntriesSo self.new }
-        ensures err { OnErr result (entries_of self.new ≡ entries_of self.old) }
-    {
-        if register < NEAR {
-            return self.set_near(register, rule);
-        }
-        set_in_tree(&mut self.far, register, rule)?;
         Ok(())
     }
 

@@ -7,22 +7,8 @@ use crate::entries::Entries;
 use crate::near_slots::copy_slots;
 
 impl<'a> Entries<'a> {
-    // Gives the registers in a mask the rules that others give them, where all others below 128 have the same rules, and those
-    // beside slots are the same.
-    #[inline(always)]
-    fn copy_masked(&mut self, others: &Entries<'a>, mask: u128)
-        requires so { EntriesSo self.old }
-        requires others { EntriesSo others.now }
-        requires expressions { self.old.expressions.entries ≡ others.now.expressions.entries }
-        requires same { SameUnset mask (entries_of self.old) (entries_of others.now) }
-        ensures copied { CopiedUpTo 128 (entries_of others.now) (entries_of self.old) (entries_of self.new) }
-        ensures so { EntriesSo self.new }
-    {
-        copy_slots(&mut self.slots, &others.slots, others.used & mask);
-        self.used = others.used;
-    }
-
-    // The same where no rule is kept beside a slot, and says whether that is so.
+    // Gives the registers in a mask the rules that others give them, where all others below 128 have the same rules, if none is kept
+    // beside a slot, and says whether that is so.
     #[inline(always)]
     pub(crate) fn copy_among(&mut self, others: &Entries<'a>, mask: u128) -> bool
         requires so { EntriesSo self.old }
@@ -35,7 +21,8 @@ impl<'a> Entries<'a> {
         if !self.expressions.is_empty() || !others.expressions.is_empty() {
             return false;
         }
-        self.copy_masked(others, mask);
+        copy_slots(&mut self.slots, &others.slots, others.used & mask);
+        self.used = others.used;
         true
     }
 }

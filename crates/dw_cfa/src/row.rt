@@ -1,18 +1,20 @@
 //! Rows of rules (6.4.1).
 
-ghost use Rattle.std.specs.{Prelude.{◌≡◌, ◌<◌, ℤ, [], ◌∷◌, false, IfOk, OnOk, OnErr, MatchOption, IsTrue, ◌↔◌}, Iterator.{YieldsFirst, item_count}};
-ghost use Rattle.dw_cfa.specs.{Agreement.{IsAgreed, kept}, Difference.{FirstDifference, place_behind}};
+ghost use Rattle.std.specs.{Prelude.{◌≡◌, ◌<◌, ℤ, [], ◌∷◌, IfOk, OnOk, OnErr, MatchOption, IsTrue, ◌↔◌}, Iterator.{YieldsFirst, item_count}};
+ghost use Rattle.dw_cfa.specs.{Agreement.{kept, without}, Difference.{FirstDifference, place_behind}};
 ghost use Rattle.dw_cfa.specs.{Rows.{AreSpecified, rule, rule_in, blank}, declared.rule.RegRule.TheVariants.Offset};
-ghost use Rattle.dw_cfa.specs.Inner.{Difference.{FirstBelow, SameUnset}, LookUp.SpecifiesIn, Among.CopiedUpTo, Rows.{with_cfa, with_rule}};
+ghost use Rattle.dw_cfa.specs.Inner.{LookUp.SpecifiesIn, Rows.{with_cfa, with_rule}};
 
+use crate::behind::place_behind;
 use crate::entries::{Entries, NEAR};
 use crate::near_slots::{next_in, next_near};
 use crate::rule::{CfaRule, RegRule};
 use crate::slot::{Slot, offset_in};
-use crate::tree::next_in_tree;
+use crate::tree::{next_in_tree, set_in_tree};
 use std::alloc::{AllocError, Global};
 use std::collections::BTreeMap;
 use std::marker::Model;
+
 /// The rules at an address, a row of the table of 6.4.1: how the canonical frame address and the registers of the caller are found. A
 /// contract sees the CFA's rule and the registers that are not Unspecified, ascending, with theirs.
 #[derive(Drop)]
@@ -68,31 +70,6 @@ impl<'r, 'a> Model for Specified<'r, 'a> {
 }
 
 impl<'r, 'a> Specified<'r, 'a> {
-    #[inline(always)]
-    #[tactic(auto, using(crate::proofs::Slots::slots_end, crate::proofs::Difference::none_behind))]
-    fn step(&mut self) -> Option<(u16, RegRule<'a>)>
-        ensures { MatchOption result ((self.old ≡ []) × (self.new ≡ [])) (λ entry. self.old ≡ entry ∷ self.new) }
-    {
-        if let Some((register, rule)) = next_near(
-            self.at,
-            self.slots,
-            self.used,
-            self.expressions,
-        ) {
-            self.at = register + 1;
-            return Some((register, rule));
-        }
-        self.at = NEAR;
-        if self.far.is_empty() {
-            return None;
-        }
-        let Some((register, rule)) = next_in_tree(self.far, self.last) else {
-            return None;
-        };
-        self.last = Some(register);
-        Some((register, rule))
-    }
-
     /// The next register with its offset, where it is below 128 and its rule an `Offset` of 16 bits; else none, and it stays.
     #[inline(always)]
     pub fn next_offset(&mut self) -> Option<(u16, i64)>
@@ -113,30 +90,60 @@ impl<'r, 'a> Iterator for Specified<'r, 'a> {
     ghost remaining = { item_count (λ entries. entries) };
 
     #[inline(always)]
+    #[tactic(auto, using(crate::proofs::Slots::slots_end, crate::proofs::Difference::none_behind))]
     fn next(&mut self) -> Option<(u16, RegRule<'a>)> {
-        self.step()
+        if let Some((register, rule)) = next_near(
+            self.at,
+            self.slots,
+            self.used,
+            self.expressions,
+        ) {
+            self.at = register + 1;
+            return Some((register, rule));
+        }
+        self.at = NEAR;
+        if self.far.is_empty() {
+            return None;
+        }
+        let Some((register, rule)) = next_in_tree(self.far, self.last) else {
+            return None;
+        };
+        self.last = Some(register);
+        Some((register, rule))
     }
 }
 
 impl<'a> Row<'a> {
     /// A row in which nothing is set. Takes no memory.
+    #[tactic(auto, using(crate::proofs::Slots::none_hold, crate::proofs::Slots::none_listed))]
     pub fn blank(alloc: Global) -> Row<'a>
         ensures { result ≡ blank }
     {
+        let entries = Entries {
+            slots: [Slot::Undefined; 128],
+            used: 0,
+            expressions: BTreeMap::new(alloc),
+            far: BTreeMap::new(alloc),
+        };
         Row {
             cfa: CfaRule::Unset,
-            entries: Entries::none(alloc),
+            entries,
             alloc,
         }
     }
 
     /// Takes out all that is set. Takes no memory.
     #[inline(always)]
+    #[tactic(auto, using(crate::proofs::Slots::none_listed, crate::proofs::Slots::none_hold))]
     pub(crate) fn clear(&mut self)
         ensures { self.new ≡ blank }
     {
         self.cfa = CfaRule::Unset;
-        self.entries.clear();
+        self.entries.used = 0;
+        if self.entries.is_narrow() {
+            return;
+        }
+        self.entries.clear_trees();
     }
 
     /// The same row once more, or want of memory.
@@ -177,7 +184,19 @@ impl<'a> Row<'a> {
     pub fn offset_of(&self, register: u16) -> Option<i64>
         ensures { MatchOption result ((n : ℤ) → rule self.now register ≡ Offset n → ⊥) (λ n. rule self.now register ≡ Offset n) }
     {
-        self.entries.offset_of(register)
+        // Read from its slot where it has one, since a rule is moved about.
+        if register < NEAR {
+            if let Some(slot) = self.entries.slot(register) {
+                let found = offset_in(slot);
+                if found.is_some() {
+                    return found;
+                }
+            }
+        }
+        match self.rule(register) {
+            RegRule::Offset(offset) => Some(offset),
+            _ => None,
+        }
     }
 
     /// Whether another row gives a register the same rule. Expressions are compared by their operations.
@@ -185,18 +204,29 @@ impl<'a> Row<'a> {
     pub fn has_same_rule(&self, other: &Row<'_>, register: u16) -> bool
         ensures { IsTrue result ↔ (rule self.now register ≡ rule other.now register) }
     {
-        self.entries.has_same(&other.entries, register)
+        if register >= NEAR {
+            return self.rule(register).is_same(&other.rule(register));
+        }
+        self.entries.has_same_near(&other.entries, register)
+    }
+
+    // Whether another row has the same registers with the same rules.
+    fn has_same_registers(&self, other: &Row<'_>) -> bool
+        ensures { IsTrue result ↔ (self.now.registers ≡ other.now.registers) }
+    {
+        self.next_difference(other, None).is_none()
     }
 
     /// Whether both rows have the same rule in every column. Expressions are compared by their operations.
     pub fn is_same(&self, other: &Row<'_>) -> bool
         ensures { IsTrue result ↔ (self.now ≡ other.now) }
     {
-        self.cfa.is_same(&other.cfa) && self.entries.is_same(&other.entries)
+        self.cfa.is_same(&other.cfa) && self.has_same_registers(other)
     }
 
     /// The least register to which another row gives another rule, of those behind a given one where there is such;
     /// or none. Takes no memory.
+    #[tactic(auto, using(crate::proofs::Difference::first_of_all, crate::proofs::Difference::none_of_all, crate::proofs::Difference::unused))]
     pub fn next_difference(&self, other: &Row<'_>, behind: Option<u16>) -> Option<u16>
         ensures first { FirstDifference (place_behind behind) self.now.registers other.now.registers result }
         ensures ascending { AreSpecified 0 self.now.registers }
@@ -204,17 +234,15 @@ impl<'a> Row<'a> {
     {
         self.ascends();
         other.ascends();
-        self.entries.next_difference(&other.entries, behind)
-    }
-
-    /// The least register from a place on that is in a mask, and to which another row gives another rule.
-    #[inline(always)]
-    pub(crate) fn next_near_difference(&self, other: &Row<'_>, mask: u128, from: u32) -> Option<u16>
-        requires { SameUnset mask self.now.registers other.now.registers }
-        ensures { FirstBelow 128 from self.now.registers other.now.registers result }
-    {
-        self.entries
-            .next_near_difference(&other.entries, mask, from)
+        let (entries, others) = (&self.entries, &other.entries);
+        let mask = entries.used | others.used;
+        if let Some(register) = entries.next_near_difference(others, mask, place_behind(behind)) {
+            return Some(register);
+        }
+        if entries.far.is_empty() && others.far.is_empty() {
+            return None;
+        }
+        entries.far_difference(others, behind)
     }
 
     /// Registers ascend. This does nothing.
@@ -227,12 +255,21 @@ impl<'a> Row<'a> {
 
     /// The registers that are not Unspecified, ascending, with their rules. Takes no memory.
     #[inline(always)]
+    #[tactic(auto, using(crate::proofs::Difference::all_behind))]
     pub fn specified(&self) -> Specified<'_, 'a>
         ensures all { result ≡ self.now.registers }
         ensures ascending { AreSpecified 0 self.now.registers }
     {
         self.ascends();
-        self.entries.all()
+        let entries = &self.entries;
+        Specified {
+            at: 0,
+            slots: &entries.slots,
+            used: entries.used,
+            expressions: &entries.expressions,
+            far: &entries.far,
+            last: None,
+        }
     }
 
     pub(crate) fn set_cfa(&mut self, cfa: CfaRule<'a>)
@@ -263,11 +300,27 @@ impl<'a> Row<'a> {
 
     // Gives a register a rule, or answers want of memory.
     #[inline(always)]
+    #[tactic(auto, using(crate::proofs::Slots::far_set, crate::proofs::Slots::put_so, crate::proofs::Lent::RowLists::lower))]
     pub(crate) fn set(&mut self, register: u16, rule: RegRule<'a>) -> Result<(), AllocError>
         ensures ok { OnOk result (self.new ≡ with_rule register rule.entry self.old) }
         ensures err { OnErr result (self.new ≡ self.old) }
     {
-        self.entries.set(register, rule)
+        if register < NEAR {
+            return self.entries.set_near(register, rule);
+        }
+        set_in_tree(&mut self.entries.far, register, rule)?;
+        Ok(())
+    }
+
+    /// Leaves a register Unspecified (6.4.1). Takes no memory.
+    #[tactic(auto, using(crate::proofs::Lent::Narrowed::put_out, crate::proofs::Slots::entries_ascend, crate::proofs::Slots::far_set, crate::proofs::Slots::put_so, crate::proofs::WideRows::removed_is))]
+    pub fn drop_register(&mut self, register: u16)
+        ensures { self.new ≡ without register self.old }
+    {
+        if register < NEAR {
+            return self.entries.drop_near(register);
+        }
+        self.entries.far.remove(&register);
     }
 
     // Gives a register below 128 the rule that another row gives it, or answers want of memory.
@@ -280,27 +333,6 @@ impl<'a> Row<'a> {
         self.entries.copy_near(&other.entries, register)
     }
 
-    // Gives the registers in a mask the rules of another row, where all others below 128 have the same rules and no rule of either
-    // is kept beside a slot, and says whether that is so.
-    #[inline(always)]
-    pub(crate) fn copy_among(&mut self, other: &Row<'a>, mask: u128) -> bool
-        requires { SameUnset mask self.old.registers other.now.registers }
-        ensures copied { IsTrue result → CopiedUpTo 128 other.now.registers self.old.registers self.new.registers }
-        ensures stays { result ≡ false → self.new ≡ self.old }
-    {
-        self.entries.copy_among(&other.entries, mask)
-    }
-
-    /// Keeps what another row has too: the CFA's rule, and the registers with their rules. Takes no memory.
-    pub fn agree(&mut self, other: &Row<'_>)
-        ensures { IsAgreed self.old other.now self.new }
-    {
-        self.entries.agree(&other.entries);
-        if !self.cfa.is_same(&other.cfa) {
-            self.cfa = CfaRule::Unset;
-        }
-    }
-
     /// Drops the registers that another row leaves Unspecified. Takes no memory.
     pub fn keep(&mut self, other: &Row<'_>)
         ensures { self.new ≡ kept self.old other.now }
@@ -309,10 +341,16 @@ impl<'a> Row<'a> {
     }
 
     /// Whether it specifies every register that another row specifies. Takes no memory.
+    #[tactic(auto, using(crate::proofs::Lent::Narrowed::first_dropped, crate::proofs::Lent::Narrowed::first_left))]
     pub(crate) fn specifies_all(&self, other: &Row<'_>) -> bool
         ensures { IsTrue result ↔ (kept other.now self.now ≡ other.now) }
     {
-        self.entries.have_all(&other.entries)
+        for (register, _) in other.specified() {
+            if !self.rule(register).is_specified() {
+                return false;
+            }
+        }
+        true
     }
 
     // The registers below 128 that are specified.

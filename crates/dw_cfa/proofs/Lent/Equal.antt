@@ -12,10 +12,6 @@ cfa_test_of a b r is = one_answer r (same_cfa a b) is (cfa_tells a b)
 pub test_of : (a b : RegRule) (r : Bool) → (IsTrue r ↔ (a ≡ b)) → r ≡ same_rule a b
 test_of a b r is = one_answer r (same_rule a b) is (rule_tells a b)
 
--- the same of values that are known to be those
-pub test_at : (x y a b : RegRule) (r : Bool) → (IsTrue r ↔ (x ≡ y)) → x ≡ a → y ≡ b → r ≡ same_rule a b
-test_at x y a b r is one two = rw (sym one, sym two) (test_of x y r is)
-
 pub differs_of : (a b : RegRule) → (a ≡ b → ⊥) → same_rule a b ≡ false
 differs_of a b differ = elim (cases_Bool (same_rule a b)) [ inl e ↦ absurd (differ ((rule_tells a b).0 e)) | inr e ↦ e ]
 

@@ -1,4 +1,5 @@
 -- Rows with the same rule in every column are the same.
+use Rattle.dw_cfa.proofs.Words.{Bool, false, Option, Some, None, FirstDifference, IsTrue, is_some, not, ◌↔◌}
 use Rattle.dw_cfa.proofs.{Words.{eq-eqb, ◌≡◌, ℕ, suc, ◌<◌, true, List, [], ◌∷◌, refl, sym, ap, ◌∙◌, subst, arith, nat_tests, CfaRule, RegRule, Rules, Unspecified, AreSpecified, is_specified, rule_in, rule}, Lent.RowLists.{Entry, unlisted}}
 
 pub first_rule : (x : Entry) (xs : List Entry) → rule_in (x ∷ xs) x.0 ≡ x.1
@@ -29,3 +30,12 @@ one_row a b cfa registers =
 
 pub same_rows : (a b : Rules) → AreSpecified 0 a.registers → AreSpecified 0 b.registers → a.cfa ≡ b.cfa → ((r : ℕ) → rule a r ≡ rule b r) → a ≡ b
 same_rows a b h k cfa rules = one_row a b cfa (same_entries 0 a.registers b.registers h k rules)
+
+-- rows are the same where no register's rule differs
+pub same_exactly : (xs ys : List Entry) (o : Option ℕ) (none : Bool) → AreSpecified 0 xs → AreSpecified 0 ys → FirstDifference 0 xs ys o → is_some o ≡ not none → IsTrue none ↔ (xs ≡ ys)
+same_exactly xs ys None true up up' h is = ((λ t. same_entries 0 xs ys up up' (λ r. h r (omega arith))), (λ e. refl))
+same_exactly xs ys (Some q) false up up' h is = (
+  (λ t. absurd cc),
+  (λ e. absurd (h.2 (ap (λ (l : List Entry). rule_in l q) e))),
+)
+same_exactly xs ys o none up up' h is = absurd cc

@@ -1,4 +1,4 @@
-use Rattle.dw_cfa.proofs.Lent.Skipped.{same_exactly}
+use Rattle.dw_cfa.proofs.Lent.SameRows.{same_exactly}
 use Rattle.dw_cfa.proofs.kept_row.KeptRow.has_same_registers.Goals as goal
 
 pub returns : goal.returns
