@@ -6,6 +6,10 @@ ghost use Rattle.dw_op.specs.declared.op.Op.TheVariants.{DerefSize};
 ghost use Rattle.dw_eval.specs.{Context.{context, read_at}, Effect.{on_top, known, push, effect, ReadsAt, ReadsMemory}};
 ghost use Rattle.dw_eval.specs.{declared.error.Kind.TheVariants.Unreadable, Inner.Steps.Acts};
 
+use crate::arithmetic::{
+    magnitude, minus, plus, reduced, shifted_left, shifted_right, shifted_signed, signed, times,
+    turned,
+};
 use crate::env::Env;
 use crate::error::Kind;
 use crate::memory::{Memory, ReadFault};
@@ -47,7 +51,7 @@ fn read<M: Memory>(stack: &mut Stack, len: usize, env: &Env<'_>, memory: &mut M)
 }
 
 /// Executes an operation.
-#[tactic(auto, using(crate::proofs::Steps::acts_so))]
+#[tactic(auto, using(crate::proofs::Steps::acts_so, crate::proofs::Steps::one_does, crate::proofs::Steps::two_does))]
 pub(crate) fn act<M: Memory>(
     op: &Op<'_>,
     stack: &mut Stack,
@@ -70,28 +74,28 @@ pub(crate) fn act<M: Memory>(
         Op::Pick(index) => stack.pick(index),
         Op::Swap => stack.swap(),
         Op::Rot => stack.rot(),
-        Op::Abs => stack.abs(size),
-        Op::And => stack.and(size),
+        Op::Abs => stack.one(|t| magnitude(t, size)),
+        Op::And => stack.two(|s, t| reduced(s & t, size)),
         Op::Div => stack.div(size),
-        Op::Minus => stack.minus(size),
+        Op::Minus => stack.two(|s, t| minus(s, t, size)),
         Op::Mod => stack.modulus(size),
-        Op::Mul => stack.mul(size),
-        Op::Neg => stack.neg(size),
-        Op::Not => stack.turn(size),
-        Op::Or => stack.or(size),
-        Op::Plus => stack.plus(size),
-        Op::PlusUconst(number) => stack.plus_uconst(number, size),
-        Op::Shl => stack.shl(size),
-        Op::Shr => stack.shr(size),
-        Op::Shra => stack.shra(size),
-        Op::Xor => stack.xor(size),
+        Op::Mul => stack.two(|s, t| times(s, t, size)),
+        Op::Neg => stack.one(|t| minus(0, t, size)),
+        Op::Not => stack.one(|t| turned(t, size)),
+        Op::Or => stack.two(|s, t| reduced(s | t, size)),
+        Op::Plus => stack.two(|s, t| plus(s, t, size)),
+        Op::PlusUconst(number) => stack.one(|t| plus(t, number, size)),
+        Op::Shl => stack.two(|s, t| shifted_left(s, t, size)),
+        Op::Shr => stack.two(|s, t| shifted_right(s, t, size)),
+        Op::Shra => stack.two(|s, t| shifted_signed(s, t, size)),
+        Op::Xor => stack.two(|s, t| reduced(s ^ t, size)),
         Op::Bra(target) => stack.bra(target),
-        Op::Eq => stack.eq(),
-        Op::Ge => stack.ge(size),
-        Op::Gt => stack.gt(size),
-        Op::Le => stack.le(size),
-        Op::Lt => stack.lt(size),
-        Op::Ne => stack.ne(),
+        Op::Eq => stack.two(|s, t| u64::from(s == t)),
+        Op::Ge => stack.two(|s, t| u64::from(signed(s, size) >= signed(t, size))),
+        Op::Gt => stack.two(|s, t| u64::from(signed(s, size) > signed(t, size))),
+        Op::Le => stack.two(|s, t| u64::from(signed(s, size) <= signed(t, size))),
+        Op::Lt => stack.two(|s, t| u64::from(signed(s, size) < signed(t, size))),
+        Op::Ne => stack.two(|s, t| u64::from(s != t)),
         Op::Skip(target) => Ok(Flow::Jump(target)),
         Op::Breg(register, by) => stack.put_offset(
             env.registers.get(register),
