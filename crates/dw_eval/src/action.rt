@@ -7,8 +7,8 @@ ghost use Rattle.dw_eval.specs.{Context.{context, read_at}, Effect.{on_top, know
 ghost use Rattle.dw_eval.specs.{declared.error.Kind.TheVariants.Unreadable, Inner.Steps.Acts};
 
 use crate::arithmetic::{
-    magnitude, minus, plus, reduced, shifted_left, shifted_right, shifted_signed, signed, times,
-    turned,
+    magnitude, minus, offset_by, plus, reduced, shifted_left, shifted_right, shifted_signed,
+    signed, times, turned,
 };
 use crate::env::Env;
 use crate::error::Kind;
@@ -44,7 +44,7 @@ fn read<M: Memory>(stack: &mut Stack, len: usize, env: &Env<'_>, memory: &mut M)
         return Err(Stop::Fault(Kind::Unreadable { address, len }));
     }
     match memory.read(address, len, target.order) {
-        Ok(number) => stack.put_number(number, target.size),
+        Ok(number) => stack.put(reduced(number, target.size)),
         Err(ReadFault::Unreadable) => Err(Stop::Fault(Kind::Unreadable { address, len })),
         Err(ReadFault::Device) => Err(Stop::Device),
     }
@@ -65,9 +65,9 @@ pub(crate) fn act<M: Memory>(
 {
     let size = env.target.size;
     match *op {
-        Op::Addr(number) => stack.put_number(number, size),
+        Op::Addr(number) => stack.put(reduced(number, size)),
         Op::Deref => read(stack, usize::from(size.byte_count()), env, memory),
-        Op::Const(number) => stack.put_number(number, size),
+        Op::Const(number) => stack.put(reduced(number, size)),
         Op::Dup => stack.pick(0),
         Op::Drop => stack.drop_top(),
         Op::Over => stack.pick(1),
@@ -97,17 +97,25 @@ pub(crate) fn act<M: Memory>(
         Op::Lt => stack.two(|s, t| u64::from(signed(s, size) < signed(t, size))),
         Op::Ne => stack.two(|s, t| u64::from(s != t)),
         Op::Skip(target) => Ok(Flow::Jump(target)),
-        Op::Breg(register, by) => stack.put_offset(
-            env.registers.get(register),
-            by,
-            Kind::NoRegister { register },
-            size,
-        ),
-        Op::Fbreg(by) => stack.put_offset(env.frame_base, by, Kind::NoFrameBase, size),
+        Op::Breg(register, by) => {
+            let value = env.registers.get(register);
+            let sum = value.map(|value| offset_by(value, by, size));
+            stack.put_known(sum, Kind::NoRegister { register })
+        }
+        Op::Fbreg(by) => {
+            let sum = env.frame_base.map(|base| offset_by(base, by, size));
+            stack.put_known(sum, Kind::NoFrameBase)
+        }
         Op::DerefSize(len) => read(stack, usize::from(len), env, memory),
         Op::Nop => Ok(Flow::Next),
-        Op::PushObjectAddress => stack.put_known(env.object, Kind::NoObject, size),
-        Op::CallFrameCfa => stack.put_known(env.cfa, Kind::NoCfa, size),
+        Op::PushObjectAddress => {
+            let object = env.object.map(|object| reduced(object, size));
+            stack.put_known(object, Kind::NoObject)
+        }
+        Op::CallFrameCfa => {
+            let cfa = env.cfa.map(|cfa| reduced(cfa, size));
+            stack.put_known(cfa, Kind::NoCfa)
+        }
         Op::Reg(_) | Op::Piece(_) | Op::BitPiece(_, _) | Op::Implicit(_) => Err(Stop::Fault(
             Kind::NotAValue,
         )),

@@ -24,10 +24,8 @@ impl Stack {
     pub(crate) fn pick(&mut self, index: u8) -> Answer
         ensures { Does (known StackUnderflow (slice_get self.old index) (λ v. Next (v ∷ self.old))) result self.new }
     {
-        match self.get(usize::from(index)) {
-            Some(value) => self.put(value),
-            None => Err(Stop::Fault(Kind::StackUnderflow)),
-        }
+        let value = self.get(usize::from(index));
+        self.put_known(value, Kind::StackUnderflow)
     }
 
     pub(crate) fn swap(&mut self) -> Answer
@@ -98,36 +96,13 @@ impl Stack {
     }
 
     /// Puts a value on the stack, or faults where there is none.
-    pub(crate) fn put_known(&mut self, value: Option<u64>, missing: Kind, size: Size) -> Answer
-        ensures { Does (known missing value (λ v. push size v self.old)) result self.new }
+    pub(crate) fn put_known(&mut self, value: Option<u64>, missing: Kind) -> Answer
+        ensures { Does (known missing value (λ v. Next (v ∷ self.old))) result self.new }
     {
         match value {
-            Some(value) => self.put(arithmetic::reduced(value, size)),
+            Some(value) => self.put(value),
             None => Err(Stop::Fault(missing)),
         }
-    }
-
-    /// Puts the sum of a value and an offset on the stack, or faults where there is none.
-    pub(crate) fn put_offset(
-        &mut self,
-        value: Option<u64>,
-        by: i64,
-        missing: Kind,
-        size: Size,
-    ) -> Answer
-        ensures { Does (known missing value (λ v. push_signed size (pos v +ℤ by) self.old)) result self.new }
-    {
-        match value {
-            Some(value) => self.put(arithmetic::offset_by(value, by, size)),
-            None => Err(Stop::Fault(missing)),
-        }
-    }
-
-    /// Puts a number on the stack.
-    pub(crate) fn put_number(&mut self, number: u64, size: Size) -> Answer
-        ensures { Does (push size number self.old) result self.new }
-    {
-        self.put(arithmetic::reduced(number, size))
     }
 
     /// Takes a value that should be a place.
