@@ -104,22 +104,6 @@ pub(crate) fn same_steps(mut a: OpSteps<'_>, mut b: OpSteps<'_>) -> bool
     }
 }
 
-/// Whether two lists have the same operations.
-#[tactic(auto, using(crate::proofs::Lent::Lines::at_same))]
-pub(crate) fn same_ops(a: &[Op<'_>], b: &[Op<'_>]) -> bool
-    ensures { IsTrue result ↔ map bare a.now ≡ map bare b.now }
-{
-    if a.len() != b.len() {
-        return false;
-    }
-    for (index, op) in a.iter().enumerate() {
-        if !same_op(*op, b[index]) {
-            return false;
-        }
-    }
-    true
-}
-
 fn order_in(order: Order) -> u8
     ensures { result ≡ order_number order }
 {
