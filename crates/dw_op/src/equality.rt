@@ -7,7 +7,7 @@ ghost use Rattle.dw_op.specs.Inner.Equality.{line, alone, op_line, order_number,
 
 use crate::expression::OpSteps;
 use crate::op::{Op, alone_code};
-use dw_num::{Order, Size, Target};
+use dw_num::{Order, Target};
 use std::hash::Hasher;
 
 /// What tells an operation from every other.
@@ -116,10 +116,7 @@ fn order_in(order: Order) -> u8
 pub(crate) fn feed_target<H: Hasher>(target: Target, state: &mut H)
     ensures { state.new ≡ fold H.write state.old (line_fed (target_line target)) }
 {
-    match target.size {
-        Size::Four => state.write_u8(4),
-        Size::Eight => state.write_u8(8),
-    }
+    state.write_u8(target.size.byte_count());
     state.write_u8(order_in(target.order));
 }
 
@@ -147,17 +144,11 @@ fn feed_line<H: Hasher>(line: Line<'_>, state: &mut H)
     state.write(line.bytes);
 }
 
-fn feed_op<H: Hasher>(op: Op<'_>, state: &mut H)
-    ensures { state.new ≡ fold H.write state.old (line_fed (op_line (bare op.entry))) }
-{
-    feed_line(in_line(op), state);
-}
-
 /// Feeds the operations of a walk.
 pub(crate) fn feed_steps<H: Hasher>(mut steps: OpSteps<'_>, state: &mut H)
     ensures { state.new ≡ fold H.write state.old (lines_fed (map op_line steps.entry)) }
 {
     'ops: while let Some(op) = steps.step() {
-        feed_op(op, state);
+        feed_line(in_line(op), state);
     }
 }
