@@ -1,5 +1,4 @@
 -- What was gathered is what the lines say, or their first fault.
-use Rattle.std.proofs.Common.{rules}
 use Rattle.dw_unwind.proofs.Words.{◌≡◌, ℕ, zero, suc, ◌+◌, ◌-◌, ◌^◌, ◌<◌, ◌≤◌, Bool, true, false, cond, List, [], ◌∷◌, ◌++◌, length, take, get_or, Option, Some, None, refl, sym, ap, subst, ◌∙◌, arith, add-one, inl}
 use Rattle.dw_unwind.proofs.Words.{inr, append_assoc, length-append, is_some, slice_get, AllByRecursion, AllZip, leb_tells, sum_by-cons, sum_by-append, append-nil, AllZip-long, slice_get_past, slice_get-get_or}
 use Rattle.dw_unwind.proofs.Words.{Repeated, DumpFault, Gathered, Range, SaysWithin, Say, FirstFault, Gathers, Keeps, IsWhole, ranges_of, bytes_of, covers, byte_among, cover_count, AreApart, Meet, IsSoundRange}
