@@ -17,13 +17,13 @@ import sys
 # Lines of sources, and of proofs.
 BUDGET = {
     "dw_num": (950, 1187),
-    "dw_op": (2102, 3969),
-    "dw_eval": (1519, 1117),
+    "dw_op": (2028, 3861),
+    "dw_eval": (1392, 1065),
     "dw_cfa": (4998, 5391),
     "dw_section": (2976, 5540),
     "dw_canon": (53, 3324),
     "dw_normal": (2897, 3009),
-    "dw_unwind": (1658, 2304),
+    "dw_unwind": (1613, 2291),
     "dw_words": (950, 1004),
     "dw_command": (2360, 2150),
     "dwframe": (277, 0),

@@ -2,8 +2,8 @@
 use Rattle.std.proofs.lemmas.Nat.{mod_below}
 use Rattle.dw_eval.specs.{Space.AreInSpace, Wanted.IsMissing}
 use Rattle.dw_eval.proofs.Words.{◌≡◌, ◌⊎◌, ℕ, ℤ, zero, suc, ◌+◌, ◌%◌, ◌<◌, ◌≤◌, Bool, true, false, List, [], ◌∷◌, length, Option, Some, None, Result, Ok, Err, refl, subst, inl, inr, arith, slice_get, nat_eq, if◌then◌else◌, slice_get_within, Target}
-use Rattle.dw_eval.proofs.Words.{Size, Four, Eight, byte_count, address_limit, Op, Addr, Deref, Const, Dup, Drop, Over, Pick, Swap, Rot, Abs, Div, Minus, Mod, Neg, Not, PlusUconst, Shra, Bra, Eq, Ge, Gt, Le, Lt, Ne, Skip, Reg, Breg, Fbreg, Piece, DerefSize, Nop}
-use Rattle.dw_eval.proofs.Words.{PushObjectAddress, CallFrameCfa, BitPiece, Implicit, StackValue, branch_target, InRange, AllInRange, TargetWithin, modulo_below, Kind, StackUnderflow, DivideByZero, NoRegister, Unreadable, NoFrameBase, NoCfa}
+use Rattle.dw_eval.proofs.Words.{Size, Four, Eight, address_limit, Op, Dup, Drop, Over, Pick, Swap, Rot, Div, Mod, Bra, Skip, Breg, Fbreg, Nop}
+use Rattle.dw_eval.proofs.Words.{PushObjectAddress, CallFrameCfa, StackValue, branch_target, InRange, AllInRange, TargetWithin, modulo_below, Kind, StackUnderflow, DivideByZero, NoRegister, Unreadable, NoFrameBase, NoCfa}
 use Rattle.dw_eval.proofs.Words.{NoObject, Context, read_at, OpEffect, Next, Jump, Faults, on_top, on_two, on_three, known, push, push_signed, tell, effect, leads, State, value_step}
 use Rattle.std.specs.List.{AllByRecursion}
 

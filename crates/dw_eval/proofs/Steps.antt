@@ -1,7 +1,7 @@
 -- What one operation of the code tells of a run.
 use Rattle.dw_op.specs.Inner.Ranges.{Fits}
 use Rattle.dw_eval.proofs.Words.{◌≡◌, ℕ, ◌+◌, ◌<◌, ◌≤◌, List, length, length-map, map, get_or, Some, Result, Ok, Err, refl, sym, ◌∙◌, ap, subst, inl, inr, arith, slice_get, Target, byte_count, Op, DerefSize, bare, bare_at, in_range_at, fits, AllInRange}
-use Rattle.dw_eval.proofs.Words.{Context, EvalError, Fault, OutOfMemory, Kind, Device, StepLimit, Runs, OpEffect, Does, Acts, StepsTo, [], ◌∷◌, ◌^◌, Next, Faults, on_top, on_two}
+use Rattle.dw_eval.proofs.Words.{Context, EvalError, Fault, OutOfMemory, Kind, Device, StepLimit, Runs, OpEffect, Does, Acts, StepsTo, ◌∷◌, ◌^◌, Next, Faults, on_top, on_two}
 use Rattle.dw_eval.specs.Inner.Steps.{MakesOfOne, MakesOfTwo}
 use Rattle.std.proofs.Math.Numerals.{suc-eq-add-one}
 use Rattle.dw_eval.specs.{Inner.Runs.{Answered, Right, Short, Failed}, declared.stack.Flow.Flow, declared.stack.Stop.Stop}
