@@ -2,8 +2,8 @@
 use Rattle.std.proofs.lemmas.Nat.{mod_below}
 use Rattle.dw_eval.specs.{Space.AreInSpace, Wanted.IsMissing}
 use Rattle.dw_eval.proofs.Words.{◌≡◌, ◌⊎◌, ℕ, ℤ, zero, suc, ◌+◌, ◌%◌, ◌<◌, ◌≤◌, Bool, true, false, List, [], ◌∷◌, length, Option, Some, None, Result, Ok, Err, refl, subst, inl, inr, arith, slice_get, nat_eq, if◌then◌else◌, slice_get_within, Target}
-use Rattle.dw_eval.proofs.Words.{Size, Four, Eight, byte_count, address_limit, Op, Addr, Deref, Const, Dup, Drop, Over, Pick, Swap, Rot, Abs, Div, Minus, Mod, Neg, Not, PlusUconst, Shra, Bra, Eq, Ge, Gt, Le, Lt, Ne, Skip, Reg, Breg, Fbreg, Piece, DerefSize, Nop}
-use Rattle.dw_eval.proofs.Words.{PushObjectAddress, CallFrameCfa, BitPiece, Implicit, StackValue, branch_target, InRange, AllInRange, TargetWithin, modulo_below, Kind, StackUnderflow, DivideByZero, NoRegister, Unreadable, NoFrameBase, NoCfa}
+use Rattle.dw_eval.proofs.Words.{Size, Four, Eight, address_limit, Op, Dup, Drop, Over, Pick, Swap, Rot, Div, Mod, Bra, Skip, Breg, Fbreg, Nop}
+use Rattle.dw_eval.proofs.Words.{PushObjectAddress, CallFrameCfa, StackValue, branch_target, InRange, AllInRange, TargetWithin, modulo_below, Kind, StackUnderflow, DivideByZero, NoRegister, Unreadable, NoFrameBase, NoCfa}
 use Rattle.dw_eval.proofs.Words.{NoObject, Context, read_at, OpEffect, Next, Jump, Faults, on_top, on_two, on_three, known, push, push_signed, tell, effect, leads, State, value_step}
 use Rattle.std.specs.List.{AllByRecursion}
 
@@ -55,6 +55,9 @@ module _ (c : Context) where
   top_pushes_signed : (f : ℕ → ℤ) (stack : List ℕ) → Tells None (InSpace stack) (on_top stack (λ t below. push_signed c.target.size (f t) below))
   top_pushes_signed f stack = top_tells _ stack _ (λ t below h. (modulo_below c.target.size (f t), h.1))
 
+  two_push : (f : ℕ → ℕ → ℕ) (stack : List ℕ) → Tells None (InSpace stack) (on_two stack (λ s t below. push c.target.size (f s t) below))
+  two_push f stack = two_tell stack _ (λ s t below h. pushed (f s t) below h.1.1)
+
   two_push_signed : (f : ℕ → ℕ → ℤ) (stack : List ℕ) → Tells None (InSpace stack) (on_two stack (λ s t below. push_signed c.target.size (f s t) below))
   two_push_signed f stack = two_tell stack _ (λ s t below h. (modulo_below c.target.size (f s t), h.1.1))
 
@@ -77,43 +80,23 @@ module _ (c : Context) where
   branches false i t below = (refl, λ h. h.1)
 
   pub effect_tells : (op : Op) (stack : List ℕ) → Tells (branch_target op) (InSpace stack) (effect c op stack)
-  effect_tells (Addr a) stack = pushed a stack
-  effect_tells Deref stack = reads stack (byte_count c.target.size)
-  effect_tells (Const v) stack = pushed v stack
   effect_tells Dup stack = top_tells _ stack _ (λ t below h. (h.0, h))
   effect_tells Drop stack = top_tells _ stack _ (λ t below h. h.1)
   effect_tells Over stack = two_tell stack _ (λ s t below h. (h.1.0, h))
   effect_tells (Pick i) stack = pick_tells stack i (slice_get stack i) refl
   effect_tells Swap stack = two_tell stack _ (λ s t below h. (h.1.0, (h.0, h.1.1)))
   effect_tells Rot stack = rot_tells stack
-  effect_tells Abs stack = top_pushes _ stack
   effect_tells Div stack = two_tell stack _ (λ s t below. unless_zero _ (nat_eq (t % address_limit c.target.size) 0) _ (λ h. (modulo_below c.target.size _, h.1.1)))
-  effect_tells Minus stack = two_push_signed _ stack
   effect_tells Mod stack = two_tell stack _ (λ s t below. unless_zero _ (nat_eq t 0) _ (λ h. pushed _ below h.1.1))
-  effect_tells Neg stack = top_pushes_signed _ stack
-  effect_tells Not stack = top_pushes_signed _ stack
-  effect_tells (PlusUconst n) stack = top_pushes _ stack
-  effect_tells Shra stack = two_push_signed _ stack
   effect_tells (Bra i) stack = top_tells _ stack _ (λ t below. branches (nat_eq t 0) i t below)
-  effect_tells Eq stack = compares _ stack
-  effect_tells Ge stack = compares _ stack
-  effect_tells Gt stack = compares _ stack
-  effect_tells Le stack = compares _ stack
-  effect_tells Lt stack = compares _ stack
-  effect_tells Ne stack = compares _ stack
   effect_tells (Skip i) stack = (refl, λ h. h)
-  effect_tells (Reg r) stack = tt
   effect_tells (Breg r n) stack = known_tells _ (NoRegister r) (c.register r) _ (λ none. none) (λ v h. (modulo_below c.target.size _, h))
   effect_tells (Fbreg n) stack = known_tells _ NoFrameBase c.frame_base _ (λ none. none) (λ v h. (modulo_below c.target.size _, h))
-  effect_tells (Piece n) stack = tt
-  effect_tells (DerefSize k) stack = reads stack k
   effect_tells Nop stack = λ h. h
   effect_tells PushObjectAddress stack = known_tells _ NoObject c.object _ (λ none. none) (λ v. pushed v stack)
   effect_tells CallFrameCfa stack = known_tells _ NoCfa c.cfa _ (λ none. none) (λ v. pushed v stack)
-  effect_tells (BitPiece size offset) stack = tt
-  effect_tells (Implicit block) stack = tt
   effect_tells StackValue stack = top_tells _ stack _ (λ t below. tt)
-  effect_tells op stack = two_tell stack _ (λ s t below h. pushed _ below h.1.1)
+  effect_tells op stack = search (pushed, top_pushes, top_pushes_signed, two_push, two_push_signed, compares, reads)
 
   -- ---- steps
 

@@ -13,64 +13,25 @@ nothing = record { target = record { size = Eight; order = Little }; register = 
 abbrev small : Context
 small = record nothing { target = record { size = Four; order = Little } }
 
--- 8 / -1
-div : effect nothing Div (0xffff_ffff_ffff_ffff ∷ 8 ∷ []) ≡ Next (0xffff_ffff_ffff_fff8 ∷ [])
+-- what operations do to a stack
+effects : (effect nothing Div (0xffff_ffff_ffff_ffff ∷ 8 ∷ []) ≡ Next (0xffff_ffff_ffff_fff8 ∷ []))  -- 8 / -1
+    × (effect small Div (2 ∷ 0xffff_fff9 ∷ []) ≡ Next (0xffff_fffd ∷ []))  -- -7 / 2 is -3
+    × (effect small Div (0xffff_ffff ∷ 0x8000_0000 ∷ []) ≡ Next (0x8000_0000 ∷ []))  -- the least number by -1 is itself
+    × (effect small Abs (0x8000_0000 ∷ []) ≡ Next (0x8000_0000 ∷ []))
+    × (effect nothing Div (0 ∷ 8 ∷ []) ≡ Faults DivideByZero)
+    × (effect small Minus (2 ∷ 1 ∷ []) ≡ Next (0xffff_ffff ∷ []))
+    × (effect small Not (0xf ∷ []) ≡ Next (0xffff_fff0 ∷ []))
+    × (effect small Ge (0xffff_ffff ∷ 0 ∷ []) ≡ Next (1 ∷ []))
+    × (effect nothing Shl (64 ∷ 128 ∷ []) ≡ Next (0 ∷ []))
+    × (effect nothing Shra (1 ∷ 0xffff_ffff_ffff_fff8 ∷ []) ≡ Next (0xffff_ffff_ffff_fffc ∷ []))  -- -8 >> 1 is -4
+    × (effect nothing Shra (70 ∷ 0xffff_ffff_ffff_fff8 ∷ []) ≡ Next (0xffff_ffff_ffff_ffff ∷ []))  -- and by 70 all sign bits
+    × (effect nothing Rot (3 ∷ 2 ∷ 1 ∷ []) ≡ Next (2 ∷ 1 ∷ 3 ∷ []))  -- the second comes to the top
+    × (effect nothing (Pick 2) (3 ∷ 2 ∷ 1 ∷ []) ≡ Next (1 ∷ 3 ∷ 2 ∷ 1 ∷ []))
+    × (effect nothing (Pick 1) (3 ∷ []) ≡ Faults StackUnderflow)
+    × (effect nothing (Bra 7) (3 ∷ []) ≡ Jump 7 [])
+    × (effect nothing Deref (0xffff_ffff_ffff_fffc ∷ []) ≡ Faults (Unreadable 0xffff_ffff_ffff_fffc 8))
 unfolding signed
-div = refl
-
--- -7 / 2 is -3, and the least number by -1 is itself
-div_down : effect small Div (2 ∷ 0xffff_fff9 ∷ []) ≡ Next (0xffff_fffd ∷ [])
-unfolding signed
-div_down = refl
-
-div_least : effect small Div (0xffff_ffff ∷ 0x8000_0000 ∷ []) ≡ Next (0x8000_0000 ∷ [])
-unfolding signed
-div_least = refl
-
-abs_least : effect small Abs (0x8000_0000 ∷ []) ≡ Next (0x8000_0000 ∷ [])
-unfolding signed
-abs_least = refl
-
-div_zero : effect nothing Div (0 ∷ 8 ∷ []) ≡ Faults DivideByZero
-div_zero = refl
-
-minus : effect small Minus (2 ∷ 1 ∷ []) ≡ Next (0xffff_ffff ∷ [])
-minus = refl
-
-turned : effect small Not (0xf ∷ []) ≡ Next (0xffff_fff0 ∷ [])
-turned = refl
-
-at_least : effect small Ge (0xffff_ffff ∷ 0 ∷ []) ≡ Next (1 ∷ [])
-unfolding signed
-at_least = refl
-
-shift : effect nothing Shl (64 ∷ 128 ∷ []) ≡ Next (0 ∷ [])
-shift = refl
-
--- -8 >> 1 is -4, and by 70 all sign bits
-shra : effect nothing Shra (1 ∷ 0xffff_ffff_ffff_fff8 ∷ []) ≡ Next (0xffff_ffff_ffff_fffc ∷ [])
-unfolding signed
-shra = refl
-
-shra_all : effect nothing Shra (70 ∷ 0xffff_ffff_ffff_fff8 ∷ []) ≡ Next (0xffff_ffff_ffff_ffff ∷ [])
-unfolding signed
-shra_all = refl
-
--- 1, 2, 3 under rot: the second comes to the top
-rot : effect nothing Rot (3 ∷ 2 ∷ 1 ∷ []) ≡ Next (2 ∷ 1 ∷ 3 ∷ [])
-rot = refl
-
-pick : effect nothing (Pick 2) (3 ∷ 2 ∷ 1 ∷ []) ≡ Next (1 ∷ 3 ∷ 2 ∷ 1 ∷ [])
-pick = refl
-
-pick_none : effect nothing (Pick 1) (3 ∷ []) ≡ Faults StackUnderflow
-pick_none = refl
-
-branch : effect nothing (Bra 7) (3 ∷ []) ≡ Jump 7 []
-branch = refl
-
-unreadable : effect nothing Deref (0xffff_ffff_ffff_fffc ∷ []) ≡ Faults (Unreadable 0xffff_ffff_ffff_fffc 8)
-unreadable = refl
+effects = (refl, refl, refl, refl, refl, refl, refl, refl, refl, refl, refl, refl, refl, refl, refl, refl)
 
 -- a branch to itself reaches the limit
 abbrev loop : List Op
@@ -117,25 +78,14 @@ by_zero = inr (inl (record {
 abbrev in_place : ℕ → List ℕ → Option Place → List Piece → PlaceState
 in_place i stack pending pieces = record { index = i; stack = stack; pending = pending; pieces = pieces }
 
--- a piece empties the stack
-memory_piece : place_step nothing (op.Piece 2) (in_place 2 (1 ∷ 0 ∷ []) None []) ≡ Ok (in_place 3 [] None (record { place = Memory 1; part = part.Bytes 2 } ∷ []))
-memory_piece = refl
-
-empty_piece : place_step nothing (op.Piece 3) (in_place 0 [] None []) ≡ Ok (in_place 1 [] None (record { place = Empty; part = part.Bytes 3 } ∷ []))
-empty_piece = refl
-
--- behind a place: the stack is judged first, then the piece is missing
-second_place : place_step nothing (Reg 3) (in_place 1 [] (Some (Register 0)) []) ≡ Err MissingPiece
-second_place = refl
-
-short : place_step nothing Drop (in_place 1 [] (Some (Register 0)) []) ≡ Err StackUnderflow
-short = refl
-
-long : place_step nothing Drop (in_place 2 (8 ∷ []) (Some (Register 0)) []) ≡ Err MissingPiece
-long = refl
-
-waits : place_step nothing Nop (in_place 1 [] (Some (Register 0)) []) ≡ Ok (in_place 2 [] (Some (Register 0)) [])
-waits = refl
+steps : (place_step nothing (op.Piece 2) (in_place 2 (1 ∷ 0 ∷ []) None []) ≡ Ok (in_place 3 [] None (record { place = Memory 1; part = part.Bytes 2 } ∷ [])))  -- a piece empties the stack
+    × (place_step nothing (op.Piece 3) (in_place 0 [] None []) ≡ Ok (in_place 1 [] None (record { place = Empty; part = part.Bytes 3 } ∷ [])))
+    -- behind a place: the stack is judged first, then the piece is missing
+    × (place_step nothing (Reg 3) (in_place 1 [] (Some (Register 0)) []) ≡ Err MissingPiece)
+    × (place_step nothing Drop (in_place 1 [] (Some (Register 0)) []) ≡ Err StackUnderflow)
+    × (place_step nothing Drop (in_place 2 (8 ∷ []) (Some (Register 0)) []) ≡ Err MissingPiece)
+    × (place_step nothing Nop (in_place 1 [] (Some (Register 0)) []) ≡ Ok (in_place 2 [] (Some (Register 0)) []))
+steps = (refl, refl, refl, refl, refl, refl)
 
 value : Located (Const 1 ∷ StackValue ∷ []) nothing 9 (Ok (record { place = Value 1; part = Whole } ∷ []))
 value = inl (record {
@@ -151,8 +101,6 @@ whole : Located [] nothing 0 (Ok (record { place = Empty; part = Whole } ∷ [])
 whole = inl (record { steps = 0; state = in_place 0 [] None []; within_limit = lit≤ tt; run = refl; at_end = refl; gives = refl })
 
 -- nothing may be left behind pieces
-left : pieces_of 3 None (1 ∷ []) (record { place = Empty; part = part.Bytes 3 } ∷ []) ≡ Err (Fault MissingPiece 3)
-left = refl
-
-pending : pieces_of 3 (Some (Register 0)) [] (record { place = Empty; part = part.Bytes 3 } ∷ []) ≡ Err (Fault MissingPiece 3)
-pending = refl
+left : (pieces_of 3 None (1 ∷ []) (record { place = Empty; part = part.Bytes 3 } ∷ []) ≡ Err (Fault MissingPiece 3))
+    × (pieces_of 3 (Some (Register 0)) [] (record { place = Empty; part = part.Bytes 3 } ∷ []) ≡ Err (Fault MissingPiece 3))
+left = (refl, refl)

@@ -6,6 +6,10 @@ ghost use Rattle.dw_op.specs.declared.op.Op.TheVariants.{DerefSize};
 ghost use Rattle.dw_eval.specs.{Context.{context, read_at}, Effect.{on_top, known, push, effect, ReadsAt, ReadsMemory}};
 ghost use Rattle.dw_eval.specs.{declared.error.Kind.TheVariants.Unreadable, Inner.Steps.Acts};
 
+use crate::arithmetic::{
+    magnitude, minus, offset_by, plus, reduced, shifted_left, shifted_right, shifted_signed,
+    signed, times, turned,
+};
 use crate::env::Env;
 use crate::error::Kind;
 use crate::memory::{Memory, ReadFault};
@@ -40,14 +44,14 @@ fn read<M: Memory>(stack: &mut Stack, len: usize, env: &Env<'_>, memory: &mut M)
         return Err(Stop::Fault(Kind::Unreadable { address, len }));
     }
     match memory.read(address, len, target.order) {
-        Ok(number) => stack.put_number(number, target.size),
+        Ok(number) => stack.put(reduced(number, target.size)),
         Err(ReadFault::Unreadable) => Err(Stop::Fault(Kind::Unreadable { address, len })),
         Err(ReadFault::Device) => Err(Stop::Device),
     }
 }
 
 /// Executes an operation.
-#[tactic(auto, using(crate::proofs::Steps::acts_so))]
+#[tactic(auto, using(crate::proofs::Steps::acts_so, crate::proofs::Steps::one_does, crate::proofs::Steps::two_does))]
 pub(crate) fn act<M: Memory>(
     op: &Op<'_>,
     stack: &mut Stack,
@@ -61,49 +65,57 @@ pub(crate) fn act<M: Memory>(
 {
     let size = env.target.size;
     match *op {
-        Op::Addr(number) => stack.put_number(number, size),
+        Op::Addr(number) => stack.put(reduced(number, size)),
         Op::Deref => read(stack, usize::from(size.byte_count()), env, memory),
-        Op::Const(number) => stack.put_number(number, size),
+        Op::Const(number) => stack.put(reduced(number, size)),
         Op::Dup => stack.pick(0),
         Op::Drop => stack.drop_top(),
         Op::Over => stack.pick(1),
         Op::Pick(index) => stack.pick(index),
         Op::Swap => stack.swap(),
         Op::Rot => stack.rot(),
-        Op::Abs => stack.abs(size),
-        Op::And => stack.and(size),
+        Op::Abs => stack.one(|t| magnitude(t, size)),
+        Op::And => stack.two(|s, t| reduced(s & t, size)),
         Op::Div => stack.div(size),
-        Op::Minus => stack.minus(size),
+        Op::Minus => stack.two(|s, t| minus(s, t, size)),
         Op::Mod => stack.modulus(size),
-        Op::Mul => stack.mul(size),
-        Op::Neg => stack.neg(size),
-        Op::Not => stack.turn(size),
-        Op::Or => stack.or(size),
-        Op::Plus => stack.plus(size),
-        Op::PlusUconst(number) => stack.plus_uconst(number, size),
-        Op::Shl => stack.shl(size),
-        Op::Shr => stack.shr(size),
-        Op::Shra => stack.shra(size),
-        Op::Xor => stack.xor(size),
+        Op::Mul => stack.two(|s, t| times(s, t, size)),
+        Op::Neg => stack.one(|t| minus(0, t, size)),
+        Op::Not => stack.one(|t| turned(t, size)),
+        Op::Or => stack.two(|s, t| reduced(s | t, size)),
+        Op::Plus => stack.two(|s, t| plus(s, t, size)),
+        Op::PlusUconst(number) => stack.one(|t| plus(t, number, size)),
+        Op::Shl => stack.two(|s, t| shifted_left(s, t, size)),
+        Op::Shr => stack.two(|s, t| shifted_right(s, t, size)),
+        Op::Shra => stack.two(|s, t| shifted_signed(s, t, size)),
+        Op::Xor => stack.two(|s, t| reduced(s ^ t, size)),
         Op::Bra(target) => stack.bra(target),
-        Op::Eq => stack.eq(),
-        Op::Ge => stack.ge(size),
-        Op::Gt => stack.gt(size),
-        Op::Le => stack.le(size),
-        Op::Lt => stack.lt(size),
-        Op::Ne => stack.ne(),
+        Op::Eq => stack.two(|s, t| u64::from(s == t)),
+        Op::Ge => stack.two(|s, t| u64::from(signed(s, size) >= signed(t, size))),
+        Op::Gt => stack.two(|s, t| u64::from(signed(s, size) > signed(t, size))),
+        Op::Le => stack.two(|s, t| u64::from(signed(s, size) <= signed(t, size))),
+        Op::Lt => stack.two(|s, t| u64::from(signed(s, size) < signed(t, size))),
+        Op::Ne => stack.two(|s, t| u64::from(s != t)),
         Op::Skip(target) => Ok(Flow::Jump(target)),
-        Op::Breg(register, by) => stack.put_offset(
-            env.registers.get(register),
-            by,
-            Kind::NoRegister { register },
-            size,
-        ),
-        Op::Fbreg(by) => stack.put_offset(env.frame_base, by, Kind::NoFrameBase, size),
+        Op::Breg(register, by) => {
+            let value = env.registers.get(register);
+            let sum = value.map(|value| offset_by(value, by, size));
+            stack.put_known(sum, Kind::NoRegister { register })
+        }
+        Op::Fbreg(by) => {
+            let sum = env.frame_base.map(|base| offset_by(base, by, size));
+            stack.put_known(sum, Kind::NoFrameBase)
+        }
         Op::DerefSize(len) => read(stack, usize::from(len), env, memory),
         Op::Nop => Ok(Flow::Next),
-        Op::PushObjectAddress => stack.put_known(env.object, Kind::NoObject, size),
-        Op::CallFrameCfa => stack.put_known(env.cfa, Kind::NoCfa, size),
+        Op::PushObjectAddress => {
+            let object = env.object.map(|object| reduced(object, size));
+            stack.put_known(object, Kind::NoObject)
+        }
+        Op::CallFrameCfa => {
+            let cfa = env.cfa.map(|cfa| reduced(cfa, size));
+            stack.put_known(cfa, Kind::NoCfa)
+        }
         Op::Reg(_) | Op::Piece(_) | Op::BitPiece(_, _) | Op::Implicit(_) => Err(Stop::Fault(
             Kind::NotAValue,
         )),

@@ -8,6 +8,7 @@ ghost use Rattle.dw_eval.specs.declared.error.{EvalError.TheVariants.{Fault, Out
 ghost use Rattle.dw_eval.specs.Inner.{Evaluation.EvaluatesOver, Steps.{reached, StepsTo}};
 
 use crate::action::act;
+use crate::arithmetic::reduced;
 use crate::env::Env;
 use crate::error::{EvalError, Kind};
 use crate::memory::Memory;
@@ -39,7 +40,7 @@ fn begin(alloc: Global, start: Option<u64>, size: Size) -> Result<Stack, EvalErr
 {
     let mut stack = Stack::new(alloc);
     match start {
-        Some(value) => match stack.put_number(value, size) {
+        Some(value) => match stack.put(reduced(value, size)) {
             Ok(_) => Ok(stack),
             Err(_) => Err(EvalError::OutOfMemory),
         },

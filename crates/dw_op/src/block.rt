@@ -13,7 +13,7 @@ use dw_num::{ReadError, Target, are_bytes};
 use std::alloc::Global;
 
 // The operations of a block, or its first fault.
-#[tactic(auto, using(crate::proofs::Judgement::check_shorter))]
+#[tactic(auto, using(crate::proofs::Judgement::check_shorter, crate::proofs::Judgement::check_bad, crate::proofs::Judgement::check_end, crate::proofs::Splits::located_none, crate::proofs::Lent::Blocks::decoded_fault))]
 fn decode_ops<'a>(
     alloc: Global,
     bytes: &'a [u8],

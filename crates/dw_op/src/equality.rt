@@ -7,7 +7,7 @@ ghost use Rattle.dw_op.specs.Inner.Equality.{line, alone, op_line, order_number,
 
 use crate::expression::OpSteps;
 use crate::op::{Op, alone_code};
-use dw_num::{Order, Size, Target};
+use dw_num::{Order, Target};
 use std::hash::Hasher;
 
 /// What tells an operation from every other.
@@ -104,22 +104,6 @@ pub(crate) fn same_steps(mut a: OpSteps<'_>, mut b: OpSteps<'_>) -> bool
     }
 }
 
-/// Whether two lists have the same operations.
-#[tactic(auto, using(crate::proofs::Lent::Lines::at_same))]
-pub(crate) fn same_ops(a: &[Op<'_>], b: &[Op<'_>]) -> bool
-    ensures { IsTrue result ↔ map bare a.now ≡ map bare b.now }
-{
-    if a.len() != b.len() {
-        return false;
-    }
-    for (index, op) in a.iter().enumerate() {
-        if !same_op(*op, b[index]) {
-            return false;
-        }
-    }
-    true
-}
-
 fn order_in(order: Order) -> u8
     ensures { result ≡ order_number order }
 {
@@ -132,10 +116,7 @@ fn order_in(order: Order) -> u8
 pub(crate) fn feed_target<H: Hasher>(target: Target, state: &mut H)
     ensures { state.new ≡ fold H.write state.old (line_fed (target_line target)) }
 {
-    match target.size {
-        Size::Four => state.write_u8(4),
-        Size::Eight => state.write_u8(8),
-    }
+    state.write_u8(target.size.byte_count());
     state.write_u8(order_in(target.order));
 }
 
@@ -163,17 +144,11 @@ fn feed_line<H: Hasher>(line: Line<'_>, state: &mut H)
     state.write(line.bytes);
 }
 
-fn feed_op<H: Hasher>(op: Op<'_>, state: &mut H)
-    ensures { state.new ≡ fold H.write state.old (line_fed (op_line (bare op.entry))) }
-{
-    feed_line(in_line(op), state);
-}
-
 /// Feeds the operations of a walk.
 pub(crate) fn feed_steps<H: Hasher>(mut steps: OpSteps<'_>, state: &mut H)
     ensures { state.new ≡ fold H.write state.old (lines_fed (map op_line steps.entry)) }
 {
     'ops: while let Some(op) = steps.step() {
-        feed_op(op, state);
+        feed_line(in_line(op), state);
     }
 }

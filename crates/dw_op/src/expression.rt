@@ -72,7 +72,7 @@ impl<'a> OpSteps<'a> {
     }
 
     // The next operation, or none at the end.
-    #[tactic(auto, using(crate::proofs::Judgement::steps_after))]
+    #[tactic(auto, using(crate::proofs::Judgement::steps_after, crate::proofs::Judgement::steps_answer))]
     pub(crate) fn step(&mut self) -> Option<Op<'a>>
         ensures { MatchOption result ((self.old ≡ []) × (self.new ≡ [])) (λ op. self.old ≡ bare op ∷ self.new) }
     {
@@ -95,6 +95,7 @@ impl<'a> Iterator for OpSteps<'a> {
 impl<'a> ExprRef<'a> {
     /// The expression (2.5) whose block (7.7.1) these bytes are for a target, or their first fault: one of `decode` in the frame
     /// profile (1, 8, 9, 20 to 23), at a place that counts from the block's first byte. Takes no memory.
+    #[tactic(auto, using(crate::proofs::Lent::Blocks::fault_found))]
     pub fn accept(bytes: &'a [u8], target: Target) -> Result<ExprRef<'a>, Refusal>
         // What is answered stands for operations that have this block.
         ensures found { IfOk result (λ e. (e.target ≡ target) × FrameBlock target e.ops bytes.now) }

@@ -28,7 +28,7 @@ pub(crate) fn has_branch(bytes: &[u8], target: Target, profile: Profile) -> Resu
 }
 
 // Whether each branch of a block leads to an operation's start or to the end.
-#[tactic(auto, using(crate::proofs::Judgement::check_shorter))]
+#[tactic(auto, using(crate::proofs::Judgement::check_shorter, crate::proofs::Judgement::check_bad, crate::proofs::Judgement::check_end, crate::proofs::Splits::located_none))]
 fn check_branches(bytes: &[u8], target: Target) -> Result<(), Refusal>
     requires { (walk Frame (block_input target bytes.now)).fault ≡ None }
     ensures found { IfOk result (λ _. IsAccepted target bytes.now) }

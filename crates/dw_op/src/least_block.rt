@@ -10,7 +10,7 @@ use crate::least::{op_least_len, put_op};
 use crate::list::OpList;
 use crate::op::Op;
 use dw_num::Target;
-use std::alloc::{AllocError, AllocFailed, Global};
+use std::alloc::{AllocError, Global};
 use thiserror::Error;
 
 /// Why a list of operations is not encoded.
@@ -22,16 +22,6 @@ pub enum EncodeError {
     /// Memory ran out.
     #[error("out of memory")]
     OutOfMemory,
-}
-
-impl<T: Drop> From<AllocFailed<T>> for EncodeError {
-    ghost use Rattle.std.specs.Prelude.{◌≡◌};
-
-    ghost from_gives = { λ _ e. e ≡ OutOfMemory };
-
-    fn from(_failed: AllocFailed<T>) -> EncodeError {
-        EncodeError::OutOfMemory
-    }
 }
 
 impl From<AllocError> for EncodeError {
@@ -80,16 +70,15 @@ fn branch_bits(op: &Op<'_>, index: usize, starts: &[usize]) -> Option<u16>
 }
 
 // Where the least spelling of each operation begins, and where the last one ends.
-fn least_starts(alloc: Global, ops: &[Op<'_>], target: Target) -> Result<Vec<usize>, EncodeError>
-    ensures ok { IfOk result (λ starts. AreStarts (blank_parts target (map bare ops.now)) (length ops.now) starts.items) }
-    ensures err { IfErr result (λ error. error ≡ OutOfMemory) }
+fn least_starts(alloc: Global, ops: &[Op<'_>], target: Target) -> Result<Vec<usize>, AllocError>
+    ensures { IfOk result (λ starts. AreStarts (blank_parts target (map bare ops.now)) (length ops.now) starts.items) }
 {
     let mut starts = Vec::new(alloc);
     let mut end = 0usize;
     starts.push(end)?;
     for op in ops {
         let Some(next) = end.checked_add(op_least_len(op, target)) else {
-            return Err(EncodeError::OutOfMemory);
+            return Err(AllocError);
         };
         end = next;
         starts.push(end)?;

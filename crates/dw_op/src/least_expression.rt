@@ -36,7 +36,7 @@ fn branch_bits(end: usize, op: &Op<'_>) -> u16
 }
 
 /// Appends the least spellings of the operations of a block. It may leave some of them where memory runs out.
-#[tactic(auto, using(crate::proofs::Judgement::accepted_read, crate::proofs::Judgement::check_shorter))]
+#[tactic(auto, using(crate::proofs::Judgement::accepted_read, crate::proofs::Judgement::check_shorter, crate::proofs::LeastSpellings::put_start, crate::proofs::LeastSpellings::put_next))]
 pub(crate) fn put_block(bytes: &[u8], target: Target, out: &mut Vec<u8>) -> Result<(), AllocError>
     requires { IsAccepted target bytes.now }
     ensures all { OnOk result (out.new.items ≡ out.old.items ++ least_block target (ops_of target bytes.now)) }

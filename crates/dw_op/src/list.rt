@@ -4,7 +4,6 @@ ghost use Rattle.std.specs.Prelude.{◌≡◌, ◌≤◌, length, map, ◌<◌, 
 ghost use Rattle.dw_num.specs.Target.{byte_count, address_limit};
 ghost use Rattle.dw_op.specs.{Expression.bare, Ranges.{InRange, AllInRange, FirstBadOperand}, Inner.Ranges.Fits};
 
-use crate::equality::same_ops;
 use crate::op::{Op, are_typed};
 use crate::operation::last_address;
 use dw_num::{Size, Target};
@@ -40,29 +39,14 @@ pub struct BadOperand {
     pub index: usize,
 }
 
-// Whether a number is an address.
-fn is_address(number: u64, size: Size) -> bool
-    ensures { IsTrue result ↔ number < address_limit size }
-{
-    number <= last_address(size)
-}
-
-fn is_access_size(bytes: u8, size: Size) -> bool
-    ensures { IsTrue result ↔ (1 ≤ bytes) × (bytes ≤ byte_count size) }
-{
-    1 <= bytes && bytes <= size.byte_count()
-}
-
 // Whether what the types leave open is in range.
 fn fits(op: &Op<'_>, target: Target, len: usize) -> bool
     ensures { IsTrue result ↔ Fits target len op.now }
 {
     match *op {
-        Op::Addr(number) => is_address(number, target.size),
-        Op::Const(number) => is_address(number, target.size),
-        Op::Bra(index) => index <= len,
-        Op::Skip(index) => index <= len,
-        Op::DerefSize(bytes) => is_access_size(bytes, target.size),
+        Op::Addr(number) | Op::Const(number) => number <= last_address(target.size),
+        Op::Bra(index) | Op::Skip(index) => index <= len,
+        Op::DerefSize(bytes) => 1 <= bytes && bytes <= target.size.byte_count(),
         _ => true,
     }
 }
@@ -143,28 +127,4 @@ impl<'a> OpList<'a> {
     {
         self.ops.as_slice()
     }
-}
-
-// Two lists are equal where they have equal targets and the same operations: bytes of `DW_OP_implicit_value` are compared
-// wherever they lie.
-impl<'a> PartialEq for OpList<'a> {
-    ghost use Rattle.std.specs.Prelude.{◌≡◌, IsTrue, ◌↔◌};
-    ghost use Rattle.dw_op.specs.Inner.{Equality.same_expression, EqualityLaws.same_laws};
-
-    ghost eq = { same_expression };
-
-    ghost laws = { same_laws };
-
-    fn eq(&self, other: &OpList<'a>) -> bool
-        ensures test { result ≡ same_expression self.now other.now }
-        ensures equal { IsTrue result ↔ self.now ≡ other.now }
-    {
-        self.target == other.target && same_ops(&self.ops, &other.ops)
-    }
-}
-
-impl<'a> Eq for OpList<'a> {
-    ghost use Rattle.dw_op.specs.Inner.EqualityLaws.{equal_laws};
-
-    ghost laws = { equal_laws };
 }

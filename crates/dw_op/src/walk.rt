@@ -106,6 +106,7 @@ pub(crate) fn advance(window: &mut Cursor<'_>, measure: Measure, low: u64) -> us
 }
 
 /// What the operations from the cursor on add before the one that begins at the place, or before the end.
+#[tactic(auto, using(crate::proofs::WalkStarts::count_behind))]
 pub(crate) fn sum_from(cursor: &Cursor<'_>, measure: Measure, place: u64) -> Option<usize>
     requires bytes { AreBytes cursor.now.bytes }
     requires read { (walk Location cursor.now).fault ≡ None }
@@ -189,7 +190,7 @@ impl<'a> Walker<'a> {
     /// The next operation, or the refusal of a branch that leads nowhere. A branch has what stands before the
     /// operation that it names.
     #[inline(always)]
-    #[tactic(auto, using(crate::proofs::Walkers::walked_plain, crate::proofs::WalkStarts::never_stuck))]
+    #[tactic(auto, using(crate::proofs::Walkers::walked_plain, crate::proofs::Walkers::room_on, crate::proofs::WalkStarts::never_stuck))]
     pub(crate) fn next_op(&mut self) -> Result<Option<Op<'a>>, Refusal>
         requires { WalkSo self.old }
         ensures { Walks self.old self.new result }

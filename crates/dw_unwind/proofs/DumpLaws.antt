@@ -1,5 +1,4 @@
 -- What was gathered is what the lines say, or their first fault.
-use Rattle.std.proofs.Common.{rules}
 use Rattle.dw_unwind.proofs.Words.{◌≡◌, ℕ, zero, suc, ◌+◌, ◌-◌, ◌^◌, ◌<◌, ◌≤◌, Bool, true, false, cond, List, [], ◌∷◌, ◌++◌, length, take, get_or, Option, Some, None, refl, sym, ap, subst, ◌∙◌, arith, add-one, inl}
 use Rattle.dw_unwind.proofs.Words.{inr, append_assoc, length-append, is_some, slice_get, AllByRecursion, AllZip, leb_tells, sum_by-cons, sum_by-append, append-nil, AllZip-long, slice_get_past, slice_get-get_or}
 use Rattle.dw_unwind.proofs.Words.{Repeated, DumpFault, Gathered, Range, SaysWithin, Say, FirstFault, Gathers, Keeps, IsWhole, ranges_of, bytes_of, covers, byte_among, cover_count, AreApart, Meet, IsSoundRange}
@@ -7,12 +6,10 @@ use Rattle.dw_unwind.proofs.{Words.{option_or, Statement, DumpItem, nothing, cou
 
 pub ranges_within : (limit line place room : ℕ) (ss : List Statement) → limit ≤ 2 ^ 64 → AllByRecursion (IsWhole limit) ss → place + length (bytes_of ss) ≤ room → AllByRecursion (IsSoundRange (2 ^ 64) room) (ranges_of line place ss)
 ranges_within limit line place room [] le whole fits = tt
-ranges_within limit line place room (nothing ∷ ss) le whole fits = ranges_within limit (suc line) place room ss le whole.1 fits
-ranges_within limit line place room (counter_is v ∷ ss) le whole fits = ranges_within limit (suc line) place room ss le whole.1 fits
-ranges_within limit line place room (register_is r v ∷ ss) le whole fits = ranges_within limit (suc line) place room ss le whole.1 fits
 ranges_within limit line place room (memory_is start bytes ∷ ss) le whole fits =
     let all = length-append bytes (bytes_of ss) in
     (record { some = whole.0.1; addresses = omega (arith, whole.0.0); places = omega arith }, ranges_within limit (suc line) (place + length bytes) room ss le whole.1 (omega arith))
+ranges_within limit line place room (s ∷ ss) le whole fits = ranges_within limit (suc line) place room ss le whole.1 fits
 
 -- ---- how often an address is told
 
@@ -27,15 +24,13 @@ told_covers a line place start bytes = elim (leb_tells start a) [
 
 pub times_bytes : (a line place : ℕ) (ss : List Statement) → times ss (byte a) ≡ cover_count a (ranges_of line place ss)
 times_bytes a line place [] = refl
-times_bytes a line place (nothing ∷ ss) = let rest = times_bytes a (suc line) place ss in times_cons nothing ss (byte a) ∙ omega arith
-times_bytes a line place (counter_is v ∷ ss) = let rest = times_bytes a (suc line) place ss in times_cons (counter_is v) ss (byte a) ∙ omega arith
-times_bytes a line place (register_is r v ∷ ss) = let rest = times_bytes a (suc line) place ss in times_cons (register_is r v) ss (byte a) ∙ omega arith
 times_bytes a line place (memory_is start bytes ∷ ss) =
     let r : Range = record { address = start; place = place; len = length bytes; line = line } in
     let rest = times_bytes a (suc line) (place + length bytes) ss in
     times_cons (memory_is start bytes) ss (byte a) ∙ ap (λ (b : Bool). cond b 1 0 + times ss (byte a)) (told_covers a line place start bytes)
     ∙ ap (λ (n : ℕ). cond (covers a r) 1 0 + n) rest
     ∙ sym (sum_by-cons (λ (q : Range). cond (covers a q) 1 0) r (ranges_of (suc line) (place + length bytes) ss))
+times_bytes a line place (s ∷ ss) = let rest = times_bytes a (suc line) place ss in times_cons s ss (byte a) ∙ omega arith
 
 -- ---- the byte at an address
 
@@ -65,9 +60,6 @@ told_here a start bytes le lt = elim (leb_tells start a) [
 
 pub given_byte : (a line : ℕ) (front : List ℕ) (ss : List Statement) → given ss (byte a) ≡ byte_among (front ++ bytes_of ss) a (ranges_of line (length front) ss)
 given_byte a line front [] = refl
-given_byte a line front (nothing ∷ ss) = given_byte a (suc line) front ss
-given_byte a line front (counter_is v ∷ ss) = given_byte a (suc line) front ss
-given_byte a line front (register_is r v ∷ ss) = given_byte a (suc line) front ss
 given_byte a line front (memory_is start bytes ∷ ss) =
     let r : Range = record { address = start; place = length front; len = length bytes; line = line } in
     elim (covers_tells a r) [
@@ -79,6 +71,7 @@ given_byte a line front (memory_is start bytes ∷ ss) =
           let rest = rw (append_assoc front bytes (bytes_of ss), length-append front bytes) at (given_byte a (suc line) (front ++ bytes) ss) in
           rw (off.0) (ap (λ (o : Option ℕ). option_or o (given ss (byte a))) (not_told a line (length front) start bytes off.0) ∙ rest)
     ]
+given_byte a line front (s ∷ ss) = given_byte a (suc line) front ss
 
 -- ---- a range by its statement
 
@@ -104,9 +97,6 @@ told_more line place i d s ss same h = record {
 
 pub range_told : (line place i : ℕ) (d : Range) (ss : List Statement) → i < length (ranges_of line place ss) → Told line place i d ss
 range_told line place i d [] lt = absurd (omega arith)
-range_told line place i d (nothing ∷ ss) lt = told_more line place i d nothing ss (λ ts. refl) (range_told (suc line) place i d ss lt)
-range_told line place i d (counter_is v ∷ ss) lt = told_more line place i d (counter_is v) ss (λ ts. refl) (range_told (suc line) place i d ss lt)
-range_told line place i d (register_is r v ∷ ss) lt = told_more line place i d (register_is r v) ss (λ ts. refl) (range_told (suc line) place i d ss lt)
 range_told line place zero d (memory_is start bytes ∷ ss) lt = record { before = []; statement = memory_is start bytes; after = ss; whole = refl; front = refl; with = refl; number = omega arith }
 range_told line place (suc i) d (memory_is start bytes ∷ ss) lt =
     let h = range_told (suc line) (place + length bytes) i d ss (omega arith) in
@@ -120,6 +110,7 @@ range_told line place (suc i) d (memory_is start bytes ∷ ss) lt =
       with = ap (λ (rs : List Range). r ∷ rs) h.with;
       number = omega arith;
     }
+range_told line place i d (s ∷ ss) lt = told_more line place i d s ss (λ ts. refl) (range_told (suc line) place i d ss lt)
 
 pub record ZipSplit {X Y : Type 0} (R : X → Y → Type 0) (xs : List X) (before : List Y) (y : Y) : Type 0 where
   pub front : List X

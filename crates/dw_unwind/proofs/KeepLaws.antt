@@ -69,10 +69,8 @@ at_places line place n m p q ss s e f = ap (λ (k : ℕ). ranges_of line place s
 
 pub ranges_push : (line place : ℕ) (ss : List Statement) (s : Statement) → ranges_of line place (ss ++ s ∷ []) ≡ ranges_of line place ss ++ ranges_of (line + length ss) (place + length (bytes_of ss)) (s ∷ [])
 ranges_push line place [] s = rw (add-zero, add-zero) refl
-ranges_push line place (nothing ∷ ss) s = ranges_push (suc line) place ss s ∙ at_places (suc line) place _ _ _ _ ss s (omega arith) refl
-ranges_push line place (counter_is v ∷ ss) s = ranges_push (suc line) place ss s ∙ at_places (suc line) place _ _ _ _ ss s (omega arith) refl
-ranges_push line place (register_is r v ∷ ss) s = ranges_push (suc line) place ss s ∙ at_places (suc line) place _ _ _ _ ss s (omega arith) refl
 ranges_push line place (memory_is start bytes ∷ ss) s = search (rules, length-append bytes (bytes_of ss), at_places, ranges_push (suc line) (place + length bytes) ss s)
+ranges_push line place (t ∷ ss) s = ranges_push (suc line) place ss s ∙ at_places (suc line) place _ _ _ _ ss s (omega arith) refl
 
 -- one more statement
 pub keeps_more : {limit : ℕ} {old : Gathered} {ss : List Statement} (new : Gathered) (s : Statement) → Keeps limit old ss

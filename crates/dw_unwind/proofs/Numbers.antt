@@ -1,5 +1,4 @@
 -- Numbers by their digits.
-use Rattle.std.proofs.Common.{rules}
 use Rattle.dw_unwind.proofs.Words.{◌≡◌, ℕ, suc, ◌+◌, ◌*◌, ◌^◌, ◌<◌, ◌≤◌, arith, add-one, mul-le-mul, pow-suc, digit}
 use Rattle.std.proofs.Math.Nat.{pow-le-pow_right}
 

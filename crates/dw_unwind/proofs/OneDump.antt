@@ -1,6 +1,6 @@
 -- A line says one thing, so lines that say something have no fault.
 use Rattle.std.proofs.Common.{rules}
-use Rattle.dw_unwind.proofs.Words.{◌≡◌, ℕ, suc, ◌+◌, ◌<◌, ◌≤◌, cond, List, [], ◌∷◌, ◌++◌, length, length-append, Some, Ok, Err, refl, sym, ap, subst, ◌∙◌, arith, inl, inr, append_assoc, codes, is_some, Result, IfOk, IfErr, MatchResult}
+use Rattle.dw_unwind.proofs.Words.{◌≡◌, ℕ, ◌<◌, ◌≤◌, cond, List, [], ◌∷◌, ◌++◌, length, length-append, Some, Ok, Err, refl, sym, ap, subst, ◌∙◌, arith, inl, inr, append_assoc, codes, is_some, Result, IfOk, IfErr, MatchResult}
 use Rattle.dw_unwind.proofs.Words.{AllZip, cases_lt, append_cancel_left, sum_by-append, decode_of, DumpCode, BadLine, ValueTooLarge, Repeated, DumpFault, SaysWithin, Say, FirstFault, IsFaulty, OneDump, NamesLine, number_behind, LineSays}
 use Rattle.dw_unwind.proofs.Words.{SkippedLine, Hexadecimal, RegisterName, HexPairs, Statement, DumpItem, Fits, nothing, counter_is, register_is, memory_is, told, times}
 use Rattle.dw_unwind.specs.{declared.dump.Dump.Dump, declared.fault.DumpError.DumpError, declared.fault.DumpError.TheVariants.{Fault, OutOfMemory}, Describes.{Describes, RefusesDump}}

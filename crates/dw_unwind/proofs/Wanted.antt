@@ -1,5 +1,4 @@
 -- What a fault of an unwinding asks for is missing.
-use Rattle.std.proofs.Common.{rules}
 use Rattle.dw_eval.specs.declared.error.EvalError.TheVariants as eval
 use Rattle.dw_section.specs.declared.fde_range.Ranged.{Ranged}
 use Rattle.dw_unwind.specs.declared.by_index.UnwindAtError.TheVariants.{Unwind}

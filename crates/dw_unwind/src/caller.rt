@@ -16,40 +16,31 @@ use dw_eval::{Env, Memory, Policy, Registers};
 use dw_num::Target;
 use std::alloc::{AllocError, Global};
 
-impl<'m> Machine<'m> {
+impl<'m, 'a> Machine<'m, 'a> {
     // Whether a register that the row does not specify is listed.
     #[inline(always)]
-    fn lists(&self, register: u16, return_register: u16) -> bool
-        ensures { (row : Rules) → rule row register ≡ Unspecified → result ≡ is_listed (held self.now.env.registers.now) row return_register register }
+    fn lists(&self, register: u16) -> bool
+        ensures { rule self.now.row.now register ≡ Unspecified → result ≡ is_listed (held self.now.env.registers.now) self.now.row.now self.now.return_register register }
     {
-        self.env.registers.get(register).is_some() || register == return_register
+        self.env.registers.get(register).is_some() || register == self.return_register
     }
 
     // From here on no register is listed that the row does not specify.
-    fn end(&self, return_register: u16) -> usize
+    fn end(&self) -> usize
         ensures most { result ≤ 65536 }
-        ensures beyond { (row : Rules) (r : ℕ) → result ≤ r → rule row r ≡ Unspecified → is_listed (held self.now.env.registers.now) row return_register r ≡ false }
+        ensures beyond { (r : ℕ) → result ≤ r → rule self.now.row.now r ≡ Unspecified → is_listed (held self.now.env.registers.now) self.now.row.now self.now.return_register r ≡ false }
     {
-        self.env
-            .registers
-            .end()
-            .max(usize::from(return_register) + 1)
+        let end = self.env.registers.end();
+        end.max(usize::from(self.return_register) + 1)
     }
 
     // Adds the next register, which the row does not specify, to those before it, where it is listed.
     #[inline(always)]
-    fn add_given(
-        &self,
-        register: u16,
-        row: &Row<'_>,
-        return_register: u16,
-        cfa: u64,
-        room: &mut FrameRoom,
-    ) -> Result<(), AllocError>
-        requires unset { rule row.now register ≡ Unspecified }
-        ensures { OnOk result ((byte : ℕ → Option ℕ) → let c = context self.now.env byte in SoFar c self.now.steps self.now.default row.now return_register cfa register room.old → SoFar c self.now.steps self.now.default row.now return_register cfa (register + 1) room.new) }
+    fn add_given(&self, register: u16, cfa: u64, room: &mut FrameRoom) -> Result<(), AllocError>
+        requires unset { rule self.now.row.now register ≡ Unspecified }
+        ensures { OnOk result ((byte : ℕ → Option ℕ) → let c = context self.now.env byte in SoFar c self.now.steps self.now.default self.now.row.now self.now.return_register cfa register room.old → SoFar c self.now.steps self.now.default self.now.row.now self.now.return_register cfa (register + 1) room.new) }
     {
-        if !self.lists(register, return_register) {
+        if !self.lists(register) {
             return Ok(());
         }
         room.push(register, self.defaulted(register))?;
@@ -61,18 +52,16 @@ impl<'m> Machine<'m> {
         &self,
         from: usize,
         to: usize,
-        row: &Row<'_>,
-        return_register: u16,
         cfa: u64,
         room: &mut FrameRoom,
     ) -> Result<(), AllocError>
         requires up { from ≤ to }
         requires most { to ≤ 65536 }
-        requires unset { (r : ℕ) → from ≤ r → r < to → rule row.now r ≡ Unspecified }
-        ensures { OnOk result ((byte : ℕ → Option ℕ) → let c = context self.now.env byte in SoFar c self.now.steps self.now.default row.now return_register cfa from room.old → SoFar c self.now.steps self.now.default row.now return_register cfa to room.new) }
+        requires unset { (r : ℕ) → from ≤ r → r < to → rule self.now.row.now r ≡ Unspecified }
+        ensures { OnOk result ((byte : ℕ → Option ℕ) → let c = context self.now.env byte in SoFar c self.now.steps self.now.default self.now.row.now self.now.return_register cfa from room.old → SoFar c self.now.steps self.now.default self.now.row.now self.now.return_register cfa to room.new) }
     {
         'given: for index in from..to {
-            self.add_given(index as u16, row, return_register, cfa, room)?;
+            self.add_given(index as u16, cfa, room)?;
         }
         Ok(())
     }
@@ -83,24 +72,22 @@ impl<'m> Machine<'m> {
         from: usize,
         register: u16,
         own: &RegRule<'_>,
-        row: &Row<'_>,
-        return_register: u16,
         cfa: u64,
         memory: &mut M,
         room: &mut FrameRoom,
     ) -> Result<(), UnwindError>
         requires up { from ≤ register }
-        requires unset { (r : ℕ) → from ≤ r → r < register → rule row.now r ≡ Unspecified }
-        requires own { own.now ≡ rule row.now register }
+        requires unset { (r : ℕ) → from ≤ r → r < register → rule self.now.row.now r ≡ Unspecified }
+        requires own { own.now ≡ rule self.now.row.now register }
         requires specified { IsTrue (is_specified own.now) }
-        requires fits { RowFits self.now.env.target row.now }
+        requires fits { RowFits self.now.env.target self.now.row.now }
         requires room { M.failures memory.old < 2 ^ 64 - 1 }
-        requires so_far { let c = context self.now.env (M.byte memory.old) in SoFar c self.now.steps self.now.default row.now return_register cfa from room.old }
+        requires so_far { let c = context self.now.env (M.byte memory.old) in SoFar c self.now.steps self.now.default self.now.row.now self.now.return_register cfa from room.old }
         ensures same { M.byte memory.new ≡ M.byte memory.old }
-        ensures so { let c = context self.now.env (M.byte memory.old) in Over (Adds c self.now.steps self.now.default row.now return_register cfa register room.new) (RegistersFail c self.now.steps self.now.default row.now return_register cfa) (M.failures memory.old) result (M.failures memory.new) }
+        ensures so { let c = context self.now.env (M.byte memory.old) in Over (Adds c self.now.steps self.now.default self.now.row.now self.now.return_register cfa register room.new) (RegistersFail c self.now.steps self.now.default self.now.row.now self.now.return_register cfa) (M.failures memory.old) result (M.failures memory.new) }
     {
         let to = usize::from(register);
-        self.add_all_given(from, to, row, return_register, cfa, room)?;
+        self.add_all_given(from, to, cfa, room)?;
         let value = self.register(register, own, cfa, memory)?;
         room.push(register, value)?;
         Ok(())
@@ -109,56 +96,43 @@ impl<'m> Machine<'m> {
     // The registers of the caller: those that the row specifies, and before each one and behind the last those of the machine.
     fn registers<'r, M: Memory>(
         &self,
-        row: &Row<'_>,
-        return_register: u16,
         cfa: u64,
         memory: &mut M,
         room: &'r mut FrameRoom,
     ) -> Result<FrameRegisters<'r>, UnwindError>
-        requires fits { RowFits self.now.env.target row.now }
+        requires fits { RowFits self.now.env.target self.now.row.now }
         requires room { M.failures memory.old < 2 ^ 64 - 1 }
         ensures same { M.byte memory.new ≡ M.byte memory.old }
-        ensures so { let c = context self.now.env (M.byte memory.old) in Over (RegistersAre c self.now.steps self.now.default row.now return_register cfa) (RegistersFail c self.now.steps self.now.default row.now return_register cfa) (M.failures memory.old) result (M.failures memory.new) }
+        ensures so { let c = context self.now.env (M.byte memory.old) in Over (RegistersAre c self.now.steps self.now.default self.now.row.now self.now.return_register cfa) (RegistersFail c self.now.steps self.now.default self.now.row.now self.now.return_register cfa) (M.failures memory.old) result (M.failures memory.new) }
     {
         room.clear();
         let mut from = 0;
-        'registers: for (register, own) in row.specified() {
-            self.add(
-                from,
-                register,
-                &own,
-                row,
-                return_register,
-                cfa,
-                memory,
-                room,
-            )?;
+        'registers: for (register, own) in self.row.specified() {
+            self.add(from, register, &own, cfa, memory, room)?;
             from = usize::from(register) + 1;
         }
-        let end = from.max(self.end(return_register));
-        self.add_all_given(from, end, row, return_register, cfa, room)?;
+        let end = from.max(self.end());
+        self.add_all_given(from, end, cfa, room)?;
         Ok(room.lent())
     }
 
     // The frame that a row gives.
     fn frame<'r, M: Memory>(
         &self,
-        row: &Row<'_>,
-        return_register: u16,
         memory: &mut M,
         room: &'r mut FrameRoom,
     ) -> Result<Frame<'r>, UnwindError>
-        requires set { row.now.cfa ≡ Unset → ⊥ }
-        requires fits { RowFits self.now.env.target row.now }
+        requires set { self.now.row.now.cfa ≡ Unset → ⊥ }
+        requires fits { RowFits self.now.env.target self.now.row.now }
         requires room { M.failures memory.old < 2 ^ 64 - 1 }
         ensures same { M.byte memory.new ≡ M.byte memory.old }
-        ensures so { let c = context self.now.env (M.byte memory.old) in Over (FrameIs c self.now.steps self.now.default row.now return_register) (FrameFails c self.now.steps self.now.default row.now return_register) (M.failures memory.old) result (M.failures memory.new) }
+        ensures so { let c = context self.now.env (M.byte memory.old) in Over (FrameIs c self.now.steps self.now.default self.now.row.now self.now.return_register) (FrameFails c self.now.steps self.now.default self.now.row.now self.now.return_register) (M.failures memory.old) result (M.failures memory.new) }
     {
-        let cfa = self.cfa(&row.cfa(), memory)?;
-        let registers = self.registers(row, return_register, cfa, memory, room)?;
+        let cfa = self.cfa(&self.row.cfa(), memory)?;
+        let registers = self.registers(cfa, memory, room)?;
         Ok(Frame {
             cfa,
-            return_register,
+            return_register: self.return_register,
             registers,
         })
     }
@@ -203,6 +177,8 @@ pub fn unwind_row<'r, M: Memory>(
         },
         default,
         steps,
+        row,
+        return_register,
     };
-    machine.frame(row, return_register, memory, room)
+    machine.frame(memory, room)
 }

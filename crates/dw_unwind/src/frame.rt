@@ -5,7 +5,7 @@ ghost use Rattle.dw_unwind.specs.{Codes.frame_fault, declared.frame.UnwindError.
 
 use crate::frame_room::FrameRegisters;
 use dw_eval::Kind;
-use std::alloc::{AllocError, AllocFailed};
+use std::alloc::AllocError;
 use std::fmt;
 use thiserror::Error;
 
@@ -108,14 +108,6 @@ impl From<AllocError> for UnwindError {
     ghost from_gives = { λ _ e. e ≡ OutOfMemory };
 
     fn from(_e: AllocError) -> UnwindError {
-        UnwindError::OutOfMemory
-    }
-}
-
-impl<T: Drop> From<AllocFailed<T>> for UnwindError {
-    ghost from_gives = { λ _ e. e ≡ OutOfMemory };
-
-    fn from(_e: AllocFailed<T>) -> UnwindError {
         UnwindError::OutOfMemory
     }
 }

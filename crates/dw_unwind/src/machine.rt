@@ -8,20 +8,23 @@ ghost use Rattle.dw_unwind.specs.Columns.{in_column, defaulted, value_in, saved_
 ghost use Rattle.dw_unwind.specs.{Columns.{SavedFails, ValueFails, SavedByFails, CfaFails, RegisterFails}, Inner.Recovery.Over};
 
 use crate::frame::{Column, UnwindError};
-use dw_cfa::{CfaRule, RegRule};
+use dw_cfa::{CfaRule, RegRule, Row};
 use dw_eval::{
     Env, EvalError, Memory, Policy, ReadFault, evaluate, is_in_space, offset_by, reduced,
 };
 use dw_op::ExprRef;
 use std::alloc::Global;
 
-/// A machine that stopped, what its unset registers are taken as, and how many steps an expression may take.
+/// A machine that stopped, what its unset registers are taken as, how many steps an expression may take, and the row that
+/// gives its caller, with the register that holds the return address.
 #[derive(Clone, Copy)]
-pub(crate) struct Machine<'m> {
+pub(crate) struct Machine<'m, 'a> {
     pub(crate) alloc: Global,
     pub(crate) env: Env<'m>,
     pub(crate) default: Policy,
     pub(crate) steps: u64,
+    pub(crate) row: &'m Row<'a>,
+    pub(crate) return_register: u16,
 }
 
 // An expression's answer, as that of a column.
@@ -39,7 +42,7 @@ fn in_column(answer: Result<u64, EvalError>, column: Column) -> Result<u64, Unwi
     }
 }
 
-impl<'m> Machine<'m> {
+impl<'m, 'a> Machine<'m, 'a> {
     // What a register holds, modulo 2^N.
     fn value_in(&self, register: u16) -> Option<u64>
         ensures { (byte : ℕ → Option ℕ) → result ≡ value_in (context self.now.env byte) self.now.steps register }

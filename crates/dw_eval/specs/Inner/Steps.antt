@@ -1,6 +1,6 @@
 -- How the code keeps a step.
-use Rattle.std.specs.Prelude.{◌≡◌, ◌⊎◌, ℕ, ◌+◌, ◌<◌, List, Result, Ok, Err}
-use Rattle.dw_eval.specs.{Effect.{OpEffect, Next, Jump, Faults}, declared.error.EvalError.EvalError, declared.error.EvalError.TheVariants.{Fault, OutOfMemory}}
+use Rattle.std.specs.Prelude.{◌≡◌, ◌⊎◌, ℕ, ◌+◌, ◌^◌, ◌<◌, List, [], ◌∷◌, Result, Ok, Err}
+use Rattle.dw_eval.specs.{Effect.{OpEffect, Next, Jump, Faults, on_two}, declared.error.EvalError.EvalError, declared.error.EvalError.TheVariants.{Fault, OutOfMemory}}
 use Rattle.dw_eval.specs.declared.{error.Kind.Kind, error.Kind.TheVariants.{Device, StackUnderflow, MissingPiece}, stack.Flow.Flow, stack.Stop.Stop}
 use Rattle.dw_eval.specs.declared.stack.Flow.TheVariants as flow
 use Rattle.dw_eval.specs.declared.stack.Stop.TheVariants as stop
@@ -12,6 +12,22 @@ Does outcome (Ok (flow.Jump i)) stack = outcome ≡ Jump i stack
 Does outcome (Err (stop.Fault kind)) stack = outcome ≡ Faults kind
 Does outcome (Err stop.Device) stack = ⊥
 Does outcome (Err stop.OutOfMemory) stack = Unit {0}
+
+-- an operation puts what Made says in the place of the top
+abbrev pub MakesOfOne : (ℕ → ℕ → Type 0) → List ℕ → Result Flow Stop → List ℕ → Type 0
+MakesOfOne Made old (Ok flow.Next) new = (t made : ℕ) × (below : List ℕ) × (old ≡ t ∷ below) × (new ≡ made ∷ below) × (t < 2 ^ 64) × Made t made
+MakesOfOne Made old (Ok (flow.Jump i)) new = ⊥
+MakesOfOne Made old (Err (stop.Fault kind)) new = (kind ≡ StackUnderflow) × (old ≡ [])
+MakesOfOne Made old (Err stop.Device) new = ⊥
+MakesOfOne Made old (Err stop.OutOfMemory) new = Unit {0}
+
+-- and in that of the second and the top
+abbrev pub MakesOfTwo : (ℕ → ℕ → ℕ → Type 0) → List ℕ → Result Flow Stop → List ℕ → Type 0
+MakesOfTwo Made old (Ok flow.Next) new = (s t made : ℕ) × (below : List ℕ) × (old ≡ t ∷ s ∷ below) × (new ≡ made ∷ below) × (s < 2 ^ 64) × (t < 2 ^ 64) × Made s t made
+MakesOfTwo Made old (Ok (flow.Jump i)) new = ⊥
+MakesOfTwo Made old (Err (stop.Fault kind)) new = (kind ≡ StackUnderflow) × ((f : ℕ → ℕ → List ℕ → OpEffect) → on_two old f ≡ Faults StackUnderflow)
+MakesOfTwo Made old (Err stop.Device) new = ⊥
+MakesOfTwo Made old (Err stop.OutOfMemory) new = Unit {0}
 
 -- so does one over a memory, while the count of failures stays; where it grew, this was read
 abbrev pub Acts : OpEffect → Type 0 → ℕ → Result Flow Stop → List ℕ → ℕ → Type 0

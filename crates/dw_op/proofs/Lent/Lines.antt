@@ -1,9 +1,8 @@
 -- An operation comes back from its line, so that equal lines are of equal operations.
 use Rattle.dw_op.proofs.Words.{◌≡◌, ℕ, Bool, true, false, List, [], ◌∷◌, map, Option, Some, refl, sym, ap, ◌∙◌, ℤ, pos, negsuc, nat_eq, if◌then◌else◌, IsTrue, ◌↔◌, Target, Size, Four, Eight, Order, Little, Big, Op, Addr, Const, Pick}
 use Rattle.dw_op.proofs.Words.{PlusUconst, Bra, Skip, Reg, Breg, Fbreg, Piece, DerefSize, Nop, BitPiece, Implicit, look_up, OpForm, none, op_form_table, Expression, bare, FrameBlock, in_frame, InFrame, sign_of, size_of, line, op_line, target_line}
-use Rattle.dw_op.proofs.Words.{expression_lines, same_expression, suc, ◌<◌, length, get_or, arith, Decides}
+use Rattle.dw_op.proofs.Words.{expression_lines, same_expression, Decides}
 use Rattle.std.specs.Bool.{one_answer}
-use Rattle.std.proofs.Math.ListN.{get_or-map}
 use Rattle.dw_op.specs.Inner.EqualityLaws.{lines_decide}
 
 -- a signed number from its sign and number
@@ -70,10 +69,6 @@ bare_frame : (op : Op) → in_frame op ≡ true → bare op ≡ op
 bare_frame (Implicit block) h = let k : false ≡ true = h in absurd cc
 bare_frame op h = refl
 
-bare_all : (ops : List Op) → InFrame ops → map bare ops ≡ ops
-bare_all [] h = refl
-bare_all (op ∷ ops) h = rw (bare_frame op h.0, bare_all ops h.1) refl
-
 target_with : List ℕ → Target
 target_with (size ∷ order ∷ more) = record { size = if nat_eq size 4 then Four else Eight; order = if nat_eq order 0 then Little else Big }
 target_with other = record { size = Four; order = Little }
@@ -96,48 +91,22 @@ pub expression_is : (a b : Expression) → a.target ≡ b.target → a.ops ≡ b
 expression_is a b target ops =
     ap (λ (t : Target). expression t a.ops) target ∙ ap (λ (l : List Op). expression b.target l) ops
 
--- ---- lists that are bare
-
-bare_list : (a b : List Op) → map op_line (map bare a) ≡ map op_line (map bare b) → map bare a ≡ map bare b
-bare_list [] [] e = refl
-bare_list (x ∷ a) (y ∷ b) e =
-    let line : op_line (bare x) ≡ op_line (bare y) = cc in
-    let first : bare x ≡ bare y = same_op x y (sym (line_of_bare x) ∙ line ∙ line_of_bare y) in
-    let more = bare_list a b cc in
+-- equal lines, equal operations of frames
+frame_lines : (a b : List Op) → InFrame a → InFrame b → map op_line a ≡ map op_line b → a ≡ b
+frame_lines [] [] h k e = refl
+frame_lines (x ∷ a) (y ∷ b) h k e =
+    let line : op_line x ≡ op_line y = cc in
+    let first : x ≡ y = sym (bare_frame x h.0) ∙ same_op x y line ∙ bare_frame y k.0 in
+    let more = frame_lines a b h.1 k.1 cc in
     cc
-bare_list a b e = absurd cc
-
--- the test tells equal lists
-list_tells : (t u : Target) (a b : List Op) → Decides (same_expression (expression t (map bare a)) (expression u (map bare b))) (expression t (map bare a) ≡ expression u (map bare b))
-list_tells t u a b =
-    let left = expression t (map bare a) in
-    let right = expression u (map bare b) in
-    let d = lines_decide (expression_lines left) (expression_lines right) in
-    (λ e. let lines = d.0 e in expression_is left right (same_target t u cc) (bare_list a b cc), λ e. d.1 (ap expression_lines e))
+frame_lines a b h k e = absurd cc
 
 -- the test tells equal expressions
 pub tells : (a b : Expression) → InFrame a.ops → InFrame b.ops → Decides (same_expression a b) (a ≡ b)
-tells a b h k = rw (bare_all a.ops h, bare_all b.ops k) at (list_tells a.target b.target a.ops b.ops)
+tells a b h k =
+    let d = lines_decide (expression_lines a) (expression_lines b) in
+    (λ e. let lines = d.0 e in expression_is a b (same_target a.target b.target cc) (frame_lines a.ops b.ops h k cc), λ e. d.1 (ap expression_lines e))
 
 -- what tells equal expressions that have blocks is the test
 pub is_test_of : (a b : Expression) (r : Bool) → ((bytes : List ℕ) × FrameBlock a.target a.ops bytes) → ((bytes : List ℕ) × FrameBlock b.target b.ops bytes) → (IsTrue r ↔ a ≡ b) → r ≡ same_expression a b
 is_test_of a b r h k e = one_answer r (same_expression a b) e (tells a b h.1.1 k.1.1)
-
--- what tells the same operations for one target is the test
-pub is_list_test : (t u : Target) (a b : List Op) (r : Bool) → t ≡ u → (IsTrue r ↔ map bare a ≡ map bare b) → r ≡ same_expression (expression t (map bare a)) (expression u (map bare b))
-is_list_test t u a b r target e =
-    let left = expression t (map bare a) in
-    let right = expression u (map bare b) in
-    one_answer r (same_expression left right) (λ h. expression_is left right target (e.0 h), λ is. e.1 (ap (λ (x : Expression). x.ops) is)) (list_tells t u a b)
-
--- lists of one length are equal where they are at each place
-pub same_at : (a b : List Op) (d : Op) → length a ≡ length b → ((j : ℕ) → j < length a → bare (get_or a j d) ≡ bare (get_or b j d)) → map bare a ≡ map bare b
-same_at [] [] d n h = refl
-same_at (x ∷ a) (y ∷ b) d n h =
-    let first : bare x ≡ bare y = h 0 (omega arith) in
-    let more = same_at a b d (omega arith) (λ j lt. h (suc j) (omega arith)) in
-    cc
-same_at a b d n h = absurd cc
-
-pub at_same : (a b : List Op) (d : Op) (j : ℕ) → map bare a ≡ map bare b → bare (get_or a j d) ≡ bare (get_or b j d)
-at_same a b d j e = rw (← get_or-map bare a j d, ← get_or-map bare b j d) (ap (λ (l : List Op). get_or l j (bare d)) e)

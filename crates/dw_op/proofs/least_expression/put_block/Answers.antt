@@ -1,8 +1,5 @@
-use Rattle.dw_op.proofs.{Words.{Ok, None, Walks, Walked, bare}, LeastSpellings.{put_start, put_near, put_next, put_end}}
+use Rattle.dw_op.proofs.{Words.{Ok, None, Walks, Walked, bare}, LeastSpellings.{put_near, put_end}}
 use Rattle.dw_op.proofs.least_expression.put_block.Goals as goal
-
-pub ops-init : goal.ops-init
-ops-init c = put_start c.args.target c.args.bytes.now c.args.out.now.items c.new-walker.result c.are_bytes.ensures c.requires c.new-walker.ensures.so c.new-walker.ensures.here c.new-walker.ensures.count c.new-walker.ensures.bytes c.new-walker.ensures.measure
 
 pub returns-in_default-next-clause-all : goal.returns-in_default-next-clause-all
 returns-in_default-next-clause-all c =
@@ -13,9 +10,3 @@ pub branch_bits-requires : goal.branch_bits-requires
 branch_bits-requires c =
     let on : Walked c.ops.walker c.next_op.new.self (bare c.in-Some.op) = rw c.in-Some.is at c.in-Ok.ensures in
     put_near c.args.target c.args.bytes.now c.args.out.now.items c.ops.walker c.next_op.new.self (bare c.in-Some.op) c.ops.out.items c.requires c.ops.invariant on
-
-pub ops-preserved : goal.ops-preserved
-ops-preserved c =
-    let on : Walked c.ops.walker c.next_op.new.self (bare c.in-Some.op) = rw c.in-Some.is at c.in-Ok.ensures in
-    rw c.in_ok-put_op.ensures.ok
-    (put_next c.args.target c.args.bytes.now c.args.out.now.items c.ops.walker c.next_op.new.self (bare c.in-Some.op) c.ops.out.items c.requires c.ops.invariant on c.branch_bits.result c.branch_bits.ensures)

@@ -1,8 +1,5 @@
-use Rattle.dw_op.proofs.{Words.arith, WalkStarts.{count_behind, count_here, count_past}}
+use Rattle.dw_op.proofs.{Words.arith, WalkStarts.{count_here, count_past}}
 use Rattle.dw_op.proofs.walk.sum_from.Goals as goal
-
-pub returns-then-place-at-clause-exact : goal.returns-then-place-at-clause-exact
-returns-then-place-at-clause-exact c = count_behind c.args.measure c.args.cursor.now c.args.place c.requires.bytes (omega arith)
 
 pub returns-then-at-place-clause-exact : goal.returns-then-at-place-clause-exact
 returns-then-at-place-clause-exact c = rw (← c.copied-here.ensures) (count_here c.args.measure c.copied-here.result c.args.place c.advance-count.result c.advance-count.new.window c.advance-count.ensures.shifted (omega arith))

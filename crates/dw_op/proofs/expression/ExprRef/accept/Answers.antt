@@ -6,11 +6,6 @@ returns-in_err-judge-clause-only c =
     let p = err_from_is_err_and c.from_residual.result c.from_residual.ensures.1 in
     rw p.1 (λ ops block. refused_none c.args.target c.args.bytes.now ops c.in_err-judge.field-0.0 block c.in_err-judge.ensures.first)
 
-pub returns-in_err-judge-clause-first : goal.returns-in_err-judge-clause-first
-returns-in_err-judge-clause-first c =
-    let p = err_from_is_err_and c.from_residual.result c.from_residual.ensures.1 in
-    rw (p.1, p.2) (fault_found Frame c.args.target c.args.bytes.now c.in_err-judge.field-0.0 c.are_bytes.ensures c.in_err-judge.ensures.first)
-
 pub returns-in_err-judge-clause-within : goal.returns-in_err-judge-clause-within
 returns-in_err-judge-clause-within c =
     let p = err_from_is_err_and c.from_residual.result c.from_residual.ensures.1 in

@@ -1,4 +1,4 @@
-use Rattle.dw_op.proofs.{Words.{ℕ, ◌+◌, refl, ◌≡◌, arith, Option, Some, None, ap, Location, bare, bare_step, weight, sum_in, find_at, goes_to, block_of, SoughtSo}, Walkers.{gone_on, room_on, to_seek, walked_branch, walked_nowhere}}
+use Rattle.dw_op.proofs.{Words.{ℕ, ◌+◌, refl, ◌≡◌, Option, Some, None, ap, Location, bare, bare_step, weight, sum_in, find_at, goes_to, block_of, SoughtSo}, Walkers.{gone_on, to_seek, walked_branch, walked_nowhere}}
 use Rattle.dw_op.proofs.walk.Walker.next_op.Goals as goal
 
 pub returns-in-Some : goal.returns-in-Some
@@ -20,10 +20,6 @@ returns-in-None c =
     let found : none ≡ find_at (sum_in w.measure Location (block_of (gone_on w c.next_step.new.cursor n))) (goes_to (w.here.at + 3) c.in-Jump.number) = rw c.at-at.ensures.place at c.in-None.ensures.exact in
     rw c.at-at.ensures.place
     (walked_nowhere w (bare_step c.in_ok-step.step) c.next_step.new.cursor n c.requires c.in_ok-step.ensures is_n c.in-Jump.branch c.in-Jump.number (ap bare_step c.in-Jump.is) c.sought.new.self none found refl)
-
-pub overflow_add-self : goal.overflow_add-self
-overflow_add-self c =
-    omega (arith, room_on c.args.self.now (bare_step c.in_ok-step.step) c.next_step.new.cursor c.added.result c.requires c.in_ok-step.ensures (rw c.target-target.ensures at c.added.ensures))
 
 pub sought-requires : goal.sought-requires
 sought-requires c =

@@ -8,4 +8,4 @@ pub returns : goal.returns
 returns c = λ byte so.
     let m = c.args.self.now in
     let last : c.given.index ≡ c.args.to = omega (arith, c.given-test.false) in
-    subst (λ (n : ℕ). SoFar (context m.env byte) m.steps m.default c.args.row.now c.args.return_register c.args.cfa n c.given.room) last (c.given.invariant.so_far byte so)
+    subst (λ (n : ℕ). SoFar (context m.env byte) m.steps m.default m.row.now m.return_register c.args.cfa n c.given.room) last (c.given.invariant.so_far byte so)

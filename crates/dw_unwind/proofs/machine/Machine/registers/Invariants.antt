@@ -6,6 +6,6 @@ invariant-registers g l = record {
   same : g.M.Memory.byte l.memory ≡ g.M.Memory.byte l.initial.memory;
   count : g.M.Memory.failures l.memory ≡ g.M.Memory.failures l.initial.memory;
   most : l.from ≤ 65536;
-  left : IsLeft l.row l.from l.register-iterator;
-  so_far : SoFar (context l.self.env (g.M.Memory.byte l.initial.memory)) l.self.steps l.self.default l.row l.return_register l.cfa l.from l.room;
+  left : IsLeft l.self.row.now l.from l.register-iterator;
+  so_far : SoFar (context l.self.env (g.M.Memory.byte l.initial.memory)) l.self.steps l.self.default l.self.row.now l.self.return_register l.cfa l.from l.room;
 }
