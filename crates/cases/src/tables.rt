@@ -5,7 +5,7 @@ use crate::sections::{section_of, table_of};
 use crate::targets::LITTLE;
 use crate::texts::row_text;
 use dw_cfa::{Row, RowRoom};
-use dw_section::{Fde, Lookups, Ranged, Table, look_up};
+use dw_section::{Fde, Ranged, Table, look_up};
 use std::alloc::Global;
 use std::test::Fail;
 
@@ -79,12 +79,16 @@ fn found_text(alloc: Global, fde: Fde, row: &Row<'_>) -> Result<String, Fail> {
     Ok(format!(in alloc; "{begin:#x} {row}")?)
 }
 
-// What a look-up finds: the FDE and the row that it lends.
-fn looked_up(alloc: Global, lookups: &mut Lookups<'_, '_>, address: u64) -> Result<String, Fail> {
-    match (lookups.find(address)?, lookups.fde(), lookups.row()) {
-        (true, Some(fde), Some(row)) => found_text(alloc, fde.fde(), row),
-        (false, None, None) => Ok(String::from_str(alloc, "none")?),
-        _ => Err(Fail::new("a row that is not found, or none that is")),
+// What a look-up in a table finds, in room that is lent.
+fn looked_up<'a>(
+    alloc: Global,
+    table: &Table<'a>,
+    address: u64,
+    room: &mut RowRoom<'a>,
+) -> Result<String, Fail> {
+    match table.look_up(address, room)? {
+        Some(fde) => found_text(alloc, fde, room.row()),
+        None => Ok(String::from_str(alloc, "none")?),
     }
 }
 
@@ -102,10 +106,14 @@ fff: none
 401003: 0x401000 cfa=r7+16 r6=[cfa-16] r16=[cfa-8]";
 
 // Fails where one of the look-ups, one after another, finds what its line does not say.
-fn agree_in_turn(alloc: Global, lookups: &mut Lookups<'_, '_>) -> Result<(), Fail> {
+fn agree_in_turn<'a>(
+    alloc: Global,
+    table: &Table<'a>,
+    room: &mut RowRoom<'a>,
+) -> Result<(), Fail> {
     for line in LOOK_UPS.lines() {
         let (address, wanted) = parts(line)?;
-        let text = looked_up(alloc, lookups, number(address)?)?;
+        let text = looked_up(alloc, table, number(address)?, room)?;
         compare(line, text.as_str(), wanted)?;
     }
     Ok(())
@@ -116,7 +124,7 @@ fn looks_addresses_up(rt: HostRuntime) -> Result<(), Fail> {
     let alloc = rt.alloc();
     let bytes = section_of(alloc, "two")?;
     let table = table_of(alloc, &bytes, LITTLE)?;
-    agree_in_turn(alloc, &mut table.lookups())
+    agree_in_turn(alloc, &table, &mut RowRoom::new(alloc))
 }
 
 // ---- look-ups in bytes, by an index
@@ -130,7 +138,7 @@ fn found_by_index<'a>(
     room: &mut RowRoom<'a>,
 ) -> Result<String, Fail> {
     match look_up(bytes, LITTLE, index, address, room) {
-        Ok(Some(fde)) => found_text(alloc, fde.fde(), room.row()),
+        Ok(Some(fde)) => found_text(alloc, fde, room.row()),
         Ok(None) => Ok(String::from_str(alloc, "none")?),
         Err(error) => Ok(format!(in alloc; "{error:?}")?),
     }

@@ -5,7 +5,6 @@ pub mod Digits
 pub mod EightDigits
 pub mod Endings
 pub mod Loans
-pub mod LookedUp
 pub mod HexLines
 pub mod Members
 pub mod OpLines

@@ -1,8 +1,7 @@
 //! `dwframe at`: the rules at some addresses of a section.
 
 ghost use Rattle.std.specs.Prelude.{◌≡◌, ◌<◌, ◌≤◌, ◌-◌, ◌^◌, List, MatchResult, OnOk, Some, option_map};
-ghost use Rattle.dw_num.specs.Input.{AreBytes};
-ghost use Rattle.dw_section.specs.{Accepted.Accepted, Meaning.AreFdes, declared.lookup.Fde.{Fde as TheFde}};
+ghost use Rattle.dw_section.specs.{Meaning.AreFdes, declared.lookup.Fde.{Fde as TheFde}};
 ghost use Rattle.dw_command.specs.{Addresses.lines_in, Answers.{AtEnds, PrintsOf, Tells, TellsOf, Unprinted}};
 ghost use Rattle.dw_command.specs.{RowTexts.{At, at_text}, Texts.lines, Inner.Output.{Adds, Told, output_of}};
 
@@ -12,9 +11,9 @@ use crate::files::{Load, STDIN};
 use crate::input::{load_file, load_text};
 use crate::listing::{Listing, OutputFault};
 use crate::row_text::{put_fde, put_none, put_row};
-use dw_cfa::Row;
+use dw_cfa::{Row, RowRoom};
 use dw_num::Target;
-use dw_section::{Fde, Lookups, Table, check};
+use dw_section::{Fde, Table, check};
 use dw_words::Lookup;
 use std::alloc::Global;
 use std::io::Write;
@@ -36,35 +35,28 @@ fn put_found<W: Write>(
 }
 
 // Puts what the section says of an address.
-fn put_at<W: Write>(
+fn put_at<'a, W: Write>(
     out: &mut Listing<W>,
-    lookups: &mut Lookups<'_, '_>,
+    table: &Table<'a>,
+    rows: &mut RowRoom<'a>,
     address: u64,
 ) -> Result<(), Failure<'static>>
     requires room { out.old.failures < 2 ^ 64 - 1 }
-    requires bytes { AreBytes lookups.old.section.bytes }
-    requires accepted { Accepted lookups.old.section.target lookups.old.section.bytes }
     ensures told { MatchResult result (λ _. out.new.failures ≡ out.old.failures) (Unprinted out.old.failures out.new.failures) }
-    ensures put { (fs : List TheFde) → AreFdes lookups.old.section.target lookups.old.section.bytes fs → OnOk result ((found : At) × TellsOf lookups.old.section.target lookups.old.section.bytes fs address found × Adds W.contents out.old out.new (at_text found)) }
-    ensures same { lookups.new.section ≡ lookups.old.section }
+    ensures put { (fs : List TheFde) → AreFdes table.now.target table.now.bytes fs → OnOk result ((found : At) × TellsOf table.now.target table.now.bytes fs address found × Adds W.contents out.old out.new (at_text found)) }
 {
-    if !lookups.find(address)? {
+    table.accepted();
+    let Some(fde) = table.look_up(address, rows)? else {
         return Ok(put_none(out, address)?);
-    }
-    let Some(fde) = lookups.fde() else {
-        unreachable!();
     };
-    let fde = fde.fde();
-    let Some(row) = lookups.row() else {
-        unreachable!();
-    };
-    Ok(put_found(out, address, &fde, row)?)
+    Ok(put_found(out, address, &fde, rows.row())?)
 }
 
 // Puts what the section says of each address.
-fn put_each<W: Write>(
+fn put_each<'a, W: Write>(
     out: &mut Listing<W>,
-    table: &Table<'_>,
+    table: &Table<'a>,
+    rows: &mut RowRoom<'a>,
     addresses: &[u64],
 ) -> Result<(), Failure<'static>>
     requires room { out.old.failures < 2 ^ 64 - 1 }
@@ -72,22 +64,22 @@ fn put_each<W: Write>(
     ensures put { OnOk result ((found : List At) × Tells table.now.target table.now.bytes addresses.now found × Adds W.contents out.old out.new (lines at_text found)) }
 {
     table.accepted();
-    let mut lookups = table.lookups();
     for address in addresses {
-        put_at(out, &mut lookups, *address)?;
+        put_at(out, table, rows, *address)?;
     }
     Ok(())
 }
 
-fn put_all<W: Write>(
+fn put_all<'a, W: Write>(
     out: &mut Listing<W>,
-    table: &Table<'_>,
+    table: &Table<'a>,
+    rows: &mut RowRoom<'a>,
     addresses: &[u64],
 ) -> Result<(), Failure<'static>>
     requires room { out.old.failures < 2 ^ 64 - 1 }
     ensures { PrintsOf (output_of W.contents out.old) (output_of W.contents out.new) (Tells table.now.target table.now.bytes addresses.now) (lines at_text) tt result }
 {
-    put_each(out, table, addresses)?;
+    put_each(out, table, rows, addresses)?;
     Ok(out.finish()?)
 }
 
@@ -121,5 +113,5 @@ pub fn run_at<'a, L: Load, W: Write>(
     let text = load_text(alloc, files, lines_in(&addresses))?;
     let table = check(alloc, &bytes, target)?;
     add_lines(&mut addresses, &text, target.size)?;
-    put_all(out, &table, &addresses)
+    put_all(out, &table, &mut RowRoom::new(alloc), &addresses)
 }

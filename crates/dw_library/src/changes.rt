@@ -1,6 +1,6 @@
 //! The rows of an FDE, one after another.
 
-ghost use Rattle.std.specs.{Prelude.{◌≡◌, ◌<◌, ◌++◌, ℕ, List, [], ◌∷◌, length, slice_index_or, IfOk, OnErr}, List.AllByRecursion};
+ghost use Rattle.std.specs.{Prelude.{◌≡◌, ◌+◌, ◌^◌, ◌<◌, ◌++◌, ℕ, List, [], ◌∷◌, length, slice_index_or, IfOk, OnErr}, List.AllByRecursion};
 ghost use Rattle.dw_cfa.specs.Rows.{Rules};
 ghost use Rattle.dw_section.specs.{Meaning.AreFdes, Ranges.fde_in, declared.lookup.Fde.{Fde as TheFde}};
 ghost use Rattle.dw_library.specs.{Answers.target_of, Changes.{AreAllChanges, AreWritten, Fits, TellsChanges, TellsCovering, Told, no_totals}};
@@ -9,7 +9,7 @@ ghost use Rattle.dw_library.specs.{declared.changes.Change.{Change as TheChange}
 use crate::answer::{
     BAD_ARGUMENT, NO_FDE, OK, OUT_OF_MEMORY, Refused, Section, TOO_SHORT, put_at, refuse, target_of,
 };
-use crate::index::{Row, Rule, put_rules, told_row};
+use crate::index::{Row, Rule, put_behind, told_row};
 use dw_cfa::Row as CfaRow;
 use dw_num::ReadError;
 use dw_section::{Changes, Fde, FdeRef, Ranged, Table, check};
@@ -37,7 +37,8 @@ pub struct Totals {
 }
 
 fn fde_in(entry: &Ranged) -> Fde
-    ensures { result ≡ fde_in entry.now }
+    ensures is { result ≡ fde_in entry.now }
+    ensures range { (range : ℕ) × (range < 2 ^ 64) × (result.end ≡ result.begin + range) }
 {
     Fde {
         begin: entry.begin,
@@ -49,17 +50,17 @@ fn fde_in(entry: &Ranged) -> Fde
 // Writes a change and its rules behind those before, as far as they fit, and says how many there are then.
 fn put_change(
     row: &CfaRow<'_>,
-    entry: &Ranged,
+    fde: Fde,
     address: u64,
     before: Totals,
     out: &mut [Change],
     rules: &mut [Rule],
 ) -> Totals
-    ensures { (done : List (ℕ × Rules)) (changes : List TheChange) (buffer : List TheRule) → AreWritten (fde_in entry.now) done changes buffer out.old rules.old before → AreWritten (fde_in entry.now) (done ++ (address, row.now) ∷ []) changes buffer out.new rules.new result }
+    requires { (range : ℕ) × (range < 2 ^ 64) × (fde.end ≡ fde.begin + range) }
+    ensures { (done : List (ℕ × Rules)) (changes : List TheChange) (buffer : List TheRule) → AreWritten fde done changes buffer out.old rules.old before → AreWritten fde (done ++ (address, row.now) ∷ []) changes buffer out.new rules.new result }
 {
-    let place = before.rules.min(rules.len());
-    let count = put_rules(row, &mut rules[place..]);
-    let row = told_row(fde_in(entry), entry.range, row, count);
+    let count = put_behind(row, before.rules, rules);
+    let row = told_row(fde, row, count);
     put_at(Change { address, row }, out, before.changes);
     Totals {
         changes: before.changes.saturating_add(1),
@@ -70,19 +71,20 @@ fn put_change(
 // Writes the changes that are still to come.
 fn put_changes(
     changes: &mut Changes<'_>,
-    entry: &Ranged,
+    fde: Fde,
     out: &mut [Change],
     rules: &mut [Rule],
 ) -> Result<Totals, AllocError>
     requires low { AllByRecursion IsLow changes.old.to_come }
-    ensures { IfOk result (λ totals. AreWritten (fde_in entry.now) changes.old.to_come out.old rules.old out.new rules.new totals) }
+    requires range { (range : ℕ) × (range < 2 ^ 64) × (fde.end ≡ fde.begin + range) }
+    ensures { IfOk result (λ totals. AreWritten fde changes.old.to_come out.old rules.old out.new rules.new totals) }
 {
     let mut totals = Totals::default();
     'told: while let Some(address) = changes.advance()? {
         let Some(row) = changes.row() else {
             unreachable!();
         };
-        totals = put_change(row, entry, address as u64, totals, out, rules);
+        totals = put_change(row, fde, address as u64, totals, out, rules);
     }
     Ok(totals)
 }
@@ -112,7 +114,7 @@ fn put_fde(
     table.accepted();
     let entry = table.index()[fde.place];
     let mut changes = table.changes(fde);
-    let totals = put_changes(&mut changes, &entry, out, rules)?;
+    let totals = put_changes(&mut changes, fde_in(&entry), out, rules)?;
     *needed = totals;
     Ok(fitting(totals, out.len(), rules.len()))
 }

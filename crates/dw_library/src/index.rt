@@ -1,11 +1,12 @@
 //! Look-ups by an index that the caller keeps.
 
-ghost use Rattle.std.specs.Prelude.{◌≡◌, ◌+◌, ◌<◌, IfOk, IfErr, OnErr, MatchResult, length, map};
+ghost use Rattle.std.specs.Prelude.{◌≡◌, ◌+◌, ◌-◌, ◌^◌, ◌<◌, ◌++◌, ℕ, List, IfOk, IfErr, OnErr, MatchResult, length, map, min};
 ghost use Rattle.dw_op.specs.Faults.{IsWithin};
 ghost use Rattle.dw_section.specs.{Ranges.IsTable, StandingFde.{LookUpFault, Misleads, RefusesAs}};
 ghost use Rattle.dw_section.specs.declared.standing_fde.LookUpError.TheVariants as TheLookUpError;
 ghost use Rattle.dw_library.specs.{Answers.target_of, Index.{HasSize, IsAnyRow, IsIndexed, IsRow, IsTold, TellsFde, TellsRow}};
 ghost use Rattle.dw_library.specs.Index.{TellsRules, Told, cfa_kind_of, cfa_offset_of, cfa_register_of, no_row, over, row_of, rule_of};
+ghost use Rattle.dw_library.specs.declared.index.Rule.{Rule as TheRule};
 
 use crate::answer::{
     BAD_ARGUMENT, BAD_INDEX, NO_FDE, OK, OUT_OF_MEMORY, Refused, Section, TOO_SHORT, put_at,
@@ -13,7 +14,7 @@ use crate::answer::{
 };
 use dw_cfa::{CfaRule, RegRule, Row as CfaRow, RowRoom};
 use dw_num::{ReadError, Target};
-use dw_section::{Fde, LookUpError, Ranged, StandingFde, check, look_up};
+use dw_section::{Fde, LookUpError, Ranged, check, look_up};
 use std::alloc::Global;
 
 /// The rule of a register (6.4.2.3): its number, the kind, and the other register or the offset that the kind names.
@@ -139,8 +140,8 @@ fn any_rule(number: u16, rule: &RegRule<'_>) -> Rule
     }
 }
 
-/// Writes the rules of a row to the front of a buffer, as many as fit, and tells how many there are.
-pub(crate) fn put_rules(row: &CfaRow<'_>, out: &mut [Rule]) -> usize
+// Writes the rules of a row to the front of a buffer, as many as fit, and tells how many there are.
+fn put_rules(row: &CfaRow<'_>, out: &mut [Rule]) -> usize
     ensures count { result ≡ length row.now.registers }
     ensures rules { out.new ≡ over (map rule_of row.now.registers) out.old }
 {
@@ -160,6 +161,15 @@ pub(crate) fn put_rules(row: &CfaRow<'_>, out: &mut [Rule]) -> usize
     }
 }
 
+/// Writes the rules of a row behind so many of the rows before, as far as they fit, and tells how many there are of this row.
+pub(crate) fn put_behind(row: &CfaRow<'_>, before: usize, out: &mut [Rule]) -> usize
+    ensures count { result ≡ length row.now.registers }
+    ensures rules { (done buffer : List TheRule) → before ≡ min (length done) (2 ^ 64 - 1) → out.old ≡ over done buffer → out.new ≡ over (done ++ map rule_of row.now.registers) buffer }
+{
+    let place = before.min(out.len());
+    put_rules(row, &mut out[place..])
+}
+
 // The kind of a rule of the CFA, and the register and the offset that it names.
 fn told_cfa(rule: &CfaRule<'_>) -> (u32, u16, i64)
     ensures kind { result.0 ≡ cfa_kind_of rule.now }
@@ -175,8 +185,8 @@ fn told_cfa(rule: &CfaRule<'_>) -> (u32, u16, i64)
 
 /// What is told of an FDE and of a row of it, which has rules for so many registers.
 #[inline(always)]
-pub(crate) fn told_row(fde: Fde, range: u64, rules: &CfaRow<'_>, count: usize) -> Row
-    requires range { fde.end ≡ fde.begin + range }
+pub(crate) fn told_row(fde: Fde, rules: &CfaRow<'_>, count: usize) -> Row
+    requires range { (range : ℕ) × (range < 2 ^ 64) × (fde.end ≡ fde.begin + range) }
     requires count { count ≡ length rules.now.registers }
     ensures told { IsTold (record { fde = fde; row = rules.now }) result }
     ensures exact { result ≡ row_of fde rules.now }
@@ -184,7 +194,7 @@ pub(crate) fn told_row(fde: Fde, range: u64, rules: &CfaRow<'_>, count: usize) -
     let (cfa_kind, cfa_register, cfa_offset) = told_cfa(rules.cfa_rule());
     Row {
         begin: fde.begin,
-        range,
+        range: (fde.end - u128::from(fde.begin)) as u64,
         cfa_offset,
         count,
         cfa_kind,
@@ -194,11 +204,12 @@ pub(crate) fn told_row(fde: Fde, range: u64, rules: &CfaRow<'_>, count: usize) -
 }
 
 // Writes an FDE and a row of it.
-fn tell(found: &StandingFde, rules: &CfaRow<'_>, out: &mut [Rule], row: &mut Row) -> u32
-    ensures { TellsRow (record { fde = found.now; row = rules.now }) out.old (record { status = result; row = row.new; rules = out.new }) }
+fn tell(fde: Fde, rules: &CfaRow<'_>, out: &mut [Rule], row: &mut Row) -> u32
+    requires { (range : ℕ) × (range < 2 ^ 64) × (fde.end ≡ fde.begin + range) }
+    ensures { TellsRow (record { fde = fde; row = rules.now }) out.old (record { status = result; row = row.new; rules = out.new }) }
 {
     let count = put_rules(rules, out);
-    *row = told_row(found.fde(), found.range(), rules, count);
+    *row = told_row(fde, rules, count);
     if count <= out.len() { OK } else { TOO_SHORT }
 }
 
@@ -223,7 +234,7 @@ fn put_row(
     let Some(found) = look_up(bytes, target, index, address, &mut room)? else {
         return Ok(NO_FDE);
     };
-    Ok(tell(&found, room.row(), out, row))
+    Ok(tell(found, room.row(), out, row))
 }
 
 /// The rules at an address, by an index: those of the FDE that stands at the place of the entry that covers the address. It is

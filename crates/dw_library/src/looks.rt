@@ -1,87 +1,45 @@
 //! The rows of many addresses by one call.
 
-ghost use Rattle.std.specs.Prelude.{◌≡◌, ◌≤◌, ◌++◌, List, length, IfOk, OnErr};
+ghost use Rattle.std.specs.Prelude.{◌≡◌, ◌-◌, ◌^◌, ◌≤◌, ◌++◌, List, length, min, IfOk, OnErr};
 ghost use Rattle.dw_library.specs.{Answers.target_of, Index.over, Looks.{AreLooks, IsLook, Look, TellsLooks, ToldRows}};
-ghost use Rattle.dw_library.specs.{declared.index.Rule.{Rule as TheRule}, Inner.Looks.{IsLeft, status_of}};
+ghost use Rattle.dw_library.specs.{declared.index.Rule.{Rule as TheRule}, Inner.Looks.status_of};
 
 use crate::answer::{
     BAD_ARGUMENT, OK, OUT_OF_MEMORY, Refused, Section, TOO_SHORT, refuse, target_of,
 };
-use crate::index::{Row, Rule, put_rules, told_row};
+use crate::index::{Row, Rule, put_behind, told_row};
+use dw_cfa::RowRoom;
 use dw_num::ReadError;
-use dw_section::{Lookups, Table, check};
+use dw_section::{Table, check};
 use std::alloc::{AllocError, Global};
 
-// Where the next rules go in a buffer, and whether those before did not all fit.
-#[derive(Clone, Copy)]
-struct Room {
-    place: usize,
-    short: bool,
-}
-
-// What is left of a room of so many rules behind so many more of them.
-fn behind(room: Room, count: usize, size: usize) -> Room
-    requires { room.place ≤ size }
-    ensures { (before own : List TheRule) → IsLeft size before room → count ≡ length own → IsLeft size (before ++ own) result }
-{
-    let left = size - room.place;
-    Room {
-        place: room.place + count.min(left),
-        short: room.short || left < count,
-    }
-}
-
-// Writes the row of an address, and its rules to the front of a buffer, and tells how many rules there are.
-fn put_look(
-    lookups: &mut Lookups<'_, '_>,
-    table: &Table<'_>,
+// Writes the row of an address, and its rules behind so many of the addresses before, as far as they fit, and tells how many there
+// are then.
+fn put_look<'a>(
+    table: &Table<'a>,
+    room: &mut RowRoom<'a>,
     address: u64,
+    before: usize,
     row: &mut Row,
     rules: &mut [Rule],
 ) -> Result<usize, AllocError>
-    requires section { lookups.old.section ≡ table.now }
-    ensures look { IfOk result (λ count. (l : Look) × IsLook table.now.target table.now.bytes address l × (row.new ≡ l.row) × (rules.new ≡ over l.rules rules.old) × (count ≡ length l.rules)) }
+    ensures look { (done buffer : List TheRule) → before ≡ min (length done) (2 ^ 64 - 1) → rules.old ≡ over done buffer → IfOk result (λ count. (l : Look) × IsLook table.now.target table.now.bytes address l × (row.new ≡ l.row) × (rules.new ≡ over (done ++ l.rules) buffer) × (count ≡ min (length (done ++ l.rules)) (2 ^ 64 - 1))) }
     ensures kept { OnErr result ((row.new ≡ row.old) × (rules.new ≡ rules.old)) }
-    ensures section { lookups.new.section ≡ table.now }
 {
     table.accepted();
-    lookups.find(address)?;
-    let Some(specified) = lookups.row() else {
+    let Some(found) = table.look_up(address, room)? else {
         *row = Row::default();
-        return Ok(0);
+        return Ok(before);
     };
-    let Some(found) = lookups.fde() else {
-        unreachable!();
-    };
-    let count = put_rules(specified, rules);
-    *row = told_row(found.fde(), found.range(), specified, count);
-    Ok(count)
+    let count = put_behind(room.row(), before, rules);
+    *row = told_row(found, room.row(), count);
+    Ok(before.saturating_add(count))
 }
 
-// The same, behind the rules of the addresses before.
-fn put_next(
-    lookups: &mut Lookups<'_, '_>,
-    table: &Table<'_>,
-    address: u64,
-    row: &mut Row,
-    rules: &mut [Rule],
-    room: Room,
-) -> Result<Room, AllocError>
-    requires section { lookups.old.section ≡ table.now }
-    requires room { (before : List TheRule) × IsLeft (length rules.old) before room }
-    ensures look { (before buffer : List TheRule) → IsLeft (length rules.old) before room → rules.old ≡ over before buffer → IfOk result (λ left. (l : Look) × IsLook table.now.target table.now.bytes address l × (row.new ≡ l.row) × (rules.new ≡ over (before ++ l.rules) buffer) × IsLeft (length rules.old) (before ++ l.rules) left) }
-    ensures length { length rules.new ≡ length rules.old }
-    ensures kept { OnErr result ((row.new ≡ row.old) × (rules.new ≡ rules.old)) }
-    ensures section { lookups.new.section ≡ table.now }
-{
-    let size = rules.len();
-    let count = put_look(lookups, table, address, row, &mut rules[room.place..])?;
-    Ok(behind(room, count, size))
-}
-
-// Writes a row for each address, and their rules one after another, and tells whether not all of them fit.
-fn put_looks(
-    table: &Table<'_>,
+// Writes a row for each address, and their rules one after another, and tells whether all of them fit.
+fn put_looks<'a>(
+    table: &Table<'a>,
+    room: &mut RowRoom<'a>,
     addresses: &[u64],
     rows: &mut [Row],
     rules: &mut [Rule],
@@ -91,32 +49,28 @@ fn put_looks(
     requires done { done.old ≡ 0 }
     ensures { TellsLooks table.now.target table.now.bytes addresses.now rows.old rules.old (record { status = status_of result; done = done.new; rows = rows.new; rules = rules.new }) }
 {
-    let mut lookups = table.lookups();
-    let mut room = Room {
-        place: 0,
-        short: false,
-    };
+    let mut count = 0;
     'addresses: for place in 0..addresses.len() {
-        room = put_next(
-            &mut lookups,
+        count = put_look(
             table,
+            room,
             addresses[place],
+            count,
             &mut rows[place],
             rules,
-            room,
         )?;
         *done = place + 1;
     }
-    Ok(room.short)
+    Ok(count <= rules.len())
 }
 
 // The status of a call that wrote rows.
-fn status_of(short: Result<bool, AllocError>) -> u32
-    ensures { result ≡ status_of short }
+fn status_of(fit: Result<bool, AllocError>) -> u32
+    ensures { result ≡ status_of fit }
 {
-    match short {
-        Ok(false) => OK,
-        Ok(true) => TOO_SHORT,
+    match fit {
+        Ok(true) => OK,
+        Ok(false) => TOO_SHORT,
         Err(_) => OUT_OF_MEMORY,
     }
 }
@@ -144,7 +98,10 @@ pub extern "C" fn dwframe_rows_at(
         return TOO_SHORT;
     }
     match check(alloc, section.bytes, target) {
-        Ok(table) => status_of(put_looks(&table, addresses, rows, rules, done)),
+        Ok(table) => {
+            let mut room = RowRoom::new(alloc);
+            status_of(put_looks(&table, &mut room, addresses, rows, rules, done))
+        }
         Err(ReadError::Refused(refusal)) => refuse(refused, 1, refusal),
         Err(ReadError::OutOfMemory) => OUT_OF_MEMORY,
     }

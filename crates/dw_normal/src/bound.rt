@@ -47,8 +47,8 @@ pub(crate) fn is_short(table: &Table<'_>, cap: u64) -> bool
     table.accepted();
     let mut total = 0;
     'fdes: for place in 0..table.fde_count() {
-        let (own, initial) = table.program_lengths(FdeRef { place });
-        let Some(sum) = add_share(Some(total), own, initial, cap) else {
+        let opening = table.opening(FdeRef { place });
+        let Some(sum) = add_share(Some(total), opening.own, opening.initial, cap) else {
             return false;
         };
         total = sum;

@@ -2,9 +2,9 @@
 use Rattle.dw_cfa.specs.RegisterSets.{Registers, has}
 use Rattle.dw_cfa.proofs.Lent.RowLists.{Entry}
 use Rattle.dw_section.specs.declared.change.Behind.{Behind}
-use Rattle.dw_section.proofs.Words.{◌≡◌, ℕ, suc, ◌<◌, Bool, true, false, List, [], ◌∷◌, Option, Some, None, Ok, refl, sym, ap, subst, arith, inl, inr, filter, nat_tests, cases_Bool, cases_lt, IfSome, IsTrue, MatchOption, AreBytes, Target}
-use Rattle.dw_section.proofs.Words.{LocatedRow, RegRule, Rules, Led, Walking, AllKeep, AreSpecified, HasBytes, LedBy, Section, changes_among, is_kept, is_specified, kept, kept_by, leaves_one, rule, rule_in, shown_if, unlisted, LeavesTo}
-use Rattle.dw_section.proofs.{Words.{FirstDifference, CieKeeps, StandsOn, finished, ShownBehind, shown_of, AreChanged, CieLeaves, first_left}, ChangesAmong.changes_keep, Dropped.none_dropped, Lent.Heads.{all_in, heads_bytes}}
+use Rattle.dw_section.proofs.Words.{◌≡◌, ℕ, suc, ◌<◌, Bool, true, false, List, [], ◌∷◌, Option, Some, None, Ok, refl, sym, ap, subst, arith, inl, inr, filter, nat_tests, cases_Bool, cases_lt, IfSome, IsTrue, MatchOption, AreBytes}
+use Rattle.dw_section.proofs.Words.{LocatedRow, RegRule, Rules, Led, Walking, AllKeep, AreSpecified, Head, Headers, LedTo, Section, changes_among, is_kept, is_specified, kept, kept_by, leaves_one, rule, rule_in, shown_if, unlisted, LeavesTo}
+use Rattle.dw_section.proofs.{Words.{FirstDifference, CieKeeps, StandsOn, finished, ShownBehind, shown_of, AreChanged, CieLeaves, first_left}, ChangesAmong.changes_keep, Dropped.none_dropped}
 
 -- ---- the registers to which a row gives other rules than the one before
 
@@ -44,16 +44,8 @@ stands_kept walk bytes stands left same = stands_by walk.initial stands where
       let one = leaves_one walk.led.factors walk.led.program left.0 stands.1.0 walk.kept row bytes left.1 stands.1.1 in
       subst (λ (r : Rules). kept walk.steps.current r ≡ walk.steps.current) one same
 
-module _ (s : Section) (place : ℕ) (led : Led) (by : LedBy s place led) where
-  cie_leaves : (row : Rules) → LeavesTo led.factors led.program (Ok row) → CieLeaves s.target s.bytes place row
-  cie_leaves row left = record {
-    headers = by.headers;
-    are = by.hold.0.0.0;
-    head = record { at = place; form = by.names.0; code_factor = led.factors.code_factor; data_factor = led.factors.data_factor; return_register = by.names.1; program = record { at = led.program.at; bytes = led.program.bytes } };
-    among = by.names.2;
-    stands = refl;
-    leaves = subst (λ (t : Target). LeavesTo led.factors (record { at = led.program.at; bytes = led.program.bytes; target = t }) (Ok row)) by.target_is left;
-  }
+cie_leaves : (s : Section) (hs : List Head) (place : ℕ) (led : Led) → Headers s.target s.bytes hs → LedTo s.target hs (Some place) led → (row : Rules) → LeavesTo led.factors led.program (Ok row) → CieLeaves s.target s.bytes place row
+cie_leaves s hs place led are by row left = record { headers = hs; are = are; head = by.0; among = by.1; stands = by.2; leaves = subst (λ (l : Led). LeavesTo l.factors l.program (Ok row)) by.3 left }
 
 -- ---- the row that is shown
 
@@ -69,7 +61,7 @@ module _ (lent kept : Bool) (current before : Rules) (none : kept ≡ false) whe
     | inr e ↦ rw (e, none) tt
   ]
 
-module _ (s : Section) (place : ℕ) (walk : Walking) (lent kept : Bool) (by : LedBy s place walk.led) (none : kept ≡ false) where
+module _ (s : Section) (hs : List Head) (place : ℕ) (walk : Walking) (lent kept : Bool) (are : Headers s.target s.bytes hs) (by : LedTo s.target hs (Some place) walk.led) (none : kept ≡ false) where
   abbrev shown : Option Rules
   shown = shown_of lent walk.steps.current (shown_if kept walk.kept)
 
@@ -78,10 +70,10 @@ module _ (s : Section) (place : ℕ) (walk : Walking) (lent kept : Bool) (by : L
       → IfSome answer (λ behind. (row : Rules) × CieLeaves s.target s.bytes behind.cie_at row × IfSome shown (AreChanged changed row))
   cie_shown changed None at is = tt
   cie_shown changed (Some behind) at is =
-      (walk.kept, subst (λ (n : ℕ). CieLeaves s.target s.bytes n walk.kept) (sym at) (cie_leaves s place walk.led by walk.kept is.0), shows_lent lent kept walk.steps.current walk.kept none (AreChanged changed walk.kept) is.1)
+      (walk.kept, subst (λ (n : ℕ). CieLeaves s.target s.bytes n walk.kept) (sym at) (cie_leaves s hs place walk.led are by walk.kept is.0), shows_lent lent kept walk.steps.current walk.kept none (AreChanged changed walk.kept) is.1)
 
   -- and of the changes still to come
-  pub all_shown : (end : ℕ) (answer : Option Behind) → AreBytes s.bytes → IfSome answer (λ behind. IsTrue behind.keeps → AreBytes walk.led.program.bytes → AllKeep walk.steps.current walk.steps.outcome.rows)
+  pub all_shown : (end : ℕ) (answer : Option Behind) → IfSome answer (λ behind. IsTrue behind.keeps → AreBytes walk.led.program.bytes → AllKeep walk.steps.current walk.steps.outcome.rows)
       → IfSome answer (λ behind. IsTrue behind.keeps → IfSome shown (λ first. kept_by first (changes_among end shown walk.steps.outcome.rows) ≡ first))
-  all_shown end None bytes all = tt
-  all_shown end (Some behind) bytes all = λ keeps. drops_none lent kept walk.steps.current walk.kept none end walk.steps.outcome.rows (all keeps (all_in HasBytes by.headers _ (heads_bytes s.target s.bytes by.headers bytes by.hold.0.0.0) by.names.2))
+  all_shown end None all = tt
+  all_shown end (Some behind) all = λ keeps. drops_none lent kept walk.steps.current walk.kept none end walk.steps.outcome.rows (all keeps (subst (λ (l : Led). AreBytes l.program.bytes) (sym by.3) by.4))

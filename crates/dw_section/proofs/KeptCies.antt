@@ -1,7 +1,7 @@
 -- What is kept of CIEs as they are read, and what running their programs tells.
 use Rattle.dw_section.specs.declared.entry.Kind.TheVariants as kind
-use Rattle.dw_section.proofs.Words.{◌≡◌, ◌≤◌, ℕ, List, [], ◌∷◌, length, refl, sym, ap, ◌∙◌, subst, arith, inl, inr, map, cons_option, Dwarf32, AllByRecursion, AllZip, Form, Target, Refusal, Kind, Piece, CieHead, Head, cie, fde, Has}
-use Rattle.dw_section.proofs.Words.{Headers, Pieces, cie_places, place_if, place_of, CieHolds, CieStuck, CieRuns, CieBroken, FirstStuck, IsAmong, Initial, initial_in, cie_pieces, if_cie, IsRead, AreCies, AreOf, AreInitials, IsInitial}
+use Rattle.dw_section.proofs.Words.{◌≡◌, ◌≤◌, ℕ, List, [], ◌∷◌, length, refl, sym, ap, ◌∙◌, subst, arith, inl, inr, map, cons_option, AllByRecursion, AllZip, Target, Refusal, Kind, Piece, CieHead, Head, cie, fde, Has}
+use Rattle.dw_section.proofs.Words.{Headers, Pieces, cie_places, place_if, place_of, CieHolds, CieStuck, CieRuns, CieBroken, FirstStuck, IsAmong, Initial, initial_in, cie_pieces, if_cie, IsRead, AreAmong, AreCies, AreOf, cie_ats}
 use Rattle.dw_section.proofs.{Words.StandsIn, Between.{Between, between_among}, Items.one_pieces, Lent.HeaderLaws.{has_cie, has_one}, Lent.Heads.has_at, Stages.{all_from_zip, here_or_later, stuck_here, later, none_first}}
 use Rattle.dw_section.proofs.StandLaws.{stands_in}
 
@@ -41,7 +41,7 @@ module _ (target : Target) where
 
   -- what is read holds
   pub read_holds : (ps : List Piece) (cs : List Initial) → AllZip (IsRead target) ps cs → AllByRecursion (CieHolds target) ps
-  read_holds ps cs read = all_from_zip (IsRead target) (CieHolds target) (λ p c is. has_cie target [] p (initial_in p.form c) (is [])) ps cs read
+  read_holds ps cs read = all_from_zip (IsRead target) (CieHolds target) (λ p c is. has_cie target [] p (initial_in c) (is [])) ps cs read
 
 -- the next of them, where the places are known that are left
 next_of : (ps : List Piece) (at : ℕ) (more : List ℕ) → map (λ (q : Piece). q.at) ps ≡ at ∷ more → (p : Piece) × (rest : List Piece) × (ps ≡ p ∷ rest) × (p.at ≡ at) × (map (λ (q : Piece). q.at) rest ≡ more)
@@ -64,7 +64,7 @@ none_of (p ∷ ps) e none = absurd (omega (arith, ap length e, none))
 module _ (target : Target) (places : List ℕ) where
   of_cie : (p : Piece) (ps : List Piece) (h : Head) (hs : List Head) (cs : List Initial) → Has target places p h → AllZip (IsRead target) (p ∷ ps) cs → ((more : List Initial) → AllZip (IsRead target) ps more → AreOf hs more) → AreOf (h ∷ hs) cs
   of_cie p ps h hs [] has read rest = absurd read
-  of_cie p ps h hs (c ∷ cs) has read rest = rw (has_one target places p h (initial_in p.form c) has (read.0 places)) (c, cs, refl, refl, rest cs read.1)
+  of_cie p ps h hs (c ∷ cs) has read rest = rw (has_one target places p h (initial_in c) has (read.0 places)) (c, cs, refl, refl, rest cs read.1)
 
   pub are_of : (ps : List Piece) (hs : List Head) (cs : List Initial) → AllZip (Has target places) ps hs → AllZip (IsRead target) (cie_pieces ps) cs → AreOf hs cs
   are_of [] [] [] z read = refl
@@ -77,7 +77,7 @@ of_headers target s ps at cs cut w hs headers =
     are_of target (cie_places headers.entries) headers.entries hs cs headers.each (subst (λ (qs : List Piece). AllZip (IsRead target) (cie_pieces qs) cs) (one_pieces target s ps headers.entries cut headers.cut) w.read)
 
 -- some headers say this
-pub some_headers : (cs : List Initial) → AreOf (map (initial_in Dwarf32) cs) cs
+pub some_headers : (cs : List Initial) → AreOf (map initial_in cs) cs
 some_headers [] = refl
 some_headers (c ∷ cs) = (c, cs, refl, refl, some_headers cs)
 
@@ -85,41 +85,43 @@ some_headers (c ∷ cs) = (c, cs, refl, refl, some_headers cs)
 
 at_each : (target : Target) (ps : List Piece) (cs : List Initial) → AllZip (IsRead target) ps cs → map place_of cs ≡ map (λ (p : Piece). p.at) ps
 at_each target [] [] read = refl
-at_each target (p ∷ ps) (c ∷ cs) read = let at : c.at ≡ p.at = has_at target [] p (initial_in p.form c) (read.0 []) in rw (at, at_each target ps cs read.1) refl
+at_each target (p ∷ ps) (c ∷ cs) read = let at : c.at ≡ p.at = has_at target [] p (initial_in c) (read.0 []) in rw (at, at_each target ps cs read.1) refl
 at_each target ps cs read = absurd read
 
 pub places_are : (target : Target) (ps : List Piece) (at : List ℕ) (cs : List Initial) → AreCies target ps at cs → map place_of cs ≡ at
 places_are target ps at cs w = at_each target (cie_pieces ps) cs w.read ∙ piece_places target ps ∙ sym w.are
 
+-- each is among all headers
+of_among : (all hs : List Head) (cs : List Initial) → ((h : Head) → IsAmong h hs → IsAmong h all) → AreOf hs cs → AreAmong all cs
+of_among all [] cs in_all of = rw of tt
+of_among all (fde f ∷ hs) cs in_all of = of_among all hs cs (λ h i. in_all h (inr i)) of
+of_among all (cie c ∷ hs) cs in_all of = rw of.2 (subst (λ (x : CieHead). IsAmong (cie x) all) of.3 (in_all (cie c) (inl refl)), of_among all hs of.1 (λ h i. in_all h (inr i)) of.4)
+
+pub all_among : (hs : List Head) (cs : List Initial) → AreOf hs cs → AreAmong hs cs
+all_among hs cs of = of_among hs hs cs (λ h i. i) of
+
+pub places_among : (hs : List Head) (cs : List Initial) → AreOf hs cs → map place_of cs ≡ cie_ats hs
+places_among [] cs of = rw of refl
+places_among (fde f ∷ hs) cs of = places_among hs cs of
+places_among (cie c ∷ hs) cs of =
+    let at = ap (λ (x : CieHead). x.at) of.3 in
+    let places = places_among hs of.1 of.4 in
+    rw of.2 cc
+
 -- ---- as they run
 
--- its program runs, and leaves what its FDEs begin with
-abbrev pub Ran : Target → Initial → Type 0
-Ran target c = (form : Form) → CieRuns target (initial_in form c) × ((hs : List Head) → IsAmong (initial_in form c) hs → IsInitial target hs c)
+-- where the programs of all of them run, the CIEs among the headers do
+pub all_ran : (target : Target) (hs : List Head) (cs : List Initial) → AreOf hs cs → AllByRecursion (λ (c : Initial). CieRuns target (initial_in c)) cs → AllByRecursion (CieRuns target) hs
+all_ran target [] cs of ran = tt
+all_ran target (fde f ∷ hs) cs of ran = (tt, all_ran target hs cs of ran)
+all_ran target (cie c ∷ hs) cs of ran = let each = rw of.2 at ran in (subst (λ (x : CieHead). CieRuns target (cie x)) (sym of.3) each.0, all_ran target hs of.1 of.4 each.1)
 
-pub all_ran : (target : Target) (all hs : List Head) (cs : List Initial) → ((h : Head) → IsAmong h hs → IsAmong h all) → AreOf hs cs → AllByRecursion (Ran target) cs → AreInitials target all hs cs
-all_ran target all [] cs among of ran = rw of (record { run = tt; places = refl; each = tt })
-all_ran target all (fde f ∷ hs) cs among of ran = let w = all_ran target all hs cs (λ h i. among h (inr i)) of ran in record { run = (tt, w.run); places = w.places; each = w.each }
-all_ran target all (cie c ∷ hs) cs among of ran =
-    let each = rw of.2 at ran in
-    let here = each.0 c.form in
-    let w = all_ran target all hs of.1 (λ h i. among h (inr i)) of.4 each.1 in
-    let at = ap (λ (x : CieHead). x.at) of.3 in
-    let places = w.places in
-    rw of.2 (record {
-      run = (subst (λ (x : CieHead). CieRuns target (cie x)) (sym of.3) here.0, w.run);
-      places = cc;
-      each = (here.1 all (subst (λ (x : CieHead). IsAmong (cie x) all) of.3 (among (cie c) (inl refl))), w.each);
-    })
-
--- the first of them that does not run
-abbrev pub Breaks : Target → Initial → Refusal → Type 0
-Breaks target c r = (form : Form) → CieBroken target (initial_in form c) r
-
-pub first_broken : (target : Target) (hs : List Head) (cs : List Initial) (r : Refusal) → AreOf hs cs → FirstStuck (Ran target) (Breaks target) cs r → FirstStuck (CieRuns target) (CieBroken target) hs r
-first_broken target [] cs r of w = absurd (none_first (Ran target) (Breaks target) r (rw of at w))
+-- and the first of them that does not run is the first CIE that does not
+pub first_broken : (target : Target) (hs : List Head) (cs : List Initial) (r : Refusal) → AreOf hs cs → FirstStuck (λ (c : Initial). CieRuns target (initial_in c)) (λ (c : Initial). CieBroken target (initial_in c)) cs r
+    → FirstStuck (CieRuns target) (CieBroken target) hs r
+first_broken target [] cs r of w = absurd (none_first _ _ r (rw of at w))
 first_broken target (fde f ∷ hs) cs r of w = later (CieRuns target) (CieBroken target) (fde f) hs r tt (first_broken target hs cs r of w)
-first_broken target (cie d ∷ hs) cs r of w = elim (here_or_later (Ran target) (Breaks target) cs r w of.0 of.1 of.2) [
-  | inl broken ↦ stuck_here (CieRuns target) (CieBroken target) (cie d) hs r (subst (λ (x : CieHead). CieBroken target (cie x) r) (sym of.3) (broken d.form))
-  | inr rest ↦ later (CieRuns target) (CieBroken target) (cie d) hs r (subst (λ (x : CieHead). CieRuns target (cie x)) (sym of.3) (rest.0 d.form).0) (first_broken target hs of.1 r of.4 rest.1)
+first_broken target (cie d ∷ hs) cs r of w = elim (here_or_later (λ (c : Initial). CieRuns target (initial_in c)) (λ (c : Initial). CieBroken target (initial_in c)) cs r w of.0 of.1 of.2) [
+  | inl broken ↦ stuck_here (CieRuns target) (CieBroken target) (cie d) hs r (subst (λ (x : CieHead). CieBroken target (cie x) r) (sym of.3) broken)
+  | inr rest ↦ later (CieRuns target) (CieBroken target) (cie d) hs r (subst (λ (x : CieHead). CieRuns target (cie x)) (sym of.3) rest.0) (first_broken target hs of.1 r of.4 rest.1)
 ]

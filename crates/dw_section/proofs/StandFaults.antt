@@ -2,6 +2,7 @@
 use Rattle.dw_num.specs.declared.error.ReadError.TheVariants as reading
 use Rattle.dw_section.specs.declared.standing_fde.{LookUpError.LookUpError, LookUpError.TheVariants.{Refused, BadIndex, OutOfMemory}}
 use Rattle.dw_section.specs.declared.entry.Kind.TheVariants as kind
+use Rattle.dw_section.specs.Inner.StandingFde.{of_steps}
 use Rattle.dw_section.proofs.Words.{◌≡◌, ℕ, ◌+◌, ◌≤◌, List, [], ◌∷◌, length, drop, take, Some, Err, refl, sym, subst, ◌∙◌, inl, inr, None, le-ltb, take-append-drop, NoSuchCie, Refusal, ReadError, Refuses, Outcome, Target}
 use Rattle.dw_section.proofs.{Words.{Input, input_of, Piece, id_width, Head, Has, FdeStuck, cie_at, fde_at, fixed_at, fixed_only, BothStuck, NamesCieAt, RefusesAs, StandsAs}, Lent.HeaderLaws.{cie_faulty, fde_faulty, has_fde}}
 
@@ -34,6 +35,10 @@ pub refuses_more : (P Q : Refusal → Type 0) (e : LookUpError) → ((r : Refusa
 refuses_more P Q (Refused r) f h = f r h
 refuses_more P Q BadIndex f h = tt
 refuses_more P Q OutOfMemory f h = tt
+
+pub refuses_so : (P Q : Refusal → Type 0) (e : ReadError) → ((r : Refusal) → P r → Q r) → Refuses P e → RefusesAs Q (of_steps e)
+refuses_so P Q (reading.Refused r) f h = f r h
+refuses_so P Q reading.OutOfMemory f h = tt
 
 -- a run without a refusal fails for want of memory alone
 pub no_refusal : (e : ReadError) (o : Outcome) → Refuses (λ r. o.fault ≡ Some r) e → o.fault ≡ None → e ≡ reading.OutOfMemory

@@ -1,8 +1,8 @@
 -- Entries that stand at their places in bytes.
 use Rattle.dw_section.proofs.Words.{◌≡◌, ℕ, ◌+◌, ◌-◌, ◌≤◌, true, List, [], ◌∷◌, ◌++◌, length, take, drop, Some, Err, refl, sym, ap, subst, ◌∙◌, append_assoc, arith, inl, inr, AllByRecursion, Form, Order, Target, Refusal, Input, Takes, Span}
 use Rattle.dw_section.proofs.Words.{length_bytes, Kind, Item, gap, entry, IsItem, Piece, item_bytes, piece_of, pieces, is_cie, all_bytes, CieFields, FdeFields, FoundFde, item_at, address_limit, is_among, CieHead, FdeHead, Head, Has}
-use Rattle.dw_section.proofs.Words.{Headers, IsCie, IsFde, cie, fde, cie_head, cie_at, fde_at, IsFound, found_cie, found_head, Returns, Range, cie_places, IsAmong, StandsIn, AreJoined, FoundStands, StandsAt, Pieces, eq-eqb, eqb_tells}
-use Rattle.dw_section.proofs.Words.{length-append, drop_at, length-drop, length-take-le, take-append-drop, take_all, FdeEntry, FdeStands, Initial, entry_in, initial_in, some_is}
+use Rattle.dw_section.proofs.Words.{Headers, IsCie, IsFde, cie, fde, cie_head, cie_at, fde_at, IsFound, Returns, Range, cie_places, IsAmong, StandsIn, FoundStands, StandsAt, Pieces, eq-eqb, eqb_tells}
+use Rattle.dw_section.proofs.Words.{length-append, drop_at, length-drop, length-take-le, take-append-drop, take_all, FdeStands, entry_head, entry_in, initial_head, initial_in, some_is}
 use Rattle.dw_section.proofs.{Lent.FieldTable.fde_said, Lent.HeaderLaws.{has_one, cie_at_again, fde_at_again}, Lent.Heads.{cie_or, fde_or, has_at}, Items.{front_item, item_again}, Lent.Index.zip_right}
 use Rattle.dw_section.specs.declared.entry.Kind.TheVariants as kind
 
@@ -92,38 +92,28 @@ cie_never target p h r has stuck = let q = cie_from target [] p h has in let a =
 among_one : (n c : ℕ) → is_among n (c ∷ []) ≡ true → n ≡ c
 among_one n c h = elim (eqb_tells c n) [ inl is ↦ sym is.1 | inr not ↦ (let e = not.0 in let bad = rw e at h in absurd cc) ]
 
-pub stands_joined : (target : Target) (s : List ℕ) (own named : Piece) (pointer : ℕ) (h : FdeEntry) (k : Initial) (e : FoundFde) → StandsIn target.order s own → StandsIn target.order s named → named.at ≡ pointer
-    → Has target (pointer ∷ []) own (entry_in own.form h) → Has target [] named (initial_in named.form k) → AreJoined h k e → (e.at ≡ own.at) × FoundStands target s e
-stands_joined target s own named pointer h k e own-stands named-stands at has named-has joined =
-    let form = own.form in
-    let cie_form = named.form in
-    let place = k.at in
-    let head = subst (Has target (pointer ∷ []) own) (joined form cie_form).0 has in
-    let named-head = subst (Has target [] named) (joined form cie_form).1 named-has in
-    let fields = fde_from target (pointer ∷ []) own (found_head form e) head in
-    let names : e.cie_at ≡ pointer = ap (λ (x : FdeHead). x.cie_at) fields.3 ∙ among_one fields.0.cie_at pointer (fde_said target (pointer ∷ []) own.form fields.0 fields.2.1.spelling fields.2.1.spells).names_cie in
-    let same : place ≡ e.cie_at = has_at target [] named (cie (found_cie cie_form place e.return_register e)) named-head ∙ at ∙ sym names in (
-      has_at target (pointer ∷ []) own (fde (found_head form e)) head,
-      (
-        form,
-        cie_form,
-        record {
-          piece = own;
-          named_piece = named;
-          stands = own-stands;
-          named_stands = named-stands;
-          own_is = subst (λ (n : ℕ). Has target (n ∷ []) own (fde (found_head form e))) (sym names) head;
-          named_is = subst (λ (n : ℕ). Has target [] named (cie (found_cie cie_form n e.return_register e))) same named-head;
-          names = refl;
-        },
-      ),
+pub stands_joined : (target : Target) (s : List ℕ) (own named : Piece) (pointer : ℕ) (e : FoundFde) → StandsIn target.order s own → StandsIn target.order s named → named.at ≡ pointer
+    → Has target (pointer ∷ []) own (entry_in e.own) → Has target [] named (initial_in e.cie) → (e.own.at ≡ own.at) × FoundStands target s e
+stands_joined target s own named pointer e own-stands named-stands at has named-has =
+    let fields = fde_from target (pointer ∷ []) own (entry_head e.own) has in
+    let names : e.own.cie_at ≡ pointer = ap (λ (x : FdeHead). x.cie_at) fields.3 ∙ among_one fields.0.cie_at pointer (fde_said target (pointer ∷ []) own.form fields.0 fields.2.1.spelling fields.2.1.spells).names_cie in (
+      has_at target (pointer ∷ []) own (entry_in e.own) has,
+      record {
+        piece = own;
+        named_piece = named;
+        stands = own-stands;
+        named_stands = named-stands;
+        own_is = subst (λ (n : ℕ). Has target (n ∷ []) own (entry_in e.own)) (sym names) has;
+        named_is = named-has;
+        names = names ∙ sym at ∙ sym (has_at target [] named (initial_in e.cie) named-has);
+      },
     )
 
 -- its addresses lie in the address space
-pub stands_in_space : (target : Target) (s : List ℕ) (e : FoundFde) → FoundStands target s e → e.begin + e.range ≤ address_limit target.size
-stands_in_space target s e (form, cie_form, w) =
-    let q = fde_from target (e.cie_at ∷ []) w.piece (found_head form e) w.own_is in
-    let said = fde_said target (e.cie_at ∷ []) w.piece.form q.0 q.2.1.spelling q.2.1.spells in
+pub stands_in_space : (target : Target) (s : List ℕ) (e : FoundFde) → FoundStands target s e → e.own.begin + e.own.range ≤ address_limit target.size
+stands_in_space target s e w =
+    let q = fde_from target (e.own.cie_at ∷ []) w.piece (entry_head e.own) w.own_is in
+    let said = fde_said target (e.own.cie_at ∷ []) w.piece.form q.0 q.2.1.spelling q.2.1.spells in
     omega (arith, said.in_space, ap (λ (x : FdeHead). x.begin) q.3, ap (λ (x : FdeHead). x.range) q.3)
 
 -- a slice from a place on
@@ -135,9 +125,9 @@ rest_is i target s at inside is = rw (← take_all (length s - at) (drop at s) (
 -- what is the same of both
 pub record IsListed (hs : List Head) (a : Range) (register : ℕ) (e : FoundFde) : Type 0 where
   pub found : IsFound hs e
-  pub begin : e.begin ≡ a.begin
-  pub range : e.range ≡ a.range
-  pub register_is : e.return_register ≡ register
+  pub begin : e.own.begin ≡ a.begin
+  pub range : e.own.range ≡ a.range
+  pub register_is : e.cie.return_register ≡ register
 
 -- ranges and pointers do not depend on where CIEs stand, as long as one stands where the pointer says
 among_first : (n : ℕ) (ns : List ℕ) → is_among n (n ∷ ns) ≡ true
@@ -199,13 +189,13 @@ stands_listed target s hs a register p r =
       ap (λ (x : Range). x.at) r.covers,
     )
 
-pub listed_stands : (target : Target) (s : List ℕ) (hs : List Head) (a : Range) (register : ℕ) (e : FoundFde) → Headers target s hs → Returns hs a register → FoundStands target s e → e.at ≡ a.at → IsListed hs a register e
+pub listed_stands : (target : Target) (s : List ℕ) (hs : List Head) (a : Range) (register : ℕ) (e : FoundFde) → Headers target s hs → Returns hs a register → FoundStands target s e → e.own.at ≡ a.at → IsListed hs a register e
 unfolding stands_listed
-listed_stands target s hs a register e p r (form, cie_form, w) at =
+listed_stands target s hs a register e p r w at =
     let there = stands_listed target s hs a register p r in
-    let one = one_stands target s (found_head form e) r.own (found_cie cie_form e.cie_at e.return_register e) r.named w there.2 (at ∙ sym there.3) in
+    let one = one_stands target s (entry_head e.own) r.own (initial_head e.cie) r.named w there.2 (at ∙ sym there.3) in
     record {
-      found = (form, cie_form, e.return_register, rw (sym one.0) at r.own_among, rw (sym one.1) at r.named_among);
+      found = record { own = rw (sym one.0) at r.own_among; named = rw (sym one.1) at r.named_among; names = w.names };
       begin = ap (λ (x : FdeHead). x.begin) one.0 ∙ ap (λ (x : Range). x.begin) r.covers;
       range = ap (λ (x : FdeHead). x.range) one.0 ∙ ap (λ (x : Range). x.range) r.covers;
       register_is = ap (λ (x : CieHead). x.return_register) one.1 ∙ sym r.is;

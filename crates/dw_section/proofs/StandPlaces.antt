@@ -18,12 +18,12 @@ pub fde_within : (target : Target) (places s : List ℕ) (p : Piece) (r : Refusa
 fde_within target places s p r w stuck = stuck_within (fde_fields target.size places p.form) target s p r w (fde_faulty target places p r stuck)
 
 -- what is wrong in the programs of an FDE
-pub lies_in_programs : {V : Type 0} (target : Target) (e : FoundFde) → AreBytes (span_of e.cie_program).bytes → AreBytes (span_of e.program).bytes → e.begin ≤ address_limit target.size → (result : Result V ReadError)
+pub lies_in_programs : {V : Type 0} (target : Target) (e : FoundFde) → AreBytes (span_of e.cie.program).bytes → AreBytes (span_of e.own.program).bytes → e.own.begin ≤ address_limit target.size → (result : Result V ReadError)
     → ((o : Outcome) → RunsSo target e o → IfErr result (Refuses (λ r. o.fault ≡ Some r))) → IfErr result (Refuses (LiesInPrograms target e))
 lies_in_programs target e cb fb le (Err (Refused r)) h =
-    let cie = input_of target (span_of e.cie_program) in
-    let fde = input_of target (span_of e.program) in
-    let one = one_run e.factors cie fde e.begin cb fb le in
-    let fault = (refused_where_fault e.factors cie fde e.begin cb fb le one.0 one.1 r).0 (h one.0 one.1) in
-    run_within e.factors cie fde e.begin r cb fb fault
+    let cie = input_of target (span_of e.cie.program) in
+    let fde = input_of target (span_of e.own.program) in
+    let one = one_run e.cie.factors cie fde e.own.begin cb fb le in
+    let fault = (refused_where_fault e.cie.factors cie fde e.own.begin cb fb le one.0 one.1 r).0 (h one.0 one.1) in
+    run_within e.cie.factors cie fde e.own.begin r cb fb fault
 lies_in_programs target e cb fb le result h = tt

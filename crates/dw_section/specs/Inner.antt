@@ -17,5 +17,6 @@ pub mod Places
 pub mod Stage
 pub mod Reads
 pub mod StandingFde
+pub mod Walks
 pub mod Sound
 pub mod Opening

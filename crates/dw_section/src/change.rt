@@ -6,14 +6,14 @@ ghost use Rattle.dw_cfa.specs.{Agreement.kept, Behind.LeavesTo, Difference.{Firs
 ghost use Rattle.dw_cfa.specs.{RowWalk.{AllKeep, StandsOn}, Rows.{AreSpecified, Rules, is_specified, rule}, declared.execution.LocatedRow.LocatedRow};
 ghost use Rattle.dw_section.specs.{Changes.{GivesAddress, GivesChange, GoesOn, before_then, kept_by}, Opening.{AreChanged, CieLeaves}};
 ghost use Rattle.dw_section.specs.Inner.Changes.{Before, FindsChange, FindsFirst, ShownBehind, changing};
-ghost use Rattle.dw_section.specs.Inner.{Index.led_to, Lookup.{AreRowsOf, LedBy}, NarrowRow.ChangesKeep, Shown.{shown_if, shown_of}};
+ghost use Rattle.dw_section.specs.{Among.IsAmong, Headers.{Head, Headers}};
+ghost use Rattle.dw_section.specs.Inner.{Lookup.AreRowsOf, NarrowRow.ChangesKeep, PieceHeader.initial_in, Shown.{shown_if, shown_of}};
 
-use crate::listed_fde::{FoundFde, lead};
-use crate::walks::{is_long, turn_walk};
+use crate::listed_fde::{FoundFde, go_to_rows};
+use crate::walks::Walks;
 use dw_cfa::{RegisterSet, Row, RowWalk};
-use dw_num::{Target, are_bytes};
+use dw_num::Target;
 use std::alloc::{AllocError, Global};
-use std::collections::BTreeMap;
 use std::marker::Model;
 
 // The row that a walk kept, where one was.
@@ -177,14 +177,7 @@ fn show_behind<'a>(
 pub struct Changes<'a> {
     bytes: &'a [u8],
     target: Target,
-    steps: RowWalk<'a>,
-    // The CIE of the section whose program the walk was led to, by its place.
-    cie_at: Option<u64>,
-    // The program of that CIE is long.
-    long: bool,
-    // The walks of other CIEs of the section with long programs, by the CIEs' places.
-    away: BTreeMap<u64, RowWalk<'a>>,
-    alloc: Global,
+    walks: Walks<'a>,
     // The row that was shown last is the one that the walk lends, and the one before it is kept.
     lent: bool,
     // The walk kept a row that was shown.
@@ -198,24 +191,21 @@ impl<'a> Model for Changes<'a> {
 
     ghost Value = { Changing };
 
-    ghost view = { λ c. record { section = record { target = c.target; bytes = c.bytes.now }; to_come = changes_among c.end (shown_of c.lent c.steps.steps.current (shown_if c.kept c.steps.kept)) c.steps.steps.outcome.rows; shown = shown_of c.lent c.steps.steps.current (shown_if c.kept c.steps.kept); before = before_of c.lent (shown_if c.kept c.steps.kept); failed = c.failed } };
+    ghost view = { λ c. record { section = record { target = c.target; bytes = c.bytes.now }; to_come = changes_among c.end (shown_of c.lent c.walks.walk.steps.current (shown_if c.kept c.walks.walk.kept)) c.walks.walk.steps.outcome.rows; shown = shown_of c.lent c.walks.walk.steps.current (shown_if c.kept c.walks.walk.kept); before = before_of c.lent (shown_if c.kept c.walks.walk.kept); failed = c.failed } };
 
-    ghost invariant = { λ c. ChangesSo (record { target = c.target; bytes = c.bytes.now }) c.cie_at c.steps c.away };
+    ghost invariant = { λ c. ChangesSo (record { target = c.target; bytes = c.bytes.now }) c.walks };
 }
 
 impl<'a> Changes<'a> {
     // No change of a section is to come until `go_on` names an FDE.
     pub(crate) fn none(alloc: Global, bytes: &'a [u8], target: Target) -> Changes<'a>
+        requires { (hs : List Head) × Headers target bytes.now hs }
         ensures { result ≡ changing (record { target = target; bytes = bytes.now }) [] 0 }
     {
         Changes {
             bytes,
             target,
-            steps: RowWalk::new(alloc, target),
-            cie_at: None,
-            long: false,
-            away: BTreeMap::new(alloc),
-            alloc,
+            walks: Walks::new(alloc, target),
             lent: false,
             kept: false,
             end: 0,
@@ -227,29 +217,15 @@ impl<'a> Changes<'a> {
     // is kept while other CIEs' FDEs are gone to, where there is memory for that.
     #[inline(always)]
     pub(crate) fn go_on(&mut self, fde: &FoundFde<'a>)
-        requires in_space { fde.now.begin < address_limit self.old.section.target.size }
+        requires in_space { fde.now.own.begin < address_limit self.old.section.target.size }
         requires known { (rows : List LocatedRow) × AreRowsOf self.old.section.target fde.now rows }
-        requires led { LedBy self.old.section fde.now.cie_at (led_to self.old.section.target fde.now) }
-        ensures { (rows : List LocatedRow) → AreRowsOf self.old.section.target fde.now rows → self.new ≡ changing self.old.section rows (fde.now.begin + fde.now.range) }
+        requires among { (hs : List Head) → Headers self.old.section.target self.old.section.bytes hs → IsAmong (initial_in fde.now.cie) hs }
+        ensures { (rows : List LocatedRow) → AreRowsOf self.old.section.target fde.now rows → self.new ≡ changing self.old.section rows (fde.now.own.begin + fde.now.own.range) }
     {
-        let long = is_long(fde.cie_program);
-        if self.long || long {
-            self.cie_at = turn_walk(
-                self.alloc,
-                &mut self.away,
-                &mut self.steps,
-                self.cie_at,
-                self.long,
-                fde.cie_at,
-                self.target,
-            );
-        }
-        lead(&mut self.steps, self.cie_at, fde, self.target);
-        self.cie_at = Some(fde.cie_at);
-        self.long = long;
+        go_to_rows(&mut self.walks, fde, self.target);
         self.lent = false;
         self.kept = false;
-        self.end = u128::from(fde.begin) + u128::from(fde.range);
+        self.end = u128::from(fde.own.begin) + u128::from(fde.own.range);
         self.failed = false;
     }
 
@@ -265,12 +241,12 @@ impl<'a> Changes<'a> {
         if self.failed {
             return Err(AllocError);
         }
-        if self.lent && self.steps.next_start().is_none() {
+        if self.lent && self.walks.walk.next_start().is_none() {
             // The row that is lent stays, and none is before it.
             self.kept = false;
             return Ok(None);
         }
-        let change = next_change(&mut self.steps, &mut self.kept, self.lent, self.end);
+        let change = next_change(&mut self.walks.walk, &mut self.kept, self.lent, self.end);
         self.lent = matches!(change, Ok(Some(_)));
         self.failed = change.is_err();
         change
@@ -293,16 +269,15 @@ impl<'a> Changes<'a> {
         // The changes still to come specify what the first one does.
         ensures keeps { IfOk result (λ found. IfSome found (λ behind. IsTrue behind.keeps → IfSome self.new.shown (λ first. kept_by first self.new.to_come ≡ first))) }
     {
-        let Some(cie_at) = self.cie_at else {
+        let Some(cie_at) = self.walks.cie_at else {
             self.advance()?;
             return Ok(None);
         };
-        if !self.long || self.lent || self.kept || self.failed {
+        if !self.walks.long || self.lent || self.kept || self.failed {
             self.advance()?;
             return Ok(None);
         }
-        are_bytes(self.bytes);
-        let shown = show_behind(&mut self.steps, changed, self.end, cie_at);
+        let shown = show_behind(&mut self.walks.walk, changed, self.end, cie_at);
         self.failed = shown.is_err();
         let (change, behind) = shown?;
         self.lent = change.is_some();
@@ -316,9 +291,9 @@ impl<'a> Changes<'a> {
         ensures { MatchOption result (self.now.shown ≡ None) (λ row. self.now.shown ≡ Some row.now) }
     {
         if self.lent {
-            return Some(self.steps.row());
+            return Some(self.walks.walk.row());
         }
-        kept_row(&self.steps, self.kept)
+        kept_row(&self.walks.walk, self.kept)
     }
 
     /// The row (6.4.1) of the change before the one that `row` lends. None at the first change, and behind the last one.
@@ -327,7 +302,7 @@ impl<'a> Changes<'a> {
         ensures { MatchOption result (self.now.before ≡ None) (λ row. self.now.before ≡ Some row.now) }
     {
         if self.lent {
-            return kept_row(&self.steps, self.kept);
+            return kept_row(&self.walks.walk, self.kept);
         }
         None
     }
@@ -341,10 +316,10 @@ impl<'a> Changes<'a> {
         ensures ascending { (before : Rules) → self.now.before ≡ Some before → AreSpecified 0 before.registers }
         ensures other_ascending { (after : Rules) → self.now.shown ≡ Some after → AreSpecified 0 after.registers }
     {
-        self.steps.row().ascends();
-        self.steps.kept().ascends();
+        self.walks.walk.row().ascends();
+        self.walks.walk.kept().ascends();
         if self.lent && self.kept {
-            return self.steps.next_difference(behind);
+            return self.walks.walk.next_difference(behind);
         }
         None
     }
@@ -377,6 +352,6 @@ impl<'a> Changes<'a> {
     pub(crate) fn keeps(&self, row: &Row<'_>) -> bool
         ensures { IsTrue result → ChangesKeep row.now self.now.to_come }
     {
-        self.steps.keeps(row)
+        self.walks.walk.keeps(row)
     }
 }

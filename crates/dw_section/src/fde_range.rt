@@ -2,17 +2,17 @@
 
 ghost use Rattle.std.specs.Prelude.{◌≡◌, ◌+◌, ◌<◌, ◌≤◌, ℕ, true, None, List, [], ◌∷◌, ◌++◌, length, slice_index_or};
 ghost use Rattle.std.specs.{Prelude.{map, IfOk, IfErr, IfSome, OnOk, MatchOption}, List.AllByRecursion};
-ghost use Rattle.dw_num.specs.{Refusals.Refuses, declared.refusal.Code.TheVariants.Overlap};
-ghost use Rattle.dw_num.specs.declared.target.{Form.{Form as TheForm}, Target.{Target as TheTarget}};
-ghost use Rattle.dw_section.specs.{Accepted.RulesFault, Among.IsAmong, Cut.Piece, Fields.is_among, Headers.{Head, Headers}};
-ghost use Rattle.dw_section.specs.{Overlap.{nonempty, AreApart, FirstOverlap}, Pieces.Pieces, Programs.FdeBroken};
+ghost use Rattle.dw_num.specs.{Refusals.Refuses, Target.address_limit, declared.refusal.Code.TheVariants.Overlap, declared.target.Target.{Target as TheTarget}};
+ghost use Rattle.dw_section.specs.{Accepted.{CiesRun, RulesFault}, Among.IsAmong, Cut.Piece, Headers.Head};
+ghost use Rattle.dw_section.specs.{Overlap.{nonempty, AreApart, FirstOverlap}, Pieces.Pieces, Programs.{CieRuns, FdeBroken}};
 ghost use Rattle.dw_section.specs.{Ranges.{AreIndexed, IsRanged, range_in}, declared.fde_range.Ranged.{Ranged as TheRanged}};
-ghost use Rattle.dw_section.specs.Inner.{Heads.FdeFits, Index.{AreJudged, AreRanges}, PieceHeader.{Tells, entry_in}, Places.Rises};
-ghost use Rattle.dw_section.specs.Inner.Initials.{place_of, or_place, AreCies, AreOf, IsInitial, IsRunner, AreInitials};
+ghost use Rattle.dw_section.specs.Inner.{Index.{AreJudged, AreRanges}, PieceHeader.{Tells, entry_in, initial_in}, Places.{IsAt, Rises}, Walks.AreLed};
+ghost use Rattle.dw_section.specs.Inner.Initials.{place_of, or_place, AreAmong, AreCies, AreOf};
 
 use crate::entry::next_piece;
 use crate::header::{Cies, FdeEntry, Initial, fde_of, or_fields_fault};
-use crate::program::{Runner, initial_at, run_behind};
+use crate::program::run_behind;
+use crate::walks::Walks;
 use dw_num::{Cursor, ReadError, Target};
 use std::alloc::{AllocError, Global};
 
@@ -39,19 +39,18 @@ pub(crate) struct Judged {
     pub(crate) lacking: Option<u64>,
 }
 
-// What is kept of an FDE.
-fn range_of(fde: &FdeEntry<'_>, initials: &[Initial<'_>], found: usize) -> Ranged
-    requires ascending { Rises 0 (map place_of initials.now) }
-    requires among { is_among fde.now.cie_at (map place_of initials.now) ≡ true }
+// What is kept of an FDE and of its CIE.
+fn range_of(fde: &FdeEntry<'_>, cie: &Initial<'_>) -> Ranged
+    requires names { cie.now.at ≡ fde.now.cie_at }
     requires below { fde.now.at ≤ 2147483647 }
     ensures range { range_in result ≡ record { at = fde.now.at; begin = fde.now.begin; range = fde.now.range } }
-    ensures is { (target : TheTarget) (hs : List Head) (form : TheForm) → AllByRecursion (IsInitial target hs) initials.now → IsAmong (entry_in form fde.now) hs → IsRanged hs result }
+    ensures is { (hs : List Head) → IsAmong (initial_in cie.now) hs → IsAmong (entry_in fde.now) hs → IsRanged hs result }
 {
     Ranged {
         begin: fde.begin,
         range: fde.range,
         at: fde.at as u32,
-        return_register: initial_at(initials, fde.cie_at, found).return_register,
+        return_register: cie.return_register,
     }
 }
 
@@ -59,17 +58,15 @@ fn range_of(fde: &FdeEntry<'_>, initials: &[Initial<'_>], found: usize) -> Range
 fn keep_range(
     list: &mut Vec<Ranged>,
     fde: &FdeEntry<'_>,
-    initials: &[Initial<'_>],
-    found: usize,
+    cie: &Initial<'_>,
 ) -> Result<(), AllocError>
-    requires ascending { Rises 0 (map place_of initials.now) }
-    requires among { is_among fde.now.cie_at (map place_of initials.now) ≡ true }
+    requires names { cie.now.at ≡ fde.now.cie_at }
     requires below { fde.now.at ≤ 2147483647 }
-    ensures found { (form : TheForm) → OnOk result (map range_in list.new.items ≡ map range_in list.old.items ++ nonempty (entry_in form fde.now ∷ [])) }
-    ensures each { (target : TheTarget) (hs : List Head) (form : TheForm) → AllByRecursion (IsInitial target hs) initials.now → IsAmong (entry_in form fde.now) hs → AllByRecursion (IsRanged hs) list.old.items → OnOk result (AllByRecursion (IsRanged hs) list.new.items) }
+    ensures found { OnOk result (map range_in list.new.items ≡ map range_in list.old.items ++ nonempty (entry_in fde.now ∷ [])) }
+    ensures each { (hs : List Head) → IsAmong (initial_in cie.now) hs → IsAmong (entry_in fde.now) hs → AllByRecursion (IsRanged hs) list.old.items → OnOk result (AllByRecursion (IsRanged hs) list.new.items) }
 {
     if fde.range > 0 {
-        list.push(range_of(fde, initials, found))?;
+        list.push(range_of(fde, cie))?;
     }
     Ok(())
 }
@@ -85,54 +82,52 @@ fn or_place(place: Option<u64>, lacks: bool, at: u64) -> Option<u64>
     }
 }
 
-// Runs the program of an FDE, and keeps what is found.
+// Runs the program of an FDE behind that of its CIE, and keeps what is found.
 fn judge<'a>(
-    runner: &mut Runner<'a>,
+    walks: &mut Walks<'a>,
     judged: &mut Judged,
     fde: &FdeEntry<'a>,
-    initials: &[Initial<'a>],
-    found: usize,
+    cie: &Initial<'a>,
     target: Target,
 ) -> Result<(), ReadError>
-    requires ascending { Rises 0 (map place_of initials.now) }
-    requires fits { (form : TheForm) × FdeFits target (map place_of initials.now) (entry_in form fde.now) }
+    requires names { cie.now.at ≡ fde.now.cie_at }
+    requires begin { fde.now.begin < address_limit target.size }
     requires below { fde.now.at ≤ 2147483647 }
-    requires each { (hs : List Head) × AllByRecursion (IsInitial target hs) initials.now × IsRunner target hs runner.old }
-    ensures found { (hs front : List Head) (form : TheForm) → AllByRecursion (IsInitial target hs) initials.now → IsRunner target hs runner.old → IsAmong (entry_in form fde.now) hs → AreJudged target hs front judged.old.lacking judged.old.list.items → OnOk result (AreJudged target hs (front ++ entry_in form fde.now ∷ []) judged.new.lacking judged.new.list.items) }
-    ensures stuck { (hs : List Head) (form : TheForm) → AllByRecursion (IsInitial target hs) initials.now → IsRunner target hs runner.old → IfErr result (Refuses (FdeBroken target hs (entry_in form fde.now))) }
-    ensures runner { (hs : List Head) → AllByRecursion (IsInitial target hs) initials.now → IsRunner target hs runner.old → OnOk result (IsRunner target hs runner.new) }
+    requires each { (hs : List Head) × IsAmong (initial_in cie.now) hs × AreLed target hs walks.old }
+    ensures found { (hs front : List Head) → IsAmong (initial_in cie.now) hs → AllByRecursion (CieRuns target) hs → AreLed target hs walks.old → IsAmong (entry_in fde.now) hs → AreJudged target hs front judged.old.lacking judged.old.list.items → OnOk result (AreJudged target hs (front ++ entry_in fde.now ∷ []) judged.new.lacking judged.new.list.items) }
+    ensures stuck { (hs : List Head) → IsAmong (initial_in cie.now) hs → AllByRecursion (CieRuns target) hs → AreLed target hs walks.old → IfErr result (Refuses (FdeBroken target hs (entry_in fde.now))) }
+    ensures led { (hs : List Head) → IsAmong (initial_in cie.now) hs → AreLed target hs walks.old → AreLed target hs walks.new }
 {
-    let lacks = run_behind(runner, initials, fde, target)?;
+    let lacks = run_behind(walks, cie, fde, target)?;
     judged.lacking = or_place(judged.lacking, lacks, fde.at);
-    Ok(keep_range(&mut judged.list, fde, initials, found)?)
+    Ok(keep_range(&mut judged.list, fde, cie)?)
 }
 
-// The same of a piece that may be a CIE, of which nothing is to be found.
+// The same of a piece that may be a CIE, of which nothing is to be found. The FDE's CIE stands at a place among the initials.
 #[inline(always)]
 fn judge_next<'a>(
-    runner: &mut Runner<'a>,
+    walks: &mut Walks<'a>,
     judged: &mut Judged,
     fde: &Option<FdeEntry<'a>>,
     initials: &[Initial<'a>],
     found: usize,
     target: Target,
 ) -> Result<(), ReadError>
-    requires ascending { Rises 0 (map place_of initials.now) }
-    requires fits { IfSome fde.now (λ f. (f.at ≤ 2147483647) × ((form : TheForm) × FdeFits target (map place_of initials.now) (entry_in form f))) }
-    requires each { (hs : List Head) × AllByRecursion (IsInitial target hs) initials.now × IsRunner target hs runner.old }
-    ensures found { (hs front : List Head) (h : Head) → Tells fde.now h → AllByRecursion (IsInitial target hs) initials.now → IsRunner target hs runner.old → IsAmong h hs → AreJudged target hs front judged.old.lacking judged.old.list.items → OnOk result (AreJudged target hs (front ++ h ∷ []) judged.new.lacking judged.new.list.items) }
-    ensures stuck { (hs : List Head) (h : Head) → Tells fde.now h → AllByRecursion (IsInitial target hs) initials.now → IsRunner target hs runner.old → IfErr result (Refuses (FdeBroken target hs h)) }
-    ensures runner { (hs : List Head) → AllByRecursion (IsInitial target hs) initials.now → IsRunner target hs runner.old → OnOk result (IsRunner target hs runner.new) }
+    requires fits { IfSome fde.now (λ f. (f.at ≤ 2147483647) × (f.begin < address_limit target.size) × IsAt (map place_of initials.now) found f.cie_at) }
+    requires each { (hs : List Head) × AreAmong hs initials.now × AreLed target hs walks.old }
+    ensures found { (hs front : List Head) (h : Head) → Tells fde.now h → AreAmong hs initials.now → AllByRecursion (CieRuns target) hs → AreLed target hs walks.old → IsAmong h hs → AreJudged target hs front judged.old.lacking judged.old.list.items → OnOk result (AreJudged target hs (front ++ h ∷ []) judged.new.lacking judged.new.list.items) }
+    ensures stuck { (hs : List Head) (h : Head) → Tells fde.now h → AreAmong hs initials.now → AllByRecursion (CieRuns target) hs → AreLed target hs walks.old → IfErr result (Refuses (FdeBroken target hs h)) }
+    ensures led { (hs : List Head) → AreAmong hs initials.now → AreLed target hs walks.old → AreLed target hs walks.new }
 {
     match fde {
         None => Ok(()),
-        Some(fde) => judge(runner, judged, fde, initials, found, target),
+        Some(fde) => judge(walks, judged, fde, &initials[found], target),
     }
 }
 
 // Judges the FDEs of a section that has a cut, behind the CIEs.
 fn run_on<'a>(
-    runner: &mut Runner<'a>,
+    walks: &mut Walks<'a>,
     judged: &mut Judged,
     bytes: &'a [u8],
     target: Target,
@@ -141,17 +136,17 @@ fn run_on<'a>(
 ) -> Result<(), ReadError>
     requires ascending { Rises 0 places.now }
     requires cies { (ps : List Piece) × Pieces target bytes.now ps × AreCies target ps places.now initials.now }
-    requires run { (hs : List Head) → AreOf hs initials.now → AreInitials target hs hs initials.now }
-    requires runner { (hs : List Head) → AllByRecursion (IsInitial target hs) initials.now → IsRunner target hs runner.old }
+    requires run { (hs : List Head) → AreOf hs initials.now → AllByRecursion (CieRuns target) hs }
+    requires led { (hs : List Head) → AreLed target hs walks.old }
     requires none { (judged.old.list.items ≡ []) × (judged.old.lacking ≡ None) }
-    ensures found { OnOk result ((hs : List Head) × Headers target bytes.now hs × AreInitials target hs hs initials.now × AreJudged target hs hs judged.new.lacking judged.new.list.items) }
+    ensures found { OnOk result ((hs : List Head) × CiesRun target bytes.now hs × AreJudged target hs hs judged.new.lacking judged.new.list.items) }
     ensures first { IfErr result (Refuses (RulesFault target bytes.now)) }
 {
     let mut cursor = Cursor::new(bytes, 0, target);
     let mut found = 0;
     'pieces: while let Some(piece) = next_piece(&mut cursor) {
         let fde = fde_of(&piece, places, &mut found, target)?;
-        if let Err(broken) = judge_next(runner, judged, &fde, initials, found, target) {
+        if let Err(broken) = judge_next(walks, judged, &fde, initials, found, target) {
             return Err(or_fields_fault(&mut cursor, target, places, broken));
         }
     }
@@ -167,17 +162,16 @@ pub(crate) fn run_fdes<'a>(
 ) -> Result<Judged, ReadError>
     requires ascending { Rises 0 cies.now.places.items }
     requires cies { (ps : List Piece) × Pieces target bytes.now ps × AreCies target ps cies.now.places.items cies.now.initials.items }
-    requires run { (hs : List Head) → AreOf hs cies.now.initials.items → AreInitials target hs hs cies.now.initials.items }
-    ensures found { IfOk result (λ j. (hs : List Head) × Headers target bytes.now hs × AreInitials target hs hs cies.now.initials.items × AreJudged target hs hs j.lacking j.list.items) }
+    requires run { (hs : List Head) → AreOf hs cies.now.initials.items → AllByRecursion (CieRuns target) hs }
+    ensures found { IfOk result (λ j. (hs : List Head) × CiesRun target bytes.now hs × AreJudged target hs hs j.lacking j.list.items) }
     ensures first { IfErr result (Refuses (RulesFault target bytes.now)) }
 {
-    let mut runner = Runner::new(alloc, &cies.initials, target)?;
     let mut judged = Judged {
         list: Vec::with_capacity(alloc, cies.counts.fdes)?,
         lacking: None,
     };
     run_on(
-        &mut runner,
+        &mut Walks::new(alloc, target),
         &mut judged,
         bytes,
         target,

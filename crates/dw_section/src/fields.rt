@@ -1,10 +1,10 @@
 //! The fields of CIEs and FDEs.
 
-ghost use Rattle.std.specs.Prelude.{◌≡◌, nat_le, ◌+◌, ◌||◌, ℕ, Ok, position, ◌==◌};
+ghost use Rattle.std.specs.Prelude.{◌≡◌, nat_le, ◌+◌, ◌||◌, ℕ, true, Ok, position, ◌==◌, IfOk};
 ghost use Rattle.dw_num.specs.{Target.address_limit, declared.refusal.Code.TheVariants.BadVersion};
 ghost use Rattle.dw_section.specs.Fields.{Fields, fde_fields, field, fixed, unless, empty_string, sizes, return_register, factors, is_among};
 ghost use Rattle.dw_section.specs.declared.fields.CieFields.{CieFields as TheCieFields};
-ghost use Rattle.dw_section.specs.Inner.{Fields.{Passes, behind_id, fields_at}, Places.Rises, Reads.Gives};
+ghost use Rattle.dw_section.specs.Inner.{Fields.{Passes, behind_id, fields_at}, Places.{IsAt, Rises}, Reads.Gives};
 
 use crate::entry::width_of;
 use dw_num::{Code, Cursor, Form, Refusal, Size};
@@ -136,7 +136,8 @@ pub(crate) fn read_cie(cursor: &mut Cursor<'_>, size: Size) -> Result<CieFields,
 #[inline(always)]
 fn has_place(places: &[u64], place: u64, found: &mut usize) -> bool
     requires { Rises 0 places.now }
-    ensures { result ≡ is_among place places.now }
+    ensures is { result ≡ is_among place places.now }
+    ensures at { result ≡ true → IsAt places.now found.new place }
 {
     if *found < places.len() && places[*found] == place {
         return true;
@@ -167,7 +168,8 @@ pub(crate) fn read_fde(
     form: Form,
 ) -> Result<FdeFields, Refusal>
     requires { Rises 0 places.now }
-    ensures { Gives (λ f. f) result (fields_at (fde_fields cursor.old.target.size places.now form) cursor.old) cursor.new }
+    ensures exact { Gives (λ f. f) result (fields_at (fde_fields cursor.old.target.size places.now form) cursor.old) cursor.new }
+    ensures at { IfOk result (λ f. IsAt places.now found.new f.cie_at) }
 {
     let size = cursor.target().size;
     let at = cursor.at();

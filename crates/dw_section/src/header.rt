@@ -1,12 +1,12 @@
 //! The headers of a section: the fields of its entries.
 
-ghost use Rattle.std.specs.{Prelude.{◌≡◌, ◌⊎◌, ℕ, ◌+◌, ◌≤◌, List, length, map, IfOk, IfErr, MatchResult}, List.AllByRecursion};
+ghost use Rattle.std.specs.{Prelude.{◌≡◌, ◌⊎◌, ℕ, ◌+◌, ◌≤◌, List, length, map, IfOk, IfErr, IfSome, MatchResult}, List.AllByRecursion};
 ghost use Rattle.dw_num.specs.{Refusals.Refuses, Span.span_of, declared.error.ReadError.TheVariants.OutOfMemory};
 ghost use Rattle.dw_op.specs.Faults.{IsWithin};
 ghost use Rattle.dw_section.specs.{Counts.AreCounts, Cut.Piece, Headers.{Head, Has, Headers, head_in, CieHolds, CieStuck, CiesHold, FdeHolds}};
 ghost use Rattle.dw_section.specs.{Headers.{FdeStuck, CieFieldsFault, HeadersFault}, Pieces.Pieces};
 ghost use Rattle.dw_section.specs.{Places.cie_places, Stage.FirstStuck, StandingFde.StandsIn, Inner.Initials.{AreCies, IsRead}, Inner.Left.PiecesLeft};
-ghost use Rattle.dw_section.specs.Inner.{PieceHeader.{SaysFde, cie_at, fde_at, initial_in, entry_in, program_of}, Pieces.piece_in, Places.Rises, Stage.Answers};
+ghost use Rattle.dw_section.specs.Inner.{PieceHeader.{SaysFde, cie_at, fde_at, initial_in, entry_in, program_of}, Pieces.piece_in, Places.{IsAt, Rises}, Stage.Answers};
 ghost use Rattle.dw_section.specs.declared.entry.Kind.TheVariants as kind;
 
 use crate::entry::{EntryCounts, Kind, Placed, cut, next_piece, width_of};
@@ -70,6 +70,7 @@ fn rest_of<'a>(cursor: &Cursor<'a>) -> Program<'a>
 #[derive(Clone, Copy)]
 pub(crate) struct Initial<'a> {
     pub(crate) at: u64,
+    pub(crate) form: Form,
     pub(crate) factors: Factors,
     pub(crate) return_register: u16,
     pub(crate) program: Program<'a>,
@@ -79,6 +80,7 @@ pub(crate) struct Initial<'a> {
 #[derive(Clone, Copy)]
 pub(crate) struct FdeEntry<'a> {
     pub(crate) at: u64,
+    pub(crate) form: Form,
     pub(crate) cie_at: u64,
     pub(crate) begin: u64,
     pub(crate) range: u64,
@@ -90,7 +92,7 @@ pub(crate) struct FdeEntry<'a> {
 #[inline(always)]
 pub(crate) fn read_initial<'a>(piece: &Placed<'a>, target: Target) -> Result<Initial<'a>, Refusal>
     requires { piece.now.kind ≡ kind.Cie }
-    ensures exact { Answers (initial_in piece.now.form) result (cie_at target (piece_in piece.now)) }
+    ensures exact { Answers initial_in result (cie_at target (piece_in piece.now)) }
     ensures found { IfOk result (IsRead target (piece_in piece.now)) }
 {
     let contents = piece.contents;
@@ -100,6 +102,7 @@ pub(crate) fn read_initial<'a>(piece: &Placed<'a>, target: Target) -> Result<Ini
     let fields = read_cie(&mut cursor, target.size)?;
     Ok(Initial {
         at: piece.at,
+        form: piece.form,
         factors: Factors {
             code_factor: fields.code_factor,
             data_factor: fields.data_factor,
@@ -120,8 +123,9 @@ pub(crate) fn read_entry<'a>(
 ) -> Result<FdeEntry<'a>, Refusal>
     requires kind { piece.now.kind ≡ kind.Fde }
     requires ascending { Rises 0 places.now }
-    ensures exact { Answers (entry_in piece.now.form) result (fde_at target places.now (piece_in piece.now)) }
-    ensures found { IfOk result (λ e. Has target places.now (piece_in piece.now) (entry_in piece.now.form e)) }
+    ensures exact { Answers entry_in result (fde_at target places.now (piece_in piece.now)) }
+    ensures found { IfOk result (λ e. Has target places.now (piece_in piece.now) (entry_in e)) }
+    ensures at { IfOk result (λ e. IsAt places.now found.new e.cie_at) }
 {
     let contents = piece.contents;
     are_bytes(contents.bytes);
@@ -129,6 +133,7 @@ pub(crate) fn read_entry<'a>(
     let fields = read_fde(&mut cursor, places, found, piece.form)?;
     Ok(FdeEntry {
         at: piece.at,
+        form: piece.form,
         cie_at: fields.cie_at,
         begin: fields.begin,
         range: fields.range,
@@ -137,12 +142,12 @@ pub(crate) fn read_entry<'a>(
 }
 
 // A CIE as it is told.
-fn cie_header<'a>(form: Form, cie: Initial<'a>) -> Header<'a>
-    ensures { head_in result ≡ initial_in form cie.entry }
+fn cie_header<'a>(cie: Initial<'a>) -> Header<'a>
+    ensures { head_in result ≡ initial_in cie.entry }
 {
     Header::Cie {
         at: cie.at,
-        form,
+        form: cie.form,
         code_factor: cie.factors.code_factor,
         data_factor: cie.factors.data_factor,
         return_register: cie.return_register,
@@ -166,13 +171,13 @@ fn header_of<'a>(
 {
     match piece.kind {
         Kind::Cie => match read_initial(piece, target) {
-            Ok(cie) => Ok(cie_header(piece.form, cie)),
+            Ok(cie) => Ok(cie_header(cie)),
             Err(refusal) => Err(refusal),
         },
         Kind::Fde => match read_entry(piece, places, found, target) {
             Ok(fde) => Ok(Header::Fde {
                 at: fde.at,
-                form: piece.form,
+                form: fde.form,
                 cie_at: fde.cie_at,
                 begin: fde.begin,
                 range: fde.range,
@@ -233,6 +238,7 @@ pub(crate) fn fde_of<'a>(
 ) -> Result<Option<FdeEntry<'a>>, Refusal>
     requires { Rises 0 places.now }
     ensures found { IfOk result (SaysFde target places.now (piece_in piece.now)) }
+    ensures at { IfOk result (λ o. IfSome o (λ fde. IsAt places.now found.new fde.cie_at)) }
     ensures stuck { IfErr result (FdeStuck target places.now (piece_in piece.now)) }
 {
     match piece.kind {

@@ -20,7 +20,6 @@ mod program;
 mod row_count;
 mod standing_fde;
 mod table;
-mod table_lookup;
 mod walks;
 
 pub use change::{Behind, Changes};
@@ -30,6 +29,5 @@ pub use header::{Header, headers};
 pub use laws::{fault_laws, section_laws};
 pub use lookup::{Fde, FdeRef, Fdes};
 pub use opening::{CieRow, Opening};
-pub use standing_fde::{LookUpError, StandingFde, look_up};
+pub use standing_fde::{LookUpError, look_up};
 pub use table::{Table, check};
-pub use table_lookup::Lookups;

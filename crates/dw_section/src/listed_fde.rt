@@ -2,77 +2,41 @@
 
 ghost use Rattle.std.specs.Prelude.{◌≡◌, ◌<◌, ℕ, List, length, slice_index_or, None};
 ghost use Rattle.dw_num.specs.{Span.{Span, span_of}, Target.address_limit};
-ghost use Rattle.dw_cfa.specs.{RowSteps.stepping, declared.execution.LocatedRow.LocatedRow};
-ghost use Rattle.dw_section.specs.{Headers.{Head, Headers, IsFde}, Meaning.AreFdes, Ranges.{IsRanged, fde_in}, Table.Section};
+ghost use Rattle.dw_cfa.specs.declared.execution.LocatedRow.{LocatedRow};
+ghost use Rattle.dw_section.specs.{Among.IsAmong, Headers.{Head, Headers, IsFde}, Meaning.AreFdes, Ranges.{IsRanged, fde_in}};
 ghost use Rattle.dw_section.specs.declared.{fields.FdeFields.FdeFields, lookup.Fde.{Fde as TheFde}};
-ghost use Rattle.dw_section.specs.Inner.{Index.{IsFound, led_to}, Initials.AreInitials, Lookup.{AreRowsOf, fde_of, IsFoundIn, LedBy, LedSo}, Pieces.piece_in};
+ghost use Rattle.dw_section.specs.Inner.{Index.IsFound, Initials.AreOf, Lookup.{AreRowsOf, fde_of, IsFoundIn}, PieceHeader.initial_in, Pieces.piece_in, Walks.AreLed};
 
 use crate::entry::{Placed, width_of};
 use crate::fde_range::Ranged;
-use crate::header::Initial;
+use crate::header::{FdeEntry, Initial};
 use crate::lookup::FdeRef;
 use crate::program::initial_at;
 use crate::standing_fde::{piece_at, pointer_of};
 use crate::table::Table;
-use dw_cfa::{Factors, RowWalk};
+use crate::walks::Walks;
 use dw_num::{Program, Target, are_bytes};
 
-/// A nonempty FDE with its program, and what its CIE says.
+/// A nonempty FDE, and the CIE that it names.
 #[derive(Clone, Copy)]
 pub(crate) struct FoundFde<'a> {
-    pub(crate) at: u64,
-    pub(crate) begin: u64,
-    pub(crate) range: u64,
-    pub(crate) program: Program<'a>,
-    pub(crate) cie_at: u64,
-    pub(crate) cie_program: Program<'a>,
-    pub(crate) factors: Factors,
-    pub(crate) return_register: u16,
+    pub(crate) own: FdeEntry<'a>,
+    pub(crate) cie: Initial<'a>,
 }
 
-/// Goes to the rows of an FDE, whose programs are known to give rows, where the walk was led to its CIE.
-#[inline(always)]
-pub(crate) fn go_to_rows<'a>(steps: &mut RowWalk<'a>, fde: &FoundFde<'a>, target: Target)
-    requires in_space { fde.now.begin < address_limit target.size }
+/// Goes to the rows of an FDE of a section, whose programs are known to give rows.
+pub(crate) fn go_to_rows<'a>(walks: &mut Walks<'a>, fde: &FoundFde<'a>, target: Target)
+    requires in_space { fde.now.own.begin < address_limit target.size }
     requires known { (rows : List LocatedRow) × AreRowsOf target fde.now rows }
-    requires led { steps.old.led ≡ led_to target fde.now }
-    ensures steps { (rows : List LocatedRow) → AreRowsOf target fde.now rows → steps.new.steps ≡ stepping steps.old.steps.current (record { rows = rows; fault = None }) }
-    ensures no_fault { steps.new.steps.outcome.fault ≡ None }
-    ensures led { steps.new.led ≡ steps.old.led }
+    requires led { (s : List ℕ) × (hs : List Head) × Headers target s hs × IsAmong (initial_in fde.now.cie) hs × AreLed target hs walks.old }
+    ensures rows { (rows : List LocatedRow) → AreRowsOf target fde.now rows → walks.new.walk.steps.outcome.rows ≡ rows }
+    ensures no_fault { walks.new.walk.steps.outcome.fault ≡ None }
+    ensures led { (hs : List Head) → IsAmong (initial_in fde.now.cie) hs → AreLed target hs walks.old → AreLed target hs walks.new }
 {
-    are_bytes(fde.cie_program.bytes);
-    are_bytes(fde.program.bytes);
-    steps.go_to(fde.program, fde.begin);
-}
-
-// Leads a walk to the CIE of an FDE of a section, where it was led to the CIE at a place of it, if to any. No bytes are compared
-// where the FDE names that one.
-fn lead_to<'a>(steps: &mut RowWalk<'a>, behind: Option<u64>, fde: &FoundFde<'a>, target: Target)
-    requires { (s : Section) × (s.target ≡ target) × LedBy s fde.now.cie_at (led_to target fde.now) × LedSo s behind steps.old.led }
-    ensures { steps.new.led ≡ led_to target fde.now }
-{
-    match behind {
-        Some(cie_at) if cie_at == fde.cie_at => {}
-        _ => steps.lead(fde.cie_program, fde.factors, target),
-    }
-}
-
-/// The same where the walk was led to the CIE at a place of the FDE's section, if to any.
-pub(crate) fn lead<'a>(
-    steps: &mut RowWalk<'a>,
-    behind: Option<u64>,
-    fde: &FoundFde<'a>,
-    target: Target,
-)
-    requires in_space { fde.now.begin < address_limit target.size }
-    requires known { (rows : List LocatedRow) × AreRowsOf target fde.now rows }
-    requires led { (s : Section) × (s.target ≡ target) × LedBy s fde.now.cie_at (led_to target fde.now) × LedSo s behind steps.old.led }
-    ensures rows { (rows : List LocatedRow) → AreRowsOf target fde.now rows → steps.new.steps.outcome.rows ≡ rows }
-    ensures no_fault { steps.new.steps.outcome.fault ≡ None }
-    ensures led { steps.new.led ≡ led_to target fde.now }
-{
-    lead_to(steps, behind, fde, target);
-    go_to_rows(steps, fde, target);
+    walks.lead(&fde.cie, target);
+    are_bytes(fde.cie.program.bytes);
+    are_bytes(fde.own.program.bytes);
+    walks.walk.go_to(fde.own.program, fde.own.begin);
 }
 
 // The program of an FDE whose fields hold: what stands behind its pointer and its two addresses.
@@ -98,12 +62,11 @@ pub(crate) fn found_fde<'a>(
     initials: &[Initial<'a>],
     fde: &Ranged,
 ) -> FoundFde<'a>
-    requires headers { (hs : List Head) × Headers target bytes.now hs × AreInitials target hs hs initials.now × IsRanged hs fde.now }
-    ensures at { result.at ≡ fde.now.at }
-    ensures begin { result.begin ≡ fde.now.begin }
-    ensures range { result.range ≡ fde.now.range }
-    ensures register { result.return_register ≡ fde.now.return_register }
-    ensures is { (hs : List Head) → Headers target bytes.now hs → AreInitials target hs hs initials.now → IsRanged hs fde.now → IsFound hs result }
+    requires headers { (hs : List Head) × Headers target bytes.now hs × AreOf hs initials.now × IsRanged hs fde.now }
+    ensures at { result.own.at ≡ fde.now.at }
+    ensures begin { result.own.begin ≡ fde.now.begin }
+    ensures range { result.own.range ≡ fde.now.range }
+    ensures is { (hs : List Head) → Headers target bytes.now hs → AreOf hs initials.now → IsRanged hs fde.now → IsFound hs result }
 {
     let at = u64::from(fde.at);
     let Ok(piece) = piece_at(bytes, at, target) else {
@@ -113,16 +76,16 @@ pub(crate) fn found_fde<'a>(
         unreachable!();
     };
     let cie_at = pointer_of(&own, target);
-    let initial = initial_at(initials, cie_at, 0);
     FoundFde {
-        at,
-        begin: fde.begin,
-        range: fde.range,
-        program: program_behind(&own, target),
-        cie_at,
-        cie_program: initial.program,
-        factors: initial.factors,
-        return_register: fde.return_register,
+        own: FdeEntry {
+            at,
+            form: own.form,
+            cie_at,
+            begin: fde.begin,
+            range: fde.range,
+            program: program_behind(&own, target),
+        },
+        cie: *initial_at(initials, cie_at),
     }
 }
 
@@ -141,7 +104,7 @@ impl<'a> Table<'a> {
     // What its FDEs begin with.
     #[inline(always)]
     pub(crate) fn initials(&self) -> &[Initial<'a>]
-        ensures { (hs : List Head) → Headers self.now.target self.now.bytes hs → AreInitials self.now.target hs hs result.now }
+        ensures { (hs : List Head) → Headers self.now.target self.now.bytes hs → AreOf hs result.now }
     {
         &self.initials
     }

@@ -45,15 +45,6 @@ fn row_behind(cie_at: u64, first: FirstRow) -> Option<CieRow>
 }
 
 impl<'a> Table<'a> {
-    /// How many bytes the programs of an FDE of the list of `fdes` have: its own, and that of its CIE.
-    pub fn program_lengths(&self, fde: FdeRef) -> (usize, usize)
-        requires { (fs : List TheFde) → AreFdes self.now.target self.now.bytes fs → fde.place < length fs }
-        ensures { (fs : List TheFde) → AreFdes self.now.target self.now.bytes fs → (d : TheFde) → HasLengths self.now.target self.now.bytes (slice_index_or fs fde.place d) result.0 result.1 }
-    {
-        let found = self.found(fde);
-        (found.program.bytes.len(), found.cie_program.bytes.len())
-    }
-
     /// How long the program of an FDE of the list of `fdes` and that of its CIE are, and how its own begins: its fields are read
     /// once. Takes no memory.
     #[inline(always)]
@@ -65,11 +56,11 @@ impl<'a> Table<'a> {
     {
         self.accepted();
         let found = self.found(fde);
-        let first = first_row(found.program, found.factors, self.target);
+        let first = first_row(found.own.program, found.cie.factors, self.target);
         Opening {
-            own: found.program.bytes.len(),
-            initial: found.cie_program.bytes.len(),
-            row: row_behind(found.cie_at, first),
+            own: found.own.program.bytes.len(),
+            initial: found.cie.program.bytes.len(),
+            row: row_behind(found.own.cie_at, first),
         }
     }
 }

@@ -3,7 +3,7 @@
 ghost use Rattle.std.specs.{Prelude.{◌≡◌, ◌+◌, ◌≤◌, ℕ, List, length, map}, List.{AllByRecursion, AllZip}};
 ghost use Rattle.dw_cfa.specs.Listing.{answers};
 ghost use Rattle.dw_section.specs.{Accepted.RulesHold, Headers.Head, Meaning.{RowStarts, Starts, total}, Ranges.{IsRanged, range_in}};
-ghost use Rattle.dw_section.specs.Inner.{Counted.{moves_in, IsProgram, StartsOf}, Initials.AreInitials};
+ghost use Rattle.dw_section.specs.Inner.{Counted.{moves_in, IsProgram, StartsOf}, Initials.AreOf};
 
 use crate::fde_range::Ranged;
 use crate::header::Initial;
@@ -34,7 +34,7 @@ fn starts_of(fde: &FoundFde<'_>, target: Target) -> u64
     ensures bound { result ≤ 2147483648 }
     ensures counted { StartsOf target fde.now result }
 {
-    let mut instrs = Instructions::new(fde.program, fde.factors, target);
+    let mut instrs = Instructions::new(fde.own.program, fde.cie.factors, target);
     count_starts(&mut instrs)
 }
 
@@ -45,8 +45,8 @@ fn sum_starts<'a>(
     index: &[Ranged],
 ) -> u64
     requires few { length index.now ≤ 2147483647 }
-    requires headers { (hs : List Head) × RulesHold target bytes.now hs × AreInitials target hs hs initials.now × AllByRecursion (IsRanged hs) index.now }
-    ensures { (hs : List Head) → RulesHold target bytes.now hs → AreInitials target hs hs initials.now → AllByRecursion (IsRanged hs) index.now → (counts : List ℕ) × AllZip (Starts target bytes.now) (map range_in index.now) counts × (result ≡ total counts) }
+    requires headers { (hs : List Head) × RulesHold target bytes.now hs × AreOf hs initials.now × AllByRecursion (IsRanged hs) index.now }
+    ensures { (hs : List Head) → RulesHold target bytes.now hs → AreOf hs initials.now → AllByRecursion (IsRanged hs) index.now → (counts : List ℕ) × AllZip (Starts target bytes.now) (map range_in index.now) counts × (result ≡ total counts) }
 {
     let mut sum = 0;
     for fde in index {

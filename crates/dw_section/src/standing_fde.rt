@@ -1,6 +1,6 @@
 //! FDEs that are read at their places in bytes that were not checked (6.4.1).
 
-ghost use Rattle.std.specs.Prelude.{◌≡◌, ◌+◌, ◌<◌, ◌≤◌, ℕ, List, length, map, slice_index_or, Some, None, IfOk};
+ghost use Rattle.std.specs.Prelude.{◌≡◌, ◌+◌, ◌^◌, ◌<◌, ◌≤◌, ℕ, List, length, map, slice_index_or, Some, None, IfOk};
 ghost use Rattle.std.specs.{Prelude.{IfErr, IfSome, IsSome, OnOk, MatchOption, MatchResult}, Bool.MatchBool};
 ghost use Rattle.dw_num.specs.{Refusals.Refuses, Span.{span_of, input_of}, Target.address_limit, declared.refusal.Refusal.{Refusal as TheRefusal}};
 ghost use Rattle.dw_op.specs.Faults.{IsWithin};
@@ -10,18 +10,17 @@ ghost use Rattle.dw_section.specs.{Meaning.{AreFdes, Covers, NoneCovers, Returns
 ghost use Rattle.dw_section.specs.{Ranges.{IsEntry, LeadsTo, Uncovered, fde_in, range_in, IsTable}, Stage.Then, StandingFde.ItemFault};
 ghost use Rattle.dw_section.specs.StandingFde.{LookUpFault, Misleads, NamesCieAt, NoneStands, PairFault, RefusesAs, RulesOf, StandingFault, StandsAs, StandsIn};
 ghost use Rattle.dw_section.specs.declared.{fde_range.Ranged.{Ranged as TheRanged}, lookup.Fde.{Fde as TheFde}};
-ghost use Rattle.dw_section.specs.Inner.{Lookup.{RunsSo, fde_of}, Pieces.piece_in, StandingFde.{AreJoined, FoundStands, LiesInPrograms, StandsAt, of_steps}};
+ghost use Rattle.dw_section.specs.Inner.{Lookup.{RunsSo, fde_of}, Pieces.piece_in, StandingFde.{FoundStands, LiesInPrograms, StandsAt, of_steps}};
 ghost use Rattle.dw_section.specs.declared.entry.Kind.TheVariants as kind;
 ghost use Rattle.dw_section.specs.declared.standing_fde.LookUpError.TheVariants as LookUpError;
 
 use crate::entry::{Kind, MOST, Part, Placed, kind_in, next_part, width_of};
 use crate::fde_range::Ranged;
-use crate::header::{FdeEntry, Initial, read_entry, read_initial};
+use crate::header::{read_entry, read_initial};
 use crate::listed_fde::FoundFde;
 use crate::lookup::Fde;
 use dw_cfa::RowRoom;
 use dw_num::{Code, Cursor, ReadError, Refusal, Target, are_bytes};
-use std::marker::Model;
 use thiserror::Error;
 
 /// The entry that stands at a place, or none, or what is wrong there.
@@ -84,30 +83,13 @@ pub(crate) fn pointer_of(piece: &Placed<'_>, target: Target) -> u64
     pointer
 }
 
-// An FDE with what its CIE says.
-#[inline(always)]
-fn joined<'a>(own: &FdeEntry<'a>, named: &Initial<'a>) -> FoundFde<'a>
-    ensures { AreJoined own.now named.now result }
-{
-    FoundFde {
-        at: own.at,
-        begin: own.begin,
-        range: own.range,
-        program: own.program,
-        cie_at: own.cie_at,
-        cie_program: named.program,
-        factors: named.factors,
-        return_register: named.return_register,
-    }
-}
-
 // The FDE that is this entry, with what the CIE that it names says, or what is wrong in either.
 #[inline(always)]
 fn fde_in<'a>(bytes: &'a [u8], own: &Placed<'a>, target: Target) -> Result<FoundFde<'a>, Refusal>
     requires few { length bytes.now ≤ 2147483647 }
     requires kind { own.now.kind ≡ kind.Fde }
     requires stands { StandsIn target.order bytes.now (piece_in own.now) }
-    ensures found { IfOk result (λ e. (e.at ≡ own.now.at) × FoundStands target bytes.now e) }
+    ensures found { IfOk result (λ e. (e.own.at ≡ own.now.at) × FoundStands target bytes.now e) }
     ensures within { IfErr result (IsWithin bytes.now) }
     ensures fault { IfErr result (PairFault target bytes.now (piece_in own.now)) }
     ensures only { StandsAt target bytes.now own.now.at → IfErr result (λ _. ⊥) }
@@ -121,14 +103,14 @@ fn fde_in<'a>(bytes: &'a [u8], own: &Placed<'a>, target: Target) -> Result<Found
     };
     let header = read_entry(own, &[pointer], &mut 0, target)?;
     let cie = read_initial(&named, target)?;
-    Ok(joined(&header, &cie))
+    Ok(FoundFde { own: header, cie })
 }
 
 // The FDE that stands at a place, or none, or what is wrong there.
 #[inline(always)]
 fn standing<'a>(bytes: &'a [u8], at: u64, target: Target) -> Result<Option<FoundFde<'a>>, Refusal>
     requires { length bytes.now ≤ 2147483647 }
-    ensures found { IfOk result (λ o. IfSome o (λ e. (e.at ≡ at) × FoundStands target bytes.now e)) }
+    ensures found { IfOk result (λ o. IfSome o (λ e. (e.own.at ≡ at) × FoundStands target bytes.now e)) }
     ensures within { IfErr result (IsWithin bytes.now) }
     ensures fault { IfErr result (Then (ItemFault target bytes.now at) (StandsAs target bytes.now kind.Fde at) (PairFault target bytes.now)) }
     ensures only { StandsAt target bytes.now at → MatchResult result IsSome (λ _. ⊥) }
@@ -217,52 +199,16 @@ impl From<ReadError> for LookUpError {
     }
 }
 
-/// An FDE that was found. A contract sees the FDE.
-#[derive(Drop)]
-pub struct StandingFde {
-    pub(crate) begin: u64,
-    pub(crate) range: u64,
-    pub(crate) return_register: u16,
-}
-
-impl Model for StandingFde {
-    ghost use Rattle.std.specs.Prelude.{◌+◌};
-    ghost use Rattle.dw_section.specs.declared.lookup.Fde.{Fde as TheFde};
-
-    ghost Value = { TheFde };
-
-    ghost view = { λ f. record { begin = f.begin; end = f.begin + f.range; return_register = f.return_register } };
-}
-
-/// What is told of an FDE.
+// What is told of an FDE.
 #[inline(always)]
-pub(crate) fn standing_fde(fde: &FoundFde<'_>) -> StandingFde
-    ensures { result ≡ fde_of fde.now }
+fn told(fde: &FoundFde<'_>) -> Fde
+    ensures is { result ≡ fde_of fde.now }
+    ensures range { (range : ℕ) × (range < 2 ^ 64) × (result.end ≡ result.begin + range) }
 {
-    StandingFde {
-        begin: fde.begin,
-        range: fde.range,
-        return_register: fde.return_register,
-    }
-}
-
-impl StandingFde {
-    /// Its first address, the one past its last, and the return address register.
-    pub fn fde(&self) -> Fde
-        ensures { result ≡ self.now }
-    {
-        Fde {
-            begin: self.begin,
-            end: u128::from(self.begin) + u128::from(self.range),
-            return_register: self.return_register,
-        }
-    }
-
-    /// How many addresses it covers.
-    pub fn range(&self) -> u64
-        ensures { self.now.end ≡ self.now.begin + result }
-    {
-        self.range
+    Fde {
+        begin: fde.own.begin,
+        end: u128::from(fde.own.begin) + u128::from(fde.own.range),
+        return_register: fde.cie.return_register,
     }
 }
 
@@ -274,19 +220,26 @@ fn run_fde<'a>(
     address: u64,
     room: &mut RowRoom<'a>,
 ) -> Result<(), ReadError>
-    requires in_space { fde.now.begin < address_limit target.size }
-    requires begin { fde.now.begin ≤ address }
+    requires in_space { fde.now.own.begin < address_limit target.size }
+    requires begin { fde.now.own.begin ≤ address }
     ensures runs { (o : Outcome) × RunsSo target fde.now o }
     ensures found { (o : Outcome) → RunsSo target fde.now o → OnOk result (last_at address o.rows ≡ Some room.new) }
-    ensures unfaulted { OnOk result (NoFaultUpTo fde.now.factors (input_of target (span_of fde.now.cie_program)) (input_of target (span_of fde.now.program)) fde.now.begin address) }
+    ensures unfaulted { OnOk result (NoFaultUpTo fde.now.cie.factors (input_of target (span_of fde.now.cie.program)) (input_of target (span_of fde.now.own.program)) fde.now.own.begin address) }
     ensures err { (o : Outcome) → RunsSo target fde.now o → IfErr result (Refuses (λ r. o.fault ≡ Some r)) }
-    ensures up_to { IfErr result (Refuses (FaultUpTo fde.now.factors (input_of target (span_of fde.now.cie_program)) (input_of target (span_of fde.now.program)) fde.now.begin address)) }
+    ensures up_to { IfErr result (Refuses (FaultUpTo fde.now.cie.factors (input_of target (span_of fde.now.cie.program)) (input_of target (span_of fde.now.own.program)) fde.now.own.begin address)) }
     ensures within { IfErr result (Refuses (LiesInPrograms target fde.now)) }
 {
-    let (cie, program) = (fde.cie_program, fde.program);
-    are_bytes(cie.bytes);
-    are_bytes(program.bytes);
-    room.run_to(cie, program, fde.begin, fde.factors, target, address)
+    let (cie, own) = (fde.cie, fde.own);
+    are_bytes(cie.program.bytes);
+    are_bytes(own.program.bytes);
+    room.run_to(
+        cie.program,
+        own.program,
+        own.begin,
+        cie.factors,
+        target,
+        address,
+    )
 }
 
 // The rules at an address by the FDE that stands at a place.
@@ -297,9 +250,10 @@ fn row_of<'a>(
     at: u64,
     address: u64,
     room: &mut RowRoom<'a>,
-) -> Result<StandingFde, LookUpError>
+) -> Result<Fde, LookUpError>
     requires { length bytes.now ≤ 2147483647 }
     ensures found { IfOk result (λ fde. RulesOf target bytes.now at address (record { fde = fde; row = room.new })) }
+    ensures range { IfOk result (λ fde. (range : ℕ) × (range < 2 ^ 64) × (fde.end ≡ fde.begin + range)) }
     ensures bad { IfErr result (λ e. e ≡ LookUpError.BadIndex → NoneStands target bytes.now at address) }
     ensures within { IfErr result (RefusesAs (IsWithin bytes.now)) }
     ensures refused { IfErr result (RefusesAs (StandingFault target bytes.now at address)) }
@@ -309,11 +263,11 @@ fn row_of<'a>(
     let Some(fde) = standing(bytes, at, target)? else {
         return Err(LookUpError::BadIndex);
     };
-    if !covers(fde.begin, fde.range, address) {
+    if !covers(fde.own.begin, fde.own.range, address) {
         return Err(LookUpError::BadIndex);
     }
     run_fde(&fde, target, address, room)?;
-    Ok(standing_fde(&fde))
+    Ok(told(&fde))
 }
 
 /// The FDE that covers an address by an index of a section's nonempty FDEs, ascending by begin, whose rules there `room` lends
@@ -335,11 +289,13 @@ pub fn look_up<'a>(
     index: &[Ranged],
     address: u64,
     room: &mut RowRoom<'a>,
-) -> Result<Option<StandingFde>, LookUpError>
+) -> Result<Option<Fde>, LookUpError>
     // By the index of an accepted section it is what the section says.
     ensures own { IsTable target bytes.now index.now → MatchResult result (λ o. MatchOption o ((fs : List TheFde) → AreFdes target bytes.now fs → NoneCovers address fs) (λ fde. RulesAt target bytes.now address room.new × ((fs : List TheFde) → AreFdes target bytes.now fs → IsAmong fde fs))) (λ e. e ≡ LookUpError.OutOfMemory) }
     // By any other it is what the FDE says that stands where an entry that covers the address leads, or none where no entry does.
     ensures found { IfOk result (λ o. MatchOption o (Uncovered index.now address) (λ fde. (at : ℕ) × LeadsTo index.now address at × RulesOf target bytes.now at address (record { fde = fde; row = room.new }))) }
+    // The FDE covers fewer than 2^64 addresses.
+    ensures range { IfOk result (λ o. IfSome o (λ fde. (range : ℕ) × (range < 2 ^ 64) × (fde.end ≡ fde.begin + range))) }
     // Its rules are in range, by whatever index.
     ensures fits { IfOk result (λ o. IfSome o (λ _. RowFits target room.new)) }
     // A bad index leads to a place where no FDE that covers the address stands.

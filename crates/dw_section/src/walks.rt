@@ -1,9 +1,13 @@
-//! The walks of CIEs with long programs, put away while FDEs of other CIEs are gone to.
+//! The walks that run the programs of FDEs: one that goes from CIE to CIE, and those of other CIEs with long programs.
 
-ghost use Rattle.dw_section.specs.{Table.Section, Inner.Changes.AreLed, Inner.Lookup.{LedBy, LedSo}};
+ghost use Rattle.std.specs.Prelude.{◌≡◌, List, Some};
+ghost use Rattle.dw_cfa.specs.{RowSteps.stepping, Runs.finished, Rows.blank};
+ghost use Rattle.dw_section.specs.{Among.IsAmong, Headers.Head, Inner.PieceHeader.initial_in, Inner.Walks.{AreAway, AreLed, LedTo}};
+ghost use Rattle.dw_num.specs.declared.target.Target.{Target as TheTarget};
 
+use crate::header::Initial;
 use dw_cfa::RowWalk;
-use dw_num::{Program, Target};
+use dw_num::{Target, are_bytes};
 use std::alloc::Global;
 use std::collections::BTreeMap;
 use std::mem;
@@ -12,15 +16,22 @@ use std::mem;
 // once more.
 const LONG: usize = 256;
 
-/// Whether the walk of a CIE with this program is put away.
-#[inline(always)]
-pub(crate) fn is_long(program: Program<'_>) -> bool {
-    program.bytes.len() > LONG
+/// A walk that goes from FDE to FDE, and those that were put away.
+#[derive(Drop)]
+pub(crate) struct Walks<'a> {
+    pub(crate) walk: RowWalk<'a>,
+    /// The CIE whose program the walk was led to, by its place.
+    pub(crate) cie_at: Option<u64>,
+    /// The program of that CIE is long.
+    pub(crate) long: bool,
+    // The walks of other CIEs with long programs, by the CIEs' places.
+    away: BTreeMap<u64, RowWalk<'a>>,
+    alloc: Global,
 }
 
 // Puts a walk away under the place of its CIE. Where there is no memory for it, it is dropped.
 fn put_away<'a>(away: &mut BTreeMap<u64, RowWalk<'a>>, place: u64, walk: RowWalk<'a>)
-    ensures { (s : Section) → LedBy s place walk.entry.led → AreLed s away.old → AreLed s away.new }
+    ensures { (target : TheTarget) (hs : List Head) → LedTo target hs (Some place) walk.entry.led → AreAway target hs away.old → AreAway target hs away.new }
 {
     let _ = away.insert(place, walk);
 }
@@ -32,8 +43,8 @@ fn take_back<'a>(
     alloc: Global,
     target: Target,
 ) -> (RowWalk<'a>, Option<u64>)
-    ensures led { (s : Section) → AreLed s away.old → LedSo s result.1 result.0.led }
-    ensures away { (s : Section) → AreLed s away.old → AreLed s away.new }
+    ensures led { (hs : List Head) → AreAway target hs away.old → LedTo target hs result.1 result.0.led }
+    ensures away { (hs : List Head) → AreAway target hs away.old → AreAway target hs away.new }
 {
     match away.remove(&place) {
         Some(walk) => (walk, Some(place)),
@@ -41,47 +52,65 @@ fn take_back<'a>(
     }
 }
 
-// Leaves the CIE at a place for another one, and answers that one where the walk is behind it then. Out of line: room for
-// walks is cleared at each call.
-#[inline(never)]
-fn change_walk<'a>(
-    alloc: Global,
-    away: &mut BTreeMap<u64, RowWalk<'a>>,
-    walk: &mut RowWalk<'a>,
-    left: u64,
-    long: bool,
-    place: u64,
-    target: Target,
-) -> Option<u64>
-    ensures led { (s : Section) → AreLed s away.old → LedSo s result walk.new.led }
-    ensures away { (s : Section) → LedBy s left walk.old.led → AreLed s away.old → AreLed s away.new }
-{
-    let (other, behind) = take_back(away, place, alloc, target);
-    let before = mem::replace(walk, other);
-    if long {
-        put_away(away, left, before);
+impl<'a> Walks<'a> {
+    /// No walk was led to a CIE. Takes no memory.
+    pub(crate) fn new(alloc: Global, target: Target) -> Walks<'a>
+        ensures led { (hs : List Head) → AreLed target hs result }
+        ensures steps { result.walk.steps ≡ stepping blank finished }
+    {
+        Walks {
+            walk: RowWalk::new(alloc, target),
+            cie_at: None,
+            long: false,
+            away: BTreeMap::new(alloc),
+            alloc,
+        }
     }
-    behind
-}
 
-/// Leaves the CIE that a walk was led to, if to any, for the one at a place, where the program of one of them is long: the
-/// walk is put away where its CIE's program is long, and that of the other CIE is taken back out, or is a new one. Answers
-/// the CIE that the walk was led to then, if that is known.
-#[inline(always)]
-pub(crate) fn turn_walk<'a>(
-    alloc: Global,
-    away: &mut BTreeMap<u64, RowWalk<'a>>,
-    walk: &mut RowWalk<'a>,
-    behind: Option<u64>,
-    long: bool,
-    place: u64,
-    target: Target,
-) -> Option<u64>
-    ensures led { (s : Section) → LedSo s behind walk.old.led → AreLed s away.old → LedSo s result walk.new.led }
-    ensures away { (s : Section) → LedSo s behind walk.old.led → AreLed s away.old → AreLed s away.new }
-{
-    match behind {
-        Some(left) if left != place => change_walk(alloc, away, walk, left, long, place, target),
-        _ => behind,
+    // Leaves the CIE at a place for another one. Out of line: room for walks is cleared at each call.
+    #[inline(never)]
+    fn change(&mut self, left: u64, place: u64, target: Target)
+        requires { self.old.cie_at ≡ Some left }
+        ensures { (hs : List Head) → AreLed target hs self.old → AreLed target hs self.new }
+    {
+        let (other, cie_at) = take_back(&mut self.away, place, self.alloc, target);
+        let before = mem::replace(&mut self.walk, other);
+        if self.long {
+            put_away(&mut self.away, left, before);
+        }
+        self.cie_at = cie_at;
+    }
+
+    // Leaves the CIE that the walk was led to, if to any, for the one at a place, where the program of one of them is long: the
+    // walk is put away where its CIE's program is long, and that of the other CIE is taken back out, or is a new one.
+    #[inline(always)]
+    fn turn(&mut self, place: u64, long: bool, target: Target)
+        ensures { (hs : List Head) → AreLed target hs self.old → AreLed target hs self.new }
+    {
+        if self.long || long {
+            match self.cie_at {
+                Some(left) if left != place => self.change(left, place, target),
+                _ => {}
+            }
+        }
+    }
+
+    /// Leads a walk to a CIE. No bytes are compared where it was led to that one before.
+    #[inline(always)]
+    pub(crate) fn lead(&mut self, cie: &Initial<'a>, target: Target)
+        ensures led { (hs : List Head) → IsAmong (initial_in cie.now) hs → AreLed target hs self.old → AreLed target hs self.new }
+        ensures at { self.new.cie_at ≡ Some cie.now.at }
+    {
+        let long = cie.program.bytes.len() > LONG;
+        self.turn(cie.at, long, target);
+        self.long = long;
+        if let Some(cie_at) = self.cie_at
+            && cie_at == cie.at
+        {
+            return;
+        }
+        are_bytes(cie.program.bytes);
+        self.walk.lead(cie.program, cie.factors, target);
+        self.cie_at = Some(cie.at);
     }
 }

@@ -83,7 +83,7 @@ pub(crate) fn row_at<'a>(
     if !is_set(room.row()) {
         return Err(UnwindAtError::BadIndex);
     }
-    Ok(fde.fde().return_register)
+    Ok(fde.return_register)
 }
 
 /// The caller's frame as `unwind` answers it, by an index of a section's nonempty FDEs that was kept (`Table::index`), in bytes

@@ -139,7 +139,7 @@ impl<'m, 'a> Machine<'m, 'a> {
 }
 
 /// The frame by the rules of a row that was looked up, and by the return address register of its FDE. Answers and faults are
-/// those of `unwind`, but for `NoFde`. The row may be one of `Lookups`, of `Table::row_at` or of `look_up`: its rules are in range
+/// those of `unwind`, but for `NoFde`. The row may be one of `Table::row_at` or of `look_up`: its rules are in range
 /// for the target, and its CFA has a rule. The registers are put into `room`, which may be that of an earlier call.
 pub fn unwind_row<'r, M: Memory>(
     alloc: Global,

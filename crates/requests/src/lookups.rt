@@ -1,9 +1,9 @@
 //! Look-ups of addresses one after another, to be counted beside those of another reader (`bench/run`).
 
 use crate::Calls;
-use dw_cfa::{CfaRule, RegRule, Row};
+use dw_cfa::{CfaRule, RegRule, Row, RowRoom};
 use dw_num::Target;
-use dw_section::{Fde, Lookups, Table, check};
+use dw_section::{Fde, Table, check};
 use std::alloc::AllocError;
 use std::test::Fail;
 
@@ -32,17 +32,13 @@ fn range_of(fde: &Fde) -> u64 {
     u64::try_from(range).unwrap_or(u64::MAX)
 }
 
-// A number that tells the rule of the CFA at an address: 0 for none, 1 for an expression.
-fn found_at(lookups: &mut Lookups<'_, '_>, address: u64) -> Result<u64, AllocError> {
-    let _ = lookups.find(address)?;
-    let Some(row) = lookups.row() else {
-        return Ok(0);
-    };
-    Ok(match row.cfa() {
+// A number that tells the rule of the CFA: 1 for an expression.
+fn cfa_number(row: &Row<'_>) -> u64 {
+    match row.cfa() {
         CfaRule::Unset => 0,
         CfaRule::Register { register, offset } => u64::from(register) ^ offset.unsigned_abs(),
         CfaRule::Expression(_) => 1,
-    })
+    }
 }
 
 // A number that tells a rule.
@@ -67,24 +63,27 @@ fn rules_sum(row: &Row<'_>) -> u64 {
     sum
 }
 
-// A number that tells the FDE and the rules of all registers at an address too, which a look-up from C writes.
-fn all_at(lookups: &mut Lookups<'_, '_>, address: u64) -> Result<u64, AllocError> {
-    let cfa = found_at(lookups, address)?;
-    let (Some(found), Some(row)) = (lookups.fde(), lookups.row()) else {
-        return Ok(cfa);
+// A number that tells the rule of the CFA at an address, 0 for none, or the FDE and the rules of all registers too, which a look-up
+// from C writes.
+fn look<'a>(
+    table: &Table<'a>,
+    room: &mut RowRoom<'a>,
+    address: u64,
+    with_rules: bool,
+) -> Result<u64, AllocError> {
+    let Some(fde) = table.look_up(address, room)? else {
+        return Ok(0);
     };
-    Ok(cfa ^ found.range() ^ rules_sum(row))
-}
-
-fn look(lookups: &mut Lookups<'_, '_>, address: u64, with_rules: bool) -> Result<u64, AllocError> {
+    let cfa = cfa_number(room.row());
     if with_rules {
-        return all_at(lookups, address);
+        return Ok(cfa ^ range_of(&fde) ^ rules_sum(room.row()));
     }
-    found_at(lookups, address)
+    Ok(cfa)
 }
 
-fn sum_of(
-    lookups: &mut Lookups<'_, '_>,
+fn sum_of<'a>(
+    table: &Table<'a>,
+    room: &mut RowRoom<'a>,
     fdes: &[Fde],
     count: u64,
     with_rules: bool,
@@ -97,26 +96,16 @@ fn sum_of(
         let place = numbers.below(fdes.len() as u64);
         if let Some(fde) = fdes.get(place as usize) {
             let address = fde.begin.wrapping_add(numbers.below(range_of(fde)));
-            let found = look(lookups, address, with_rules)?;
+            let found = look(table, room, address, with_rules)?;
             sum = sum.wrapping_mul(31).wrapping_add(address ^ found << 32);
         }
     }
     Ok(sum)
 }
 
-fn sum_in(
-    table: &Table<'_>,
-    fdes: &[Fde],
-    count: u64,
-    with_rules: bool,
-) -> Result<u64, AllocError> {
-    let mut lookups = table.lookups();
-    sum_of(&mut lookups, fdes, count, with_rules)
-}
-
 fn print_sum(rt: &impl Calls, table: &Table<'_>, count: u64, with_rules: bool) -> Result<(), Fail> {
     let fdes: Vec<Fde> = table.fdes().collect(rt.alloc())?;
-    let sum = sum_in(table, &fdes, count, with_rules)?;
+    let sum = sum_of(table, &mut RowRoom::new(rt.alloc()), &fdes, count, with_rules)?;
     Ok(println!(rt; "lookups={count} sum={sum:016x}")?)
 }
 

@@ -18,7 +18,7 @@ are_fdes target s list t = record {
   each = lists_all t.indexed.headers list t.indexed.each;
 }
 
-one_register : (hs : List Head) (up : HeadsRise 0 hs) (a : Range) (r q : ℕ) → Returns hs a r → Returns hs a q → r ≡ q
+pub one_register : (hs : List Head) (up : HeadsRise 0 hs) (a : Range) (r q : ℕ) → Returns hs a r → Returns hs a q → r ≡ q
 one_register hs up a r q v w =
     let owns = ap (fde_or v.own) (one_among 0 hs _ _ up v.own_among w.own_among (ap (λ (x : Range). x.at) (v.covers ∙ sym w.covers))) in
     let place : v.named.at ≡ w.named.at = sym v.names ∙ ap (λ (f : FdeHead). f.cie_at) owns ∙ w.names in

@@ -1,9 +1,8 @@
 -- What the code and its proofs say beside Changes.
-use Rattle.std.specs.Prelude.{◌≡◌, ◌⊎◌, ℕ, ◌<◌, nat_lt, ◌&&◌, not, if◌then◌else◌, List, [], ◌∷◌, Option, Some, None, IfSome, Result, Ok, Err, Bool, false}
-use Rattle.std.specs.{BTreeMap.{BTreeMap, get}, Ordering.nat_cmp}
+use Rattle.std.specs.Prelude.{◌≡◌, ◌⊎◌, ℕ, ◌<◌, nat_lt, ◌&&◌, not, if◌then◌else◌, List, [], ◌∷◌, Option, Some, None, Result, Ok, Err, Bool, false}
 use Rattle.dw_cfa.specs.{Behind.LeavesTo, RegisterSets.Registers, RowSteps.Stepping, RowWalk.Walking, Rows.Rules, declared.execution.LocatedRow.LocatedRow}
 use Rattle.dw_cfa.proofs.Lent.Equal.{row_test}
-use Rattle.dw_section.specs.{Changes.Changing, Opening.AreChanged, Table.Section, Inner.Lookup.{LedBy, LedSo}}
+use Rattle.dw_section.specs.{Changes.Changing, Headers.{Head, Headers}, Opening.AreChanged, Table.Section, declared.walks.Walks.Walks, Inner.Walks.AreLed}
 
 -- ---- changes among rows
 
@@ -49,15 +48,12 @@ changing s rows end = record { section = s; to_come = changes_among end None row
 
 -- ---- how the code finds them
 
--- each walk that was put away was led to the CIE at its place
-abbrev pub AreLed : Section → BTreeMap ℕ Walking → Type 0
-AreLed s away = (place : ℕ) → IfSome (get nat_cmp away place) (λ walk. LedBy s place walk.led)
-
--- the rows of a walk that was led by a section have no fault
-pub record ChangesSo (s : Section) (cie_at : Option ℕ) (walk : Walking) (away : BTreeMap ℕ Walking) : Type 0 where
-  pub no_fault : walk.steps.outcome.fault ≡ None
-  pub led : LedSo s cie_at walk.led
-  pub others : AreLed s away
+-- the rows of a walk that was led by the headers of a section have no fault
+pub record ChangesSo (s : Section) (w : Walks) : Type 0 where
+  pub no_fault : w.walk.steps.outcome.fault ≡ None
+  pub headers : List Head
+  pub are : Headers s.target s.bytes headers
+  pub led : AreLed s.target headers w
 
 -- where this row was shown before, the next change
 abbrev pub FindsChange : {E : Type 0} → ℕ → Stepping → Option Rules → Result (Option ℕ) E → Stepping → Type 0

@@ -14,8 +14,8 @@ moves_in (x ∷ xs) = cond (starts_row x) 1 0 + moves_in xs
 
 -- the bytes of an FDE's program are instructions
 abbrev pub IsProgram : Target → FoundFde → Type 0
-IsProgram target e = (instrs : List Instr) × ProgramSpells target e.factors instrs e.program.bytes.now
+IsProgram target e = (instrs : List Instr) × ProgramSpells target e.cie.factors instrs e.own.program.bytes.now
 
 -- they start n rows
 abbrev pub StartsOf : Target → FoundFde → ℕ → Type 0
-StartsOf target e n = (instrs : List Instr) → ProgramSpells target e.factors instrs e.program.bytes.now → n ≡ row_starts instrs
+StartsOf target e n = (instrs : List Instr) → ProgramSpells target e.cie.factors instrs e.own.program.bytes.now → n ≡ row_starts instrs

@@ -1,8 +1,8 @@
 -- Reading the header of a piece as the code does it.
 use Rattle.std.specs.Prelude.{◌≡◌, ℕ, List, Option, Some, None, Result, Ok}
 use Rattle.dw_num.specs.{Front.{◌>>=◌}, Input.Input, Span.{Span, span_of, input_of}}
-use Rattle.dw_num.specs.declared.{refusal.Refusal.Refusal, target.Form.Form, target.Target.Target}
-use Rattle.dw_section.specs.{Cut.Piece, Fields.{cie_fields, fde_fields}, Headers.{CieHead, Head, Has, cie, fde, cie_head, fde_head}}
+use Rattle.dw_num.specs.declared.{refusal.Refusal.Refusal, target.Target.Target}
+use Rattle.dw_section.specs.{Cut.Piece, Fields.{cie_fields, fde_fields}, Headers.{CieHead, FdeHead, Head, Has, cie, fde, cie_head, fde_head}}
 use Rattle.dw_section.specs.declared.{fields.CieFields.CieFields, fields.FdeFields.FdeFields, header.FdeEntry.FdeEntry}
 use Rattle.dw_section.specs.{declared.header.Initial.Initial, Inner.Fields.fields_at}
 use Rattle.dw_section.specs.declared.entry.Kind.TheVariants as kind
@@ -30,24 +30,27 @@ fde_at target places p = fields_at (fde_fields target.size places p.form) (conte
 -- ---- what the code holds
 
 -- the header of a CIE that is kept
-abbrev pub initial_head : Form → Initial → CieHead
-initial_head form c =
-    record { at = c.at; form = form; code_factor = c.factors.code_factor; data_factor = c.factors.data_factor; return_register = c.return_register; program = span_of c.program }
+abbrev pub initial_head : Initial → CieHead
+initial_head c =
+    record { at = c.at; form = c.form; code_factor = c.factors.code_factor; data_factor = c.factors.data_factor; return_register = c.return_register; program = span_of c.program }
 
-abbrev pub initial_in : Form → Initial → Head
-initial_in form c = cie (initial_head form c)
+abbrev pub initial_in : Initial → Head
+initial_in c = cie (initial_head c)
 
 -- the header of an FDE that was read
-abbrev pub entry_in : Form → FdeEntry → Head
-entry_in form e = fde (record { at = e.at; form = form; cie_at = e.cie_at; begin = e.begin; range = e.range; program = span_of e.program })
+abbrev pub entry_head : FdeEntry → FdeHead
+entry_head e = record { at = e.at; form = e.form; cie_at = e.cie_at; begin = e.begin; range = e.range; program = span_of e.program }
+
+abbrev pub entry_in : FdeEntry → Head
+entry_in e = fde (entry_head e)
 
 -- what a piece says that is an FDE; of a CIE it is nothing
 abbrev pub SaysFde : Target → List ℕ → Piece → Option FdeEntry → Type 0
 SaysFde target places p None = p.kind ≡ kind.Cie
-SaysFde target places p (Some e) = Has target places p (entry_in p.form e)
+SaysFde target places p (Some e) = Has target places p (entry_in e)
 
 -- the same of its header
 abbrev pub Tells : Option FdeEntry → Head → Type 0
 Tells None (cie c) = Unit {0}
 Tells None (fde f) = ⊥
-Tells (Some e) h = (form : Form) × (h ≡ entry_in form e)
+Tells (Some e) h = h ≡ entry_in e

@@ -1,5 +1,5 @@
 -- What the code and its proofs say beside Places.
-use Rattle.std.specs.Prelude.{ℕ, suc, ◌≤◌, List, [], ◌∷◌}
+use Rattle.std.specs.Prelude.{◌≡◌, ℕ, suc, ◌<◌, ◌≤◌, List, [], ◌∷◌, length, slice_index_or}
 
 -- numbers from low on, none below the one before it
 abbrev pub Rises : ℕ → List ℕ → Type 0
@@ -10,3 +10,7 @@ Rises low (x ∷ xs) = (low ≤ x) × Rises x xs
 abbrev pub RiseBy : {X : Type 0} → (X → ℕ) → ℕ → List X → Type 0
 RiseBy place low [] = Unit {0}
 RiseBy place low (x ∷ xs) = (low ≤ place x) × RiseBy place (suc (place x)) xs
+
+-- the k-th of some places is this one
+abbrev pub IsAt : List ℕ → ℕ → ℕ → Type 0
+IsAt places k place = (k < length places) × (slice_index_or places k 0 ≡ place)

@@ -1,13 +1,13 @@
 -- How the code finds an FDE that stands in bytes.
 use Rattle.std.specs.Prelude.{◌≡◌, ◌⊎◌, ℕ, List}
 use Rattle.dw_num.specs.{Span.{span_of, input_of}, declared.error.ReadError.ReadError}
-use Rattle.dw_num.specs.declared.{refusal.Refusal.Refusal, target.Form.Form, target.Target.Target}
+use Rattle.dw_num.specs.declared.{refusal.Refusal.Refusal, target.Target.Target}
 use Rattle.dw_num.specs.declared.error.ReadError.TheVariants as read_error
 use Rattle.dw_cfa.specs.FaultPlaces.{LiesInProgram}
-use Rattle.dw_section.specs.{Headers.{CieHead, FdeHead, cie, fde}, StandingFde.FdeStands}
-use Rattle.dw_section.specs.declared.{header.FdeEntry.FdeEntry, header.Initial.Initial, listed_fde.FoundFde.FoundFde}
+use Rattle.dw_section.specs.{Headers.{CieHead, FdeHead}, StandingFde.FdeStands}
+use Rattle.dw_section.specs.declared.listed_fde.FoundFde.{FoundFde}
 use Rattle.dw_section.specs.declared.standing_fde.{LookUpError.LookUpError, LookUpError.TheVariants.{Refused, OutOfMemory}}
-use Rattle.dw_section.specs.Inner.{Index.{found_cie, found_head}, PieceHeader.{entry_in, initial_in}}
+use Rattle.dw_section.specs.Inner.PieceHeader.{entry_head, initial_head}
 
 -- some FDE stands at a place
 abbrev pub StandsAt : Target → List ℕ → ℕ → Type 0
@@ -15,16 +15,11 @@ StandsAt target s at = (own : FdeHead) × (named : CieHead) × FdeStands target 
 
 -- this one does, with what its CIE says
 abbrev pub FoundStands : Target → List ℕ → FoundFde → Type 0
-FoundStands target s e = (form : Form) × (cie_form : Form) × FdeStands target s (found_head form e) (found_cie cie_form e.cie_at e.return_register e)
+FoundStands target s e = FdeStands target s (entry_head e.own) (initial_head e.cie)
 
 -- what is wrong lies in the FDE's program or in that of its CIE
 abbrev pub LiesInPrograms : Target → FoundFde → Refusal → Type 0
-LiesInPrograms target e r = LiesInProgram (input_of target (span_of e.cie_program)) r ⊎ LiesInProgram (input_of target (span_of e.program)) r
-
--- what an FDE says and what its CIE says, together
-abbrev pub AreJoined : FdeEntry → Initial → FoundFde → Type 0
-AreJoined own named e =
-    (form : Form) → (cie_form : Form) → (entry_in form own ≡ fde (found_head form e)) × (initial_in cie_form named ≡ cie (found_cie cie_form named.at e.return_register e))
+LiesInPrograms target e r = LiesInProgram (input_of target (span_of e.cie.program)) r ⊎ LiesInProgram (input_of target (span_of e.own.program)) r
 
 abbrev pub of_steps : ReadError → LookUpError
 of_steps (read_error.Refused r) = Refused r

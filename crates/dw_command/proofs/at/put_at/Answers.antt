@@ -1,32 +1,14 @@
-use Rattle.dw_command.proofs.{Words.{◌∙◌, Some, None, ap, sym, Fde}, LookedUp.{ends_low, has_fde, has_row, tells_none, tells_some}}
+use Rattle.dw_command.proofs.{Words.{None, Some, refl}, Members.fde_low}
 use Rattle.dw_command.proofs.at.put_at.Goals as goal
 
-pub returns-then-not-branch-clause-put : goal.returns-then-not-branch-clause-put
-returns-then-not-branch-clause-put g c = λ fs are. (
-  (c.args.address, None),
-  tells_none c.args.lookups.now.section c.args.address c.in_ok-find.field-0 c.find.new.self.fde c.find.new.self.row c.in_ok-find.ensures.fde c.in_ok-find.ensures.found c.if-not-branch.true fs are,
-  c.in_ok-put_none.ensures.put,
-)
-
-pub unreachable-requires : goal.unreachable-requires
-unreachable-requires g c =
-    has_fde c.args.lookups.now.section c.args.address c.in_ok-find.field-0 c.find.new.self.fde c.find.new.self.row c.in_ok-find.ensures.fde c.in_ok-find.ensures.found
-    c.requires.bytes c.requires.accepted c.if-not-branch.false c.in_default.ensures
-
-pub unreachable-requires-in_default-row : goal.unreachable-requires-in_default-row
-unreachable-requires-in_default-row g c =
-    has_row c.args.lookups.now.section c.args.address c.in_ok-find.field-0 c.find.new.self.fde c.find.new.self.row c.in_ok-find.ensures.fde c.in_ok-find.ensures.found
-    c.requires.bytes c.requires.accepted c.if-not-branch.false c.in_default-row.ensures
+pub returns-in_default-clause-put : goal.returns-in_default-clause-put
+returns-in_default-clause-put g c = λ fs are. ((c.args.address, None), (refl, rw c.in_default.is at (c.in_ok-fde.ensures.found fs are)), c.in_ok-put_none.ensures.put)
 
 pub put_found-requires-clause-in_space : goal.put_found-requires-clause-in_space
 put_found-requires-clause-in_space g c =
-    ends_low c.args.lookups.now.section c.args.address c.in_ok-find.field-0 c.find.new.self.fde c.find.new.self.row c.in_ok-find.ensures.fde c.in_ok-find.ensures.found
-    c.requires.bytes c.requires.accepted c.if-not-branch.false c.fde-fde.result (c.in-Some.ensures ∙ ap (λ (f : Fde). Some f) (sym c.fde-fde.ensures))
+    fde_low c.args.table.now.target c.args.table.now.bytes c.accepted.ensures.bytes c.accepted.ensures.accepted c.in-Some.fde (λ fs are. (rw c.in-Some.is at (c.in_ok-fde.ensures.found fs are)).0)
 
 pub returns-clause-put : goal.returns-clause-put
-returns-clause-put g c = λ fs are. (
-  (c.args.address, Some (c.fde-fde.result, c.in-Some-row.row.now)),
-  tells_some c.args.lookups.now.section c.args.address c.in_ok-find.field-0 c.find.new.self.fde c.find.new.self.row c.in_ok-find.ensures.fde c.in_ok-find.ensures.found
-      c.if-not-branch.false c.fde-fde.result c.in-Some-row.row.now (c.in-Some.ensures ∙ ap (λ (f : Fde). Some f) (sym c.fde-fde.ensures)) c.in-Some-row.ensures fs are,
-  c.in_ok-put_found.ensures.put,
-)
+returns-clause-put g c = λ fs are.
+    let found = rw c.in-Some.is at (c.in_ok-fde.ensures.found fs are) in
+    ((c.args.address, Some (c.in-Some.fde, c.row.result.now)), (refl, found.0, found.1, rw c.row.ensures found.2), c.in_ok-put_found.ensures.put)

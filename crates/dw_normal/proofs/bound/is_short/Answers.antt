@@ -13,9 +13,9 @@ fdes-preserved c = (
       let t = c.args.table.now.target in
       let s = c.args.table.now.bytes in
       let place = c.fdes.place in
-      let lengths = c.program_lengths-own.result in
+      let opening = c.opening-opening in
       let none : Fde = record { begin = 0; end = 0; return_register = 0 } in
       let lt : place < length fs = omega (arith, c.fde_count-place-end.ensures fs are, c.fdes-test.true) in
-      let more = next_share t s fs place none lengths.0 lengths.1 c.fdes.total lt (c.fdes.invariant.1 fs are) (c.program_lengths-own.ensures fs are none) in
+      let more = next_share t s fs place none opening.result.own opening.result.initial c.fdes.total lt (c.fdes.invariant.1 fs are) (opening.ensures.lengths fs are none) in
       subst (λ (n : ℕ). Shares t s (take (place + 1) fs) n) (sym (c.in-Some.ensures.is c.fdes.total refl)) more,
 )

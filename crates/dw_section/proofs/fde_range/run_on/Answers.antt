@@ -1,5 +1,5 @@
-use Rattle.dw_section.proofs.{Words.{◌≡◌, List, ◌∷◌, map, refl, inl, inr, AllByRecursion, Dwarf32, piece_in, initial_in, Has, Head, HeadsLeft, FdeHolds, FdeStuck, FdeRuns, FdeBroken, Pieces, PiecesLeft, refuses_by}, Between.between_next}
-use Rattle.dw_section.proofs.{Between.{between_stuck, between_among, between_later, between_rest}, FdeWalk.{says_holds, says_tells, says_fits, places_at, headers_exist, fields_fault}, KeptCies.{of_headers, some_headers, places_are}}
+use Rattle.dw_section.proofs.{Words.{◌≡◌, List, ◌∷◌, map, refl, inl, inr, AllByRecursion, piece_in, initial_in, Has, Head, HeadsLeft, FdeHolds, FdeStuck, FdeRuns, FdeBroken, Pieces, PiecesLeft, refuses_by}, Between.between_next}
+use Rattle.dw_section.proofs.{Between.{between_stuck, between_among, between_later, between_rest}, FdeWalk.{says_holds, says_tells, says_fits, places_at, headers_exist, fields_fault}, KeptCies.{all_among, of_headers, some_headers, places_are}}
 use Rattle.dw_section.proofs.{Left.{left_all, heads_all, heads_next, heads_none, stays_then}, Stages.{all_push, handed_on}, Walk.{Walk, walk_start, walk_next, walk_end, walk_stuck}, fde_range.run_on.Goals.{In-Some, In_ok-fde}}
 use Rattle.dw_section.proofs.fde_range.run_on.Goals as goal
 
@@ -22,19 +22,19 @@ pieces-init c =
     rw (c.new-cursor.ensures, c.requires.none.0, c.requires.none.1) (
       walk_start (left_all t s) (λ ps p. tt),
       walk_start (λ hs p. heads_all t s places hs p (places_at t s q.0 places c.args.initials.now q.1 q.2 hs p)) (λ hs p. record { run = tt; first = tt; are = refl; each = tt }),
-      c.requires.runner,
+      λ hs all. c.requires.led hs,
     )
 
 pub judge_next-requires : goal.judge_next-requires
 judge_next-requires c =
     let q = c.requires.cies in
-    let places = places_are c.args.target q.0 c.args.places.now c.args.initials.now q.2 in
-    let ks = map (initial_in Dwarf32) c.args.initials.now in
-    let each = (c.requires.run ks (some_headers c.args.initials.now)).each in
+    let cs = c.args.initials.now in
+    let places = places_are c.args.target q.0 c.args.places.now cs q.2 in
+    let ks = map initial_in cs in
+    let all = all_among ks cs (some_headers cs) in
     record {
-      ascending = rw places c.requires.ascending;
-      fits = rw places (says_fits c.args.target c.args.places.now (piece_in c.in-Some.piece) c.in_ok-fde.fde c.in-Some.ensures.below c.in_ok-fde.ensures.found);
-      each = (ks, each, c.pieces.invariant.2 ks each);
+      fits = rw places (says_fits c.args.target c.args.places.now (piece_in c.in-Some.piece) c.in_ok-fde.fde _ c.in-Some.ensures.below c.in_ok-fde.ensures.found c.in_ok-fde.ensures.at);
+      each = (ks, all, c.pieces.invariant.2 ks all);
     }
 
 pub pieces-preserved : goal.pieces-preserved
@@ -49,11 +49,12 @@ pieces-preserved c =
         at = λ hs headers.
             let w = c.pieces.invariant.1.at hs headers in
             let h = next (goal.at.pieces-preserved c).In-Some w.rest w.left in
-            let each = (c.requires.run hs (of_headers t c.args.bytes.now q.0 places c.args.initials.now q.1 q.2 hs headers)).each in
+            let of = of_headers t c.args.bytes.now q.0 places c.args.initials.now q.1 q.2 hs headers in
+            let all = all_among hs c.args.initials.now of in
             let tells = says_tells t places (piece_in c.in-Some.piece) c.in_ok-fde.fde h.0 c.in_ok-fde.ensures.found h.3 in
-            between_next hs w h.0 h.1 h.2 h.4 (judge.found hs w.front h.0 tells each (c.pieces.invariant.2 hs each) (between_among hs w h.0 h.1 h.2) w.so);
+            between_next hs w h.0 h.1 h.2 h.4 (judge.found hs w.front h.0 tells all (c.requires.run hs of) (c.pieces.invariant.2 hs all) (between_among hs w h.0 h.1 h.2) w.so);
       },
-      λ hs all. judge.runner hs all (c.pieces.invariant.2 hs all),
+      λ hs all. judge.led hs all (c.pieces.invariant.2 hs all),
     )
 
 pub returns-in_err-fde-clause-first : goal.returns-in_err-fde-clause-first
@@ -75,10 +76,12 @@ returns-in-Err-clause-first c =
           let hs = headers_exist t s q.0 places c.args.initials.now q.1 q.2 (between_rest (FdeHolds t places) q.0 w w.so broken.1) in
           let v = c.pieces.invariant.1.at hs.0 hs.1 in
           let h = next (goal.at.returns-in-Err-clause-first c).In-Some v.rest v.left in
-          let initials = c.requires.run hs.0 (of_headers t s q.0 places c.args.initials.now q.1 q.2 hs.0 hs.1) in
+          let of = of_headers t s q.0 places c.args.initials.now q.1 q.2 hs.0 hs.1 in
+          let runs = c.requires.run hs.0 of in
+          let all = all_among hs.0 c.args.initials.now of in
           let tells = says_tells t places (piece_in c.in-Some.piece) c.in_ok-fde.fde h.0 c.in_ok-fde.ensures.found h.3 in
-          rw broken.0 (refuses_by c.in-Err.broken _ _ (λ r stuck. inl (inr (hs.0, (hs.1, initials.run), between_stuck (FdeRuns t hs.0) (FdeBroken t hs.0) hs.0 v h.0 h.1 r h.2 v.so.run stuck)))
-          (c.in-Err.ensures.stuck hs.0 h.0 tells initials.each (c.pieces.invariant.2 hs.0 initials.each)))
+          rw broken.0 (refuses_by c.in-Err.broken _ _ (λ r stuck. inl (inr (hs.0, (hs.1, runs), between_stuck (FdeRuns t hs.0) (FdeBroken t hs.0) hs.0 v h.0 h.1 r h.2 v.so.run stuck)))
+          (c.in-Err.ensures.stuck hs.0 h.0 tells all runs (c.pieces.invariant.2 hs.0 all)))
     ]
 
 pub returns-clause-found : goal.returns-clause-found
@@ -89,4 +92,4 @@ returns-clause-found c =
     let places = c.args.places.now in
     let hs = headers_exist t s q.0 places c.args.initials.now q.1 q.2 (walk_end _ c.pieces.invariant.0 c.in_default.ensures.gives q.0 q.1) in
     let none = λ (ks : List Head) (left : HeadsLeft places c.pieces.cursor ks). heads_none c.pieces.cursor.target places left.parts ks (c.in_default.ensures.gives left.parts left.left) left.each in
-    (hs.0, hs.1, c.requires.run hs.0 (of_headers t s q.0 places c.args.initials.now q.1 q.2 hs.0 hs.1), walk_end _ c.pieces.invariant.1 none hs.0 hs.1)
+    (hs.0, (hs.1, c.requires.run hs.0 (of_headers t s q.0 places c.args.initials.now q.1 q.2 hs.0 hs.1)), walk_end _ c.pieces.invariant.1 none hs.0 hs.1)

@@ -15,5 +15,5 @@ returns c =
     record {
       found = λ p stands at cie. subst (λ (q : Piece). IfOk c.read_initial.result (IsRead c.args.target q)) (same p stands at cie) c.read_initial.ensures.found;
       stuck = λ p stands at cie.
-          subst (λ (q : Piece). IfErr c.read_initial.result (CieStuck c.args.target q)) (same p stands at cie) (cie_stuck (initial_in c.in-Some.piece.form) c.args.target _ c.read_initial.result is.1 c.read_initial.ensures.exact);
+          subst (λ (q : Piece). IfErr c.read_initial.result (CieStuck c.args.target q)) (same p stands at cie) (cie_stuck initial_in c.args.target _ c.read_initial.result is.1 c.read_initial.ensures.exact);
     }

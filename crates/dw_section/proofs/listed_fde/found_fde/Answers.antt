@@ -1,5 +1,5 @@
-use Rattle.dw_section.proofs.Words.{◌≡◌, ◌∙◌, ℕ, List, map, refl, sym, ap, subst, Form, Target, Span, span_of, Piece, FdeHead, Head, Headers, Has, cie, fde, FdeFits, place_of, piece_in, Returns, Range, cie_places, StandsIn, IsAmong}
-use Rattle.dw_section.proofs.{Lent.Heads.all_in, StandLaws.{fde_from, own_stands}, Tables.places_so}
+use Rattle.dw_section.proofs.Words.{◌≡◌, ◌∙◌, ℕ, List, map, refl, sym, ap, Form, Target, Span, span_of, Piece, FdeHead, Head, Headers, Has, fde, FdeFits, place_of, piece_in, Returns, Range, cie_places, StandsIn}
+use Rattle.dw_section.proofs.{KeptCies.all_among, Lent.Heads.all_in, StandLaws.{fde_from, own_stands}, Tables.places_so}
 use Rattle.dw_section.proofs.listed_fde.found_fde.Goals as goal
 
 -- what is read at its place is the entry of the list
@@ -23,8 +23,8 @@ unreachable-requires-in_default-piece c =
     let w = own_stands c.args.target c.args.bytes.now q.0 _ _ q.1 q.3 in
     absurd (rw c.in_default-piece.is at (c.in-Ok.ensures.only w.0 w.1 (w.3 ∙ sym c.from-at.ensures)))
 
-pub initial_at-initial-requires : goal.initial_at-initial-requires
-initial_at-initial-requires c =
+pub initial_at-requires : goal.initial_at-requires
+initial_at-requires c =
     let q = c.requires.headers in
     let so = places_so c.args.target c.args.bytes.now q.0 c.args.initials.now q.1 q.2 in
     let has = own_here c.args.target c.args.bytes.now q.0 _ _ q.1 q.3 c.from-at.result c.from-at.ensures (piece_in c.in-Some.own) (λ x w e. rw c.in-Some.is at (c.in-Ok.ensures.only x w e)) in
@@ -41,7 +41,6 @@ program_behind-requires c =
 pub returns-clause-is : goal.returns-clause-is
 returns-clause-is c = λ hs headers initials r.
     let places = cie_places headers.entries in
-    let x = c.initial_at-initial.result.now in
     let has = own_here c.args.target c.args.bytes.now hs _ _ headers r c.from-at.result c.from-at.ensures (piece_in c.in-Some.own) (λ x w e. rw c.in-Some.is at (c.in-Ok.ensures.only x w e)) in
     let own = fde_from c.args.target places (piece_in c.in-Some.own) r.own has in
     let pointer = c.pointer_of-cie_at.ensures.only places r.own has in
@@ -49,10 +48,4 @@ returns-clause-is c = λ hs headers initials r.
     let covers = r.covers in
     let head = same_head r.own c.from-at.result c.in-Some.own.form c.pointer_of-cie_at.result c.args.fde.now.begin c.args.fde.now.range (span_of c.program_behind.result)
     (ap (λ (a : Range). a.at) covers ∙ sym c.from-at.ensures) (ap (λ (h : FdeHead). h.form) own.3) (sym pointer) (ap (λ (a : Range). a.begin) covers) (ap (λ (a : Range). a.range) covers) (ap (λ (h : FdeHead). h.program) own.3 ∙ sym program) in
-    let is = c.initial_at-initial.ensures.is c.args.target hs initials.each in (
-      c.in-Some.own.form,
-      is.0,
-      x.return_register,
-      rw head at r.own_among,
-      subst (λ (n : ℕ). IsAmong (cie (record { at = n; form = is.0; code_factor = x.factors.code_factor; data_factor = x.factors.data_factor; return_register = x.return_register; program = span_of x.program })) hs) c.initial_at-initial.ensures.place is.2,
-    )
+    record { own = rw head at r.own_among; named = c.initial_at.ensures.is hs (all_among hs c.args.initials.now initials); names = sym c.initial_at.ensures.place }

@@ -1,4 +1,4 @@
-use Rattle.dw_section.proofs.{Words.{sym, take, subst, AllByRecursion, Dwarf32, drop_more, take-append-drop, take_all, refuses_by, take_more, drop, ◌+◌}, KeptCies.{Ran, all_ran, first_broken}, Stages.{all_push, handed_on}}
+use Rattle.dw_section.proofs.{Words.{sym, take, subst, AllByRecursion, CieRuns, Initial, initial_in, drop_more, take-append-drop, take_all, refuses_by, take_more, drop, ◌+◌}, KeptCies.{all_ran, first_broken}, Stages.{all_push, handed_on}}
 use Rattle.dw_section.proofs.program.run_cies.Goals as goal
 
 pub loop-cie-preserved : goal.loop-cie-preserved
@@ -6,8 +6,7 @@ loop-cie-preserved c =
     let xs = c.args.initials.now in
     let i = c.loop-cie.cie-index in
     let x = c.cie-item.result in
-    let ran = c.in_ok-run_cie.ensures in
-    rw (take_more xs i x c.loop-cie-test.true, ← c.cie-item.is) (all_push (Ran c.args.target) (take i xs) x c.loop-cie.invariant (λ form. (ran.runs form, λ hs among. ran.found hs form among)))
+    rw (take_more xs i x c.loop-cie-test.true, ← c.cie-item.is) (all_push (λ (cie : Initial). CieRuns c.args.target (initial_in cie)) (take i xs) x c.loop-cie.invariant c.in_ok-run_cie.ensures.runs)
 
 pub returns-in_err-run_cie-clause-first : goal.returns-in_err-run_cie-clause-first
 returns-in_err-run_cie-clause-first c = λ hs of.
@@ -15,7 +14,7 @@ returns-in_err-run_cie-clause-first c = λ hs of.
     let i = c.loop-cie.cie-index in
     let x = c.cie-item.result in
     let whole = rw (drop_more xs i x c.loop-cie-test.true, ← c.cie-item.is) at (sym (take-append-drop i xs)) in
-    handed_on c.from_residual.result _ c.from_residual.ensures.1 (refuses_by c.in_err-run_cie.field-0.0 _ _ (λ r h. first_broken c.args.target hs xs r of (record { before = take i xs; it = x; after = drop (i + 1) xs; whole = whole; hold = c.loop-cie.invariant; stuck = λ form. h })) (c.in_err-run_cie.ensures.stuck Dwarf32))
+    handed_on c.from_residual.result _ c.from_residual.ensures.1 (refuses_by c.in_err-run_cie.field-0.0 _ _ (λ r h. first_broken c.args.target hs xs r of (record { before = take i xs; it = x; after = drop (i + 1) xs; whole = whole; hold = c.loop-cie.invariant; stuck = h })) c.in_err-run_cie.ensures.stuck)
 
 pub returns-clause-found : goal.returns-clause-found
-returns-clause-found c = λ hs of. all_ran c.args.target hs hs c.args.initials.now (λ h i. i) of (subst (AllByRecursion (Ran c.args.target)) (take_all c.loop-cie.cie-index c.args.initials.now c.loop-cie-test.false) c.loop-cie.invariant)
+returns-clause-found c = λ hs of. all_ran c.args.target hs c.args.initials.now of (subst (AllByRecursion (λ (cie : Initial). CieRuns c.args.target (initial_in cie))) (take_all c.loop-cie.cie-index c.args.initials.now c.loop-cie-test.false) c.loop-cie.invariant)

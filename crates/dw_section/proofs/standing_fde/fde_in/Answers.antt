@@ -39,7 +39,7 @@ returns-in_err-cie c =
     record {
       found = search rules;
       within = handed _ (cie_within c.args.target c.args.bytes.now (piece_in c.in-Some.named) _ at.2 stuck);
-      fault = handed _ (p.result, p.ensures.names, inr (Some (piece_in c.in-Some.named), cie, named_stuck c.args.target c.args.bytes.now own (piece_in c.in-Some.named) p.result (entry_in c.args.own.now.form c.in_ok-header.header) _ cie c.in_ok-header.ensures.found stuck));
+      fault = handed _ (p.result, p.ensures.names, inr (Some (piece_in c.in-Some.named), cie, named_stuck c.args.target c.args.bytes.now own (piece_in c.in-Some.named) p.result (entry_in c.in_ok-header.header) _ cie c.in_ok-header.ensures.found stuck));
       only = λ w.
           let named = named_of c.args.target c.args.bytes.now own w c.requires.stands p.result p.ensures.only in
           let same = rw c.in-Some.is at (c.in_ok-named.ensures.only w.2.named_piece w.2.named_stands named.0 named.1) in
@@ -49,7 +49,7 @@ returns-in_err-cie c =
 pub returns-clause-found : goal.returns-clause-found
 returns-clause-found c =
     let found = rw c.in-Some.is at c.in_ok-named.ensures.found in
-    stands_joined c.args.target c.args.bytes.now (piece_in c.args.own.now) (piece_in c.in-Some.named) c.pointer_of-pointer.result c.in_ok-header.header c.in_ok-cie.cie c.joined.result c.requires.stands found.2 found.0 c.in_ok-header.ensures.found (c.in_ok-cie.ensures.found []) c.joined.ensures
+    stands_joined c.args.target c.args.bytes.now (piece_in c.args.own.now) (piece_in c.in-Some.named) c.pointer_of-pointer.result (record { own = c.in_ok-header.header; cie = c.in_ok-cie.cie }) c.requires.stands found.2 found.0 c.in_ok-header.ensures.found (c.in_ok-cie.ensures.found [])
 
 -- ---- a refusal is the first fault
 

@@ -1,5 +1,5 @@
-use Rattle.dw_section.proofs.Words.{None, inr, refl, sym, ap, subst, ◌∙◌, arith, err_from_is_err_and, FdeHead, Outcome, found_cie, found_head, RulesAt, StandsAt, some_is}
-use Rattle.dw_section.proofs.{Lent.FdeLookup.same_fde, RowLookup.runs_so, StandLaws.{listed_stands, one_stands, stands_in_space, stands_listed}, StandFaults.no_refusal}
+use Rattle.dw_section.proofs.Words.{None, inr, refl, sym, ap, subst, ◌∙◌, arith, err_from_is_err_and, FdeHead, Outcome, entry_head, initial_head, RulesAt, StandsAt, some_is}
+use Rattle.dw_section.proofs.{Lent.FdeLookup.same_fde, RowLookup.runs_so, StandLaws.{listed_stands, one_stands, stands_in_space, stands_listed}, StandFaults.{no_refusal, refuses_so}}
 use Rattle.dw_section.proofs.standing_fde.row_of.Goals as goal
 
 pub returns-in_err-fde-clause-own : goal.returns-in_err-fde-clause-own
@@ -15,7 +15,7 @@ pub returns-then-not-covers-clause-bad : goal.returns-then-not-covers-clause-bad
 returns-then-not-covers-clause-bad c = λ is own named stands place le lt.
     let found = rw c.in-Some.is at c.in_ok-fde.ensures.found in
     let e = c.in-Some.fde in
-    let one = (one_stands c.args.target c.args.bytes.now own (found_head found.1.0 e) named (found_cie found.1.1 e.cie_at e.return_register e) stands found.1.2 (place ∙ sym found.0)).0 in
+    let one = (one_stands c.args.target c.args.bytes.now own (entry_head e.own) named (initial_head e.cie) stands found.1 (place ∙ sym found.0)).0 in
     let begins = ap (λ (x : FdeHead). x.begin) one in
     absurd (c.if-not-covers.ensures (omega (arith, begins, le), omega (arith, begins, ap (λ (x : FdeHead). x.range) one, lt)))
 
@@ -41,15 +41,21 @@ returns-in_err-run_fde-clause-own c = λ hs a register hold returns at le lt.
     let none = no_refusal c.in_err-run_fde.field-0.0 all (c.in_err-run_fde.ensures.err all (inr runs.give)) refl in
     rw (e.1, e.2, none) refl
 
+pub returns-in_err-run_fde-clause-refused : goal.returns-in_err-run_fde-clause-refused
+returns-in_err-run_fde-clause-refused c =
+    let found = rw c.in-Some.is at c.in_ok-fde.ensures.found in
+    let covers = c.if-not-covers.ensures in
+    let e = err_from_is_err_and c.from_residual-in_err-run_fde.result c.from_residual-in_err-run_fde.ensures.1 in
+    rw (e.1, e.2) (refuses_so _ _ c.in_err-run_fde.field-0.0 (λ r fault. inr (entry_head c.in-Some.fde.own, initial_head c.in-Some.fde.cie, found.1, found.0, covers.0, covers.1, fault)) c.in_err-run_fde.ensures.up_to)
+
 pub returns-clause-found : goal.returns-clause-found
 returns-clause-found c =
     let found = rw c.in-Some.is at c.in_ok-fde.ensures.found in
     let e = c.in-Some.fde in
-    let stands = found.1 in
-    rw c.standing_fde.ensures (record {
-      own = found_head stands.0 e;
-      named = found_cie stands.1 e.cie_at e.return_register e;
-      stands = stands.2;
+    rw c.told.ensures.is (record {
+      own = entry_head e.own;
+      named = initial_head e.cie;
+      stands = found.1;
       place = found.0;
       begin = refl;
       end = refl;
@@ -69,4 +75,4 @@ returns-clause-own c = λ hs a register hold returns at le lt.
     let runs = runs_so c.args.target c.args.bytes.now hs hold e same.found c.are_bytes.ensures in
     let row = runs.rules c.args.address c.if-not-covers.ensures.0 c.if-not-covers.ensures.1 in
     let one = some_is row.0 c.run_fde.new.room (sym row.1 ∙ c.in_ok-run_fde.ensures.found (record { rows = runs.rows; fault = None }) (inr runs.give)) in
-    (c.standing_fde.ensures ∙ same_fde e.begin e.range e.return_register a.begin a.range register same.begin same.range same.register_is, subst (RulesAt c.args.target c.args.bytes.now c.args.address) one row.2)
+    (c.told.ensures.is ∙ same_fde e.own.begin e.own.range e.cie.return_register a.begin a.range register same.begin same.range same.register_is, subst (RulesAt c.args.target c.args.bytes.now c.args.address) one row.2)

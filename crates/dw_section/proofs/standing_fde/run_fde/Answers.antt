@@ -4,7 +4,7 @@ use Rattle.dw_section.proofs.standing_fde.run_fde.Goals as goal
 pub returns-clause-runs : goal.returns-clause-runs
 returns-clause-runs c =
     let e = c.args.fde.now in
-    let one = one_run e.factors (input_of c.args.target (span_of e.cie_program)) (input_of c.args.target (span_of e.program)) e.begin c.are_bytes.ensures c.are_bytes-2.ensures (omega (arith, c.requires.in_space)) in
+    let one = one_run e.cie.factors (input_of c.args.target (span_of e.cie.program)) (input_of c.args.target (span_of e.own.program)) e.own.begin c.are_bytes.ensures c.are_bytes-2.ensures (omega (arith, c.requires.in_space)) in
     (one.0, one.1)
 
 pub returns-clause-within : goal.returns-clause-within

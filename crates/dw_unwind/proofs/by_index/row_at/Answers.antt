@@ -1,4 +1,4 @@
-use Rattle.dw_unwind.proofs.Words.{◌≡◌, map, refl, subst, ap, inr, Rules, Fde, fde_in, range_in, IsLed}
+use Rattle.dw_unwind.proofs.Words.{◌≡◌, map, refl, subst, inr, Rules, fde_in, range_in, IsLed}
 use Rattle.dw_cfa.specs.declared.rule.CfaRule.TheVariants.{Unset}
 use Rattle.dw_section.proofs.Lent.FdeLookup.{are_fdes}
 use Rattle.dw_unwind.proofs.by_index.row_at.Goals as goal
@@ -34,14 +34,14 @@ returns-clause-own c = λ t.
       fde = c.in-Some.fde;
       among = own.1 (map fde_in c.args.index.now) are;
       covers = found.2.covers;
-      returns = ap (λ (f : Fde). f.return_register) c.fde.ensures;
+      returns = refl;
       rules = own.0;
     }
 
 pub returns-clause-led : goal.returns-clause-led
 returns-clause-led c =
     let found = rw c.in-Some.is at c.in_ok-fde.ensures.found in
-    record { at = found.0; leads = found.1; fde = c.in-Some.fde; returns = ap (λ (f : Fde). f.return_register) c.fde.ensures; rules = found.2 }
+    record { at = found.0; leads = found.1; fde = c.in-Some.fde; returns = refl; rules = found.2 }
 
 pub returns-clause-fits : goal.returns-clause-fits
 returns-clause-fits c = rw c.in-Some.is at (c.in_ok-fde.ensures.fits)

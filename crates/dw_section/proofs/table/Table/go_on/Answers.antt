@@ -1,11 +1,12 @@
-use Rattle.dw_section.proofs.{Words.{◌∙◌, ap, refl, Changing}, RowLookup.runs_found}
+use Rattle.dw_section.proofs.{Words.{◌∙◌, ap, subst, Changing, Head, Headers, IsAmong, List, initial_in}, Lent.HeaderLaws.one_headers, RowLookup.runs_found}
 use Rattle.dw_section.proofs.table.Table.go_on.Goals as goal
 
 pub go_on-requires : goal.go_on-requires
 go_on-requires c =
     let found = c.found-found.ensures.found in
     let runs = runs_found c.args.self.now.target c.args.self.now.bytes c.accepted.ensures.bytes c.found-found.result found in
-    rw c.requires.section (record { in_space = runs.in_space; known = (runs.rows, runs.give); led = record { headers = found.headers; hold = found.hold; names = (found.is.1, found.is.2, found.is.4); target_is = refl } })
+    let among = λ (hs : List Head) (are : Headers c.args.self.now.target c.args.self.now.bytes hs). subst (λ (l : List Head). IsAmong (initial_in c.found-found.result.cie) l) (one_headers c.args.self.now.target c.args.self.now.bytes found.headers hs found.hold.0.0.0 are) found.is.named in
+    rw c.requires.section (record { in_space = runs.in_space; known = (runs.rows, runs.give); among = among })
 
 pub returns : goal.returns
 returns c =
