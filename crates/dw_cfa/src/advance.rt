@@ -4,7 +4,7 @@ ghost use Rattle.std.specs.Prelude.{◌≤◌};
 ghost use Rattle.dw_num.specs.{Fixed.IsWidth, Target.address_limit};
 ghost use Rattle.dw_cfa.specs.Inner.{ByOpcode.{advance_at, set_loc_at}, Turns.{IsWithinLimit, Taken}};
 
-use crate::instr::{Factors, Instr};
+use crate::instr::Factors;
 use crate::keep::Keep;
 use crate::machine::{End, refused};
 use crate::opcode::distance;
@@ -29,7 +29,7 @@ pub(crate) fn run_fixed_advance<'a, K: Keep<'a>>(
         Ok(delta) => delta,
         Err(refusal) => return refused(refusal, fault),
     };
-    keep.take(Instr::Advance(distance(delta, factors)), at, fault)
+    keep.advance(distance(delta, factors), at, fault)
 }
 
 /// The same out of line, for advances that are rare, so that the loop that runs a program stays small.
@@ -66,5 +66,5 @@ pub(crate) fn run_set_loc<'a, K: Keep<'a>>(
         Ok(address) => address,
         Err(refusal) => return refused(refusal, fault),
     };
-    keep.take(Instr::SetLoc(address), at, fault)
+    keep.go(address, at, fault)
 }

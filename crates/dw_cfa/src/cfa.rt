@@ -3,7 +3,7 @@
 ghost use Rattle.dw_cfa.specs.Inner.ByOpcode.{def_cfa_at, def_cfa_sf_at, def_cfa_register_at, def_cfa_offset_at, def_cfa_offset_sf_at, def_cfa_expression_at};
 ghost use Rattle.dw_cfa.specs.Inner.Turns.{IsWithinLimit, Taken};
 
-use crate::instr::{Factors, Instr};
+use crate::instr::Factors;
 use crate::keep::Keep;
 use crate::machine::{End, refused};
 use crate::opcode::{block, plain, signed};
@@ -29,7 +29,7 @@ pub(crate) fn run_def_cfa<'a, K: Keep<'a>>(
         Ok(offset) => offset,
         Err(refusal) => return refused(refusal, fault),
     };
-    keep.take(Instr::DefCfa { register, offset }, at, fault)
+    keep.def_cfa(register, offset, at, fault)
 }
 
 /// The same with an offset that is signed and factored.
@@ -53,7 +53,7 @@ pub(crate) fn run_def_cfa_sf<'a, K: Keep<'a>>(
         Ok(offset) => offset,
         Err(refusal) => return refused(refusal, fault),
     };
-    keep.take(Instr::DefCfa { register, offset }, at, fault)
+    keep.def_cfa(register, offset, at, fault)
 }
 
 /// The CFA is another register plus the same offset.
@@ -72,7 +72,7 @@ pub(crate) fn run_def_cfa_register<'a, K: Keep<'a>>(
         Ok(register) => register,
         Err(refusal) => return refused(refusal, fault),
     };
-    keep.take(Instr::DefCfaRegister(register), at, fault)
+    keep.def_cfa_register(register, at, fault)
 }
 
 /// The CFA is the same register plus another offset.
@@ -91,7 +91,7 @@ pub(crate) fn run_def_cfa_offset<'a, K: Keep<'a>>(
         Ok(offset) => offset,
         Err(refusal) => return refused(refusal, fault),
     };
-    keep.take(Instr::DefCfaOffset(offset), at, fault)
+    keep.def_cfa_offset(offset, at, fault)
 }
 
 /// The same with an offset that is signed and factored.
@@ -111,7 +111,7 @@ pub(crate) fn run_def_cfa_offset_sf<'a, K: Keep<'a>>(
         Ok(offset) => offset,
         Err(refusal) => return refused(refusal, fault),
     };
-    keep.take(Instr::DefCfaOffset(offset), at, fault)
+    keep.def_cfa_offset(offset, at, fault)
 }
 
 /// The CFA is what an expression gives.
@@ -130,5 +130,5 @@ pub(crate) fn run_def_cfa_expression<'a, K: Keep<'a>>(
         Ok(expression) => expression,
         Err(refusal) => return refused(refusal, fault),
     };
-    keep.take(Instr::DefCfaExpression(expression), at, fault)
+    keep.def_cfa_expression(expression, at, fault)
 }

@@ -1,55 +1,14 @@
 //! The instructions of a program, one after another.
 
 ghost use Rattle.std.specs.{Prelude.{◌≡◌, ◌+◌, ◌≤◌, ◌↔◌, IfSome, List, length}, Iterator.{YieldsFirst, item_count}};
-ghost use Rattle.dw_num.specs.{declared.refusal.Refusal.{Refusal}, Inner.Front.Gives};
-ghost use Rattle.dw_cfa.specs.{InstrSpells.ProgramSpells, Listing.{ProgramFault, complete, faulty, answers}, Rows.blank};
-ghost use Rattle.dw_cfa.specs.{declared.{instr.Instr.Instr, machine.End.End}, Inner.{FrontInstr.instr_at, Listing.{Yields, left_of}, Turns.cie_machine}};
+ghost use Rattle.dw_num.specs.declared.refusal.Refusal.{Refusal};
+ghost use Rattle.dw_cfa.specs.{InstrSpells.ProgramSpells, Listing.{ProgramFault, complete, faulty, answers}};
+ghost use Rattle.dw_cfa.specs.{declared.instr.Instr.Instr, Inner.Listing.{Yields, left_of}};
 
 use crate::instr::{Factors, Instr};
-use crate::keep::Keep;
-use crate::machine::End;
-use crate::turn::execute;
-use dw_num::{Code, Cursor, Program, Refusal, Target, are_bytes};
+use crate::noted::read_instr;
+use dw_num::{Cursor, Program, Refusal, Target, are_bytes};
 use std::marker::Model;
-
-// The last instruction of a program that was read. It runs none: its machine stays as it is.
-#[derive(Drop)]
-struct Noted<'a> {
-    instr: Instr<'a>,
-}
-
-impl<'a> Keep<'a> for Noted<'a> {
-    ghost machine = { λ k. cie_machine blank };
-
-    ghost takes = { λ k i at end fault k'. (end ≡ End.On) × (k'.instr ≡ i) };
-
-    #[inline(always)]
-    fn take(&mut self, instr: Instr<'a>, _at: u64, _fault: &mut Refusal) -> End {
-        self.instr = instr;
-        End::On
-    }
-
-    #[inline(always)]
-    fn is_above(&self, _address: u64) -> bool {
-        false
-    }
-}
-
-// The instruction at the front of a program, its factors multiplied out, or its first fault: an opcode that
-// is no instruction's, then its operands' from left to right, then an offset that is too large.
-#[tactic(auto, using(crate::proofs::Turns::in_limit))]
-fn read_instr<'a>(cursor: &mut Cursor<'a>, factors: Factors) -> Result<Instr<'a>, Refusal>
-    ensures exact { Gives (λ i. i) result (instr_at factors cursor.old) cursor.new }
-{
-    let mut noted = Noted { instr: Instr::Nop };
-    let code = Code::Truncated;
-    let mut fault = Refusal { code, at: 0 };
-    match execute(cursor, factors, &mut noted, &mut fault) {
-        End::On => Ok(noted.instr),
-        End::Refused => Err(fault),
-        End::Moved | End::OutOfMemory => unreachable!(),
-    }
-}
 
 /// An iterator over the instructions of a program (6.4.2, 7.24), which ends after its first fault. A contract
 /// sees the instructions that are still to come, and the fault that comes behind them. Takes no memory.

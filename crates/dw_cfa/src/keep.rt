@@ -1,15 +1,16 @@
 //! What is done with the instructions of a program, one after another.
 
-ghost use Rattle.std.specs.Prelude.{◌≡◌, ℕ, ◌≤◌, MatchOption, None, Some, false, nat_lt, true};
-ghost use Rattle.dw_num.specs.declared.refusal.{Code.TheVariants.CfaNotRegister, Refusal.{Refusal}};
-ghost use Rattle.dw_cfa.specs.{Column.cfa_change, declared.instr.{Instr.Instr, Instr.TheVariants.{Advance, SetLoc}}, declared.machine.End.End};
-ghost use Rattle.dw_cfa.specs.{declared.machine.Machine.Machine, Inner.Machine.half_fault, Inner.Steps.InLimit, Inner.Turns.{Did, IsWithinLimit, cie_machine}};
+ghost use Rattle.std.specs.Prelude.{◌≡◌, ℕ, ◌≤◌, false, nat_lt, true};
+ghost use Rattle.dw_num.specs.declared.refusal.Refusal.{Refusal};
+ghost use Rattle.dw_cfa.specs.declared.instr.{Instr.Instr, Instr.TheVariants.{Advance, DefCfa, DefCfaExpression, DefCfaOffset, DefCfaRegister}};
+ghost use Rattle.dw_cfa.specs.declared.{instr.Instr.TheVariants.{Nop, RememberState, Restore, RestoreState, Set, SetLoc}, machine.End.End};
+ghost use Rattle.dw_cfa.specs.{declared.machine.Machine.Machine, Inner.Turns.{Did, IsWithinLimit, cie_machine}};
 
-use crate::instr::Instr;
 use crate::machine::{End, Machine, refuse};
 use crate::row::Row;
-use crate::rule::CfaRule;
+use crate::rule::{CfaRule, RegRule};
 use dw_num::{Code, Refusal};
+use dw_op::ExprRef;
 
 // How many states can be remembered at once.
 const MOST_REMEMBERED: usize = 64;
@@ -21,69 +22,65 @@ pub(crate) trait Keep<'a> {
     // It takes the instruction of a place, and ends so, or is refused so.
     ghost takes: { Self → Instr → ℕ → End → Refusal → Self → Type 0 };
 
-    /// Takes an instruction, which names no address above the limit.
-    fn take(&mut self, instr: Instr<'a>, at: u64, fault: &mut Refusal) -> End
+    /// Does nothing (6.4.2.5).
+    fn nop(&mut self, at: u64, fault: &mut Refusal) -> End
+        requires { IsWithinLimit (machine self.old) }
+        ensures { takes self.old Nop at result fault.new self.new };
+
+    /// The CFA is a register plus an offset.
+    fn def_cfa(&mut self, register: u16, offset: i64, at: u64, fault: &mut Refusal) -> End
+        requires { IsWithinLimit (machine self.old) }
+        ensures { takes self.old (DefCfa register offset) at result fault.new self.new };
+
+    /// The CFA is another register plus the same offset.
+    fn def_cfa_register(&mut self, register: u16, at: u64, fault: &mut Refusal) -> End
+        requires { IsWithinLimit (machine self.old) }
+        ensures { takes self.old (DefCfaRegister register) at result fault.new self.new };
+
+    /// The CFA is the same register plus another offset.
+    fn def_cfa_offset(&mut self, offset: i64, at: u64, fault: &mut Refusal) -> End
+        requires { IsWithinLimit (machine self.old) }
+        ensures { takes self.old (DefCfaOffset offset) at result fault.new self.new };
+
+    /// The CFA is what an expression gives.
+    fn def_cfa_expression(&mut self, expression: ExprRef<'a>, at: u64, fault: &mut Refusal) -> End
+        requires { IsWithinLimit (machine self.old) }
+        ensures { takes self.old (DefCfaExpression expression.entry) at result fault.new self.new };
+
+    /// Gives a register a rule.
+    fn set(&mut self, register: u16, rule: RegRule<'a>, at: u64, fault: &mut Refusal) -> End
+        requires { IsWithinLimit (machine self.old) }
+        ensures { takes self.old (Set register rule.entry) at result fault.new self.new };
+
+    /// Gives a register the rule that it has in the initial row.
+    fn restore(&mut self, register: u16, at: u64, fault: &mut Refusal) -> End
+        requires { IsWithinLimit (machine self.old) }
+        ensures { takes self.old (Restore register) at result fault.new self.new };
+
+    /// Remembers the row (6.4.2.4).
+    fn remember(&mut self, at: u64, fault: &mut Refusal) -> End
+        requires { IsWithinLimit (machine self.old) }
+        ensures { takes self.old RememberState at result fault.new self.new };
+
+    /// Goes back to the row that was remembered last (6.4.2.4).
+    fn recall(&mut self, at: u64, fault: &mut Refusal) -> End
+        requires { IsWithinLimit (machine self.old) }
+        ensures { takes self.old RestoreState at result fault.new self.new };
+
+    /// Moves the location on.
+    fn advance(&mut self, distance: u128, at: u64, fault: &mut Refusal) -> End
+        requires { IsWithinLimit (machine self.old) }
+        ensures { takes self.old (Advance distance) at result fault.new self.new };
+
+    /// Moves the location to an address that is not below it.
+    fn go(&mut self, address: u64, at: u64, fault: &mut Refusal) -> End
         requires within { IsWithinLimit (machine self.old) }
-        requires limit { InLimit (machine self.old).limit instr }
-        ensures { takes self.old instr.entry at result fault.new self.new };
+        requires limit { address ≤ (machine self.old).limit }
+        ensures { takes self.old (SetLoc address) at result fault.new self.new };
 
     /// Whether the location is above an address.
     fn is_above(&self, address: u64) -> bool
         ensures { result ≡ nat_lt address (machine self.now).location };
-}
-
-/// The CFA's rule behind an instruction (6.4.2.2), or none where that keeps half of a rule that has none.
-#[inline(always)]
-pub(crate) fn cfa_behind<'a>(instr: Instr<'a>, cfa: &CfaRule<'a>) -> Option<CfaRule<'a>>
-    ensures { MatchOption result (half_fault instr.entry cfa.now ≡ Some CfaNotRegister) (λ rule. (half_fault instr.entry cfa.now ≡ None) × (rule ≡ cfa_change instr.entry cfa.now)) }
-{
-    match (instr, cfa) {
-        (Instr::DefCfa { register, offset }, _) => Some(CfaRule::Register { register, offset }),
-        (Instr::DefCfaExpression(expression), _) => Some(CfaRule::Expression(expression)),
-        (Instr::DefCfaRegister(register), CfaRule::Register { offset, .. }) => {
-            Some(CfaRule::Register {
-                register,
-                offset: *offset,
-            })
-        }
-        (Instr::DefCfaOffset(offset), CfaRule::Register { register, .. }) => {
-            Some(CfaRule::Register {
-                register: *register,
-                offset,
-            })
-        }
-        (Instr::DefCfaRegister(_) | Instr::DefCfaOffset(_), _) => None,
-        _ => Some(cfa.copied()),
-    }
-}
-
-impl<'a> Machine<'a> {
-    // Moves the location on.
-    #[inline(always)]
-    fn advance(&mut self, distance: u128, at: u64, fault: &mut Refusal) -> End
-        requires { IsWithinLimit self.old }
-        ensures { Did false (Advance distance) at self.old result fault.new self.new }
-    {
-        if distance > self.limit - self.location {
-            return refuse(Code::LocationTooLarge, at, fault);
-        }
-        self.location += distance;
-        End::Moved
-    }
-
-    // Moves the location to an address that is not below it.
-    #[inline(always)]
-    fn go(&mut self, address: u64, at: u64, fault: &mut Refusal) -> End
-        requires { address ≤ self.old.limit }
-        ensures { Did false (SetLoc address) at self.old result fault.new self.new }
-    {
-        let address = u128::from(address);
-        if address < self.location {
-            return refuse(Code::LocationBackwards, at, fault);
-        }
-        self.location = address;
-        End::Moved
-    }
 }
 
 impl<'a> Keep<'a> for Machine<'a> {
@@ -92,41 +89,104 @@ impl<'a> Keep<'a> for Machine<'a> {
     ghost takes = { λ m i at end fault m'. Did false i at m end fault m' };
 
     #[inline(always)]
-    fn take(&mut self, instr: Instr<'a>, at: u64, fault: &mut Refusal) -> End {
-        match instr {
-            Instr::Nop => End::On,
-            Instr::SetLoc(address) => self.go(address, at, fault),
-            Instr::Advance(distance) => self.advance(distance, at, fault),
-            Instr::Set(register, rule) => match self.states.set(register, rule) {
-                Ok(()) => End::On,
-                Err(_) => End::OutOfMemory,
-            },
-            Instr::Restore(register) => match self.states.set_as(&self.initial, register) {
-                Ok(()) => End::On,
-                Err(_) => End::OutOfMemory,
-            },
-            Instr::RememberState => {
-                if self.states.depth() >= MOST_REMEMBERED {
-                    return refuse(Code::StateStackFull, at, fault);
-                }
-                match self.states.remember() {
-                    Ok(()) => End::On,
-                    Err(_) => End::OutOfMemory,
-                }
-            }
-            Instr::RestoreState => match self.states.restore() {
-                Ok(true) => End::On,
-                Ok(false) => refuse(Code::EmptyStateStack, at, fault),
-                Err(_) => End::OutOfMemory,
-            },
-            definition => match cfa_behind(definition, self.states.row().cfa_rule()) {
-                Some(rule) => {
-                    self.states.set_cfa(rule);
-                    End::On
-                }
-                None => refuse(Code::CfaNotRegister, at, fault),
-            },
+    fn nop(&mut self, _at: u64, _fault: &mut Refusal) -> End {
+        End::On
+    }
+
+    #[inline(always)]
+    fn def_cfa(&mut self, register: u16, offset: i64, _at: u64, _fault: &mut Refusal) -> End {
+        let rule = CfaRule::Register { register, offset };
+        self.states.set_cfa(rule);
+        End::On
+    }
+
+    #[inline(always)]
+    fn def_cfa_register(&mut self, register: u16, at: u64, fault: &mut Refusal) -> End {
+        let CfaRule::Register { offset, .. } = self.states.row().cfa_rule() else {
+            return refuse(Code::CfaNotRegister, at, fault);
+        };
+        let offset = *offset;
+        let rule = CfaRule::Register { register, offset };
+        self.states.set_cfa(rule);
+        End::On
+    }
+
+    #[inline(always)]
+    fn def_cfa_offset(&mut self, offset: i64, at: u64, fault: &mut Refusal) -> End {
+        let CfaRule::Register { register, .. } = self.states.row().cfa_rule() else {
+            return refuse(Code::CfaNotRegister, at, fault);
+        };
+        let register = *register;
+        let rule = CfaRule::Register { register, offset };
+        self.states.set_cfa(rule);
+        End::On
+    }
+
+    #[inline(always)]
+    fn def_cfa_expression(
+        &mut self,
+        expression: ExprRef<'a>,
+        _at: u64,
+        _fault: &mut Refusal,
+    ) -> End {
+        self.states.set_cfa(CfaRule::Expression(expression));
+        End::On
+    }
+
+    #[inline(always)]
+    fn set(&mut self, register: u16, rule: RegRule<'a>, _at: u64, _fault: &mut Refusal) -> End {
+        if self.states.set(register, rule).is_err() {
+            return End::OutOfMemory;
         }
+        End::On
+    }
+
+    // Out of line, as the loop that runs a program is large enough.
+    #[inline(never)]
+    fn restore(&mut self, register: u16, _at: u64, _fault: &mut Refusal) -> End {
+        if self.states.set_as(&self.initial, register).is_err() {
+            return End::OutOfMemory;
+        }
+        End::On
+    }
+
+    #[inline(always)]
+    fn remember(&mut self, at: u64, fault: &mut Refusal) -> End {
+        if self.states.depth() >= MOST_REMEMBERED {
+            return refuse(Code::StateStackFull, at, fault);
+        }
+        if self.states.remember().is_err() {
+            return End::OutOfMemory;
+        }
+        End::On
+    }
+
+    #[inline(always)]
+    fn recall(&mut self, at: u64, fault: &mut Refusal) -> End {
+        match self.states.restore() {
+            Ok(true) => End::On,
+            Ok(false) => refuse(Code::EmptyStateStack, at, fault),
+            Err(_) => End::OutOfMemory,
+        }
+    }
+
+    #[inline(always)]
+    fn advance(&mut self, distance: u128, at: u64, fault: &mut Refusal) -> End {
+        if distance > self.limit - self.location {
+            return refuse(Code::LocationTooLarge, at, fault);
+        }
+        self.location += distance;
+        End::Moved
+    }
+
+    #[inline(always)]
+    fn go(&mut self, address: u64, at: u64, fault: &mut Refusal) -> End {
+        let address = u128::from(address);
+        if address < self.location {
+            return refuse(Code::LocationBackwards, at, fault);
+        }
+        self.location = address;
+        End::Moved
     }
 
     #[inline(always)]
@@ -142,26 +202,76 @@ impl<'a> Keep<'a> for Row<'a> {
     ghost takes = { λ row i at end fault row'. Did true i at (cie_machine row) end fault (cie_machine row') };
 
     #[inline(always)]
-    fn take(&mut self, instr: Instr<'a>, at: u64, fault: &mut Refusal) -> End {
-        match instr {
-            Instr::Nop => End::On,
-            Instr::Set(register, rule) => match self.set(register, rule) {
-                Ok(()) => End::On,
-                Err(_) => End::OutOfMemory,
-            },
-            Instr::SetLoc(_)
-            | Instr::Advance(_)
-            | Instr::Restore(_)
-            | Instr::RememberState
-            | Instr::RestoreState => refuse(Code::NotInCie, at, fault),
-            definition => match cfa_behind(definition, self.cfa_rule()) {
-                Some(rule) => {
-                    self.set_cfa(rule);
-                    End::On
-                }
-                None => refuse(Code::CfaNotRegister, at, fault),
-            },
+    fn nop(&mut self, _at: u64, _fault: &mut Refusal) -> End {
+        End::On
+    }
+
+    #[inline(always)]
+    fn def_cfa(&mut self, register: u16, offset: i64, _at: u64, _fault: &mut Refusal) -> End {
+        let rule = CfaRule::Register { register, offset };
+        self.set_cfa(rule);
+        End::On
+    }
+
+    #[inline(always)]
+    fn def_cfa_register(&mut self, register: u16, at: u64, fault: &mut Refusal) -> End {
+        let CfaRule::Register { offset, .. } = self.cfa_rule() else {
+            return refuse(Code::CfaNotRegister, at, fault);
+        };
+        let offset = *offset;
+        let rule = CfaRule::Register { register, offset };
+        self.set_cfa(rule);
+        End::On
+    }
+
+    #[inline(always)]
+    fn def_cfa_offset(&mut self, offset: i64, at: u64, fault: &mut Refusal) -> End {
+        let CfaRule::Register { register, .. } = self.cfa_rule() else {
+            return refuse(Code::CfaNotRegister, at, fault);
+        };
+        let register = *register;
+        let rule = CfaRule::Register { register, offset };
+        self.set_cfa(rule);
+        End::On
+    }
+
+    #[inline(always)]
+    fn def_cfa_expression(
+        &mut self,
+        expression: ExprRef<'a>,
+        _at: u64,
+        _fault: &mut Refusal,
+    ) -> End {
+        self.set_cfa(CfaRule::Expression(expression));
+        End::On
+    }
+
+    #[inline(always)]
+    fn set(&mut self, register: u16, rule: RegRule<'a>, _at: u64, _fault: &mut Refusal) -> End {
+        if Row::set(self, register, rule).is_err() {
+            return End::OutOfMemory;
         }
+        End::On
+    }
+
+    fn restore(&mut self, _register: u16, at: u64, fault: &mut Refusal) -> End {
+        refuse(Code::NotInCie, at, fault)
+    }
+
+    fn remember(&mut self, at: u64, fault: &mut Refusal) -> End {
+        refuse(Code::NotInCie, at, fault)
+    }
+
+    fn recall(&mut self, at: u64, fault: &mut Refusal) -> End {
+        refuse(Code::NotInCie, at, fault)
+    }
+
+    fn advance(&mut self, _distance: u128, at: u64, fault: &mut Refusal) -> End {
+        refuse(Code::NotInCie, at, fault)
+    }
+
+    fn go(&mut self, _address: u64, at: u64, fault: &mut Refusal) -> End {
+        refuse(Code::NotInCie, at, fault)
     }
 
     fn is_above(&self, _address: u64) -> bool {

@@ -6,7 +6,7 @@ ghost use Rattle.dw_cfa.specs.{Behind.LeavesTo, RowSteps.program_input, Inner.St
 ghost use Rattle.dw_cfa.specs.{declared.instr.{Factors.{Factors as TheFactors}, Instr.TheVariants.Nop}, Inner.FrontInstr.instr_at};
 ghost use Rattle.dw_cfa.specs.Inner.RowWalk.{HasInitial, IsLed, LeadsSame, led_row};
 
-use crate::instr::{Factors, Instr};
+use crate::instr::Factors;
 use crate::keep::Keep;
 use crate::machine::{End, Machine};
 use crate::row::Row;
@@ -68,7 +68,7 @@ fn write_one<'a>(
     are_bytes(cursor.rest());
     let at = cursor.at();
     if pass_nop(cursor) {
-        return row.take(Instr::Nop, at, fault);
+        return row.nop(at, fault);
     }
     execute(cursor, factors, row, fault)
 }

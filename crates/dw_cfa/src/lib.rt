@@ -22,6 +22,7 @@ mod machine;
 mod masked;
 mod near_slots;
 mod next_row;
+mod noted;
 mod opcode;
 mod opening;
 mod register_set;

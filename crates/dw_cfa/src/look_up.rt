@@ -3,16 +3,16 @@
 
 ghost use Rattle.std.specs.Prelude.{◌≡◌, ◌≤◌, ◌+◌, false, None, IfSome};
 ghost use Rattle.dw_num.specs.Target.{address_limit};
-ghost use Rattle.dw_cfa.specs.{Rows.blank, declared.instr.Instr.TheVariants.{RememberState, RestoreState}, Inner.LookUp.{SpecifiesIn, kept_if, look_up_at}, Inner.Turns.{Did, IsWithinLimit}};
+ghost use Rattle.dw_cfa.specs.{Rows.blank, Inner.LookUp.{SpecifiesIn, kept_if, look_up_at}, Inner.Turns.Did};
 
 use crate::entries::NEAR;
-use crate::instr::Instr;
-use crate::keep::{Keep, cfa_behind};
+use crate::keep::Keep;
 use crate::machine::{End, refuse};
 use crate::near_slots::is_in;
 use crate::row::Row;
-use crate::rule::RegRule;
+use crate::rule::{CfaRule, RegRule};
 use dw_num::{Code, Refusal, Size};
+use dw_op::ExprRef;
 use std::alloc::Global;
 use std::snapshot::Snapshot;
 
@@ -92,14 +92,80 @@ impl<'a> LookUp<'a> {
     }
 }
 
-impl<'a> LookUp<'a> {
-    // Remembers the row. One with registers in a tree is not copied: thousands of states could be remembered of one with thousands
-    // of registers.
+impl<'a> Keep<'a> for LookUp<'a> {
+    ghost machine = { λ k. look_up_at k.initial.value (address_limit k.size) k.row (kept_if k.remembers k.kept) k.location };
+
+    ghost takes = { λ k i at end fault k'. Did false i at (look_up_at k.initial.value (address_limit k.size) k.row (kept_if k.remembers k.kept) k.location) end fault (look_up_at k'.initial.value (address_limit k'.size) k'.row (kept_if k'.remembers k'.kept) k'.location) };
+
+    #[inline(always)]
+    fn nop(&mut self, _at: u64, _fault: &mut Refusal) -> End {
+        End::On
+    }
+
+    #[inline(always)]
+    fn def_cfa(&mut self, register: u16, offset: i64, _at: u64, _fault: &mut Refusal) -> End {
+        let rule = CfaRule::Register { register, offset };
+        self.row.set_cfa(rule);
+        End::On
+    }
+
+    #[inline(always)]
+    fn def_cfa_register(&mut self, register: u16, at: u64, fault: &mut Refusal) -> End {
+        let CfaRule::Register { offset, .. } = self.row.cfa_rule() else {
+            return refuse(Code::CfaNotRegister, at, fault);
+        };
+        let offset = *offset;
+        let rule = CfaRule::Register { register, offset };
+        self.row.set_cfa(rule);
+        End::On
+    }
+
+    #[inline(always)]
+    fn def_cfa_offset(&mut self, offset: i64, at: u64, fault: &mut Refusal) -> End {
+        let CfaRule::Register { register, .. } = self.row.cfa_rule() else {
+            return refuse(Code::CfaNotRegister, at, fault);
+        };
+        let register = *register;
+        let rule = CfaRule::Register { register, offset };
+        self.row.set_cfa(rule);
+        End::On
+    }
+
+    #[inline(always)]
+    fn def_cfa_expression(
+        &mut self,
+        expression: ExprRef<'a>,
+        _at: u64,
+        _fault: &mut Refusal,
+    ) -> End {
+        self.row.set_cfa(CfaRule::Expression(expression));
+        End::On
+    }
+
+    #[inline(always)]
+    fn set(&mut self, register: u16, rule: RegRule<'a>, _at: u64, _fault: &mut Refusal) -> End {
+        self.row.ascends();
+        if self.row.set(register, rule).is_err() {
+            return End::OutOfMemory;
+        }
+        End::On
+    }
+
+    #[inline(always)]
+    fn restore(&mut self, register: u16, _at: u64, _fault: &mut Refusal) -> End {
+        if register >= NEAR || is_in(self.specified, register) {
+            return End::OutOfMemory;
+        }
+        self.row.ascends();
+        if self.row.set(register, RegRule::Unspecified).is_err() {
+            return End::OutOfMemory;
+        }
+        End::On
+    }
+
+    // A row with registers in a tree is not copied: thousands of states could be remembered of one with thousands of registers.
     #[inline(never)]
-    fn remember(&mut self, at: u64, fault: &mut Refusal) -> End
-        requires { IsWithinLimit (⟦<LookUp<'a> as Keep<'a>>⟧.machine self.old) }
-        ensures { ⟦<LookUp<'a> as Keep<'a>>⟧.takes self.old RememberState at result fault.new self.new }
-    {
+    fn remember(&mut self, _at: u64, _fault: &mut Refusal) -> End {
         if self.remembers || self.row.is_wide() || self.kept.become_copy(&self.row).is_err() {
             return End::OutOfMemory;
         }
@@ -107,12 +173,8 @@ impl<'a> LookUp<'a> {
         End::On
     }
 
-    // Goes back to the row that is remembered.
     #[inline(never)]
-    fn recall(&mut self, at: u64, fault: &mut Refusal) -> End
-        requires { IsWithinLimit (⟦<LookUp<'a> as Keep<'a>>⟧.machine self.old) }
-        ensures { ⟦<LookUp<'a> as Keep<'a>>⟧.takes self.old RestoreState at result fault.new self.new }
-    {
+    fn recall(&mut self, at: u64, fault: &mut Refusal) -> End {
         if !self.remembers {
             return refuse(Code::EmptyStateStack, at, fault);
         }
@@ -122,54 +184,25 @@ impl<'a> LookUp<'a> {
         self.remembers = false;
         End::On
     }
-}
-
-impl<'a> Keep<'a> for LookUp<'a> {
-    ghost machine = { λ k. look_up_at k.initial.value (address_limit k.size) k.row (kept_if k.remembers k.kept) k.location };
-
-    ghost takes = { λ k i at end fault k'. Did false i at (look_up_at k.initial.value (address_limit k.size) k.row (kept_if k.remembers k.kept) k.location) end fault (look_up_at k'.initial.value (address_limit k'.size) k'.row (kept_if k'.remembers k'.kept) k'.location) };
 
     #[inline(always)]
-    fn take(&mut self, instr: Instr<'a>, at: u64, fault: &mut Refusal) -> End {
-        match instr {
-            Instr::Nop => End::On,
-            Instr::SetLoc(address) => {
-                if address < self.location {
-                    return refuse(Code::LocationBackwards, at, fault);
-                }
-                self.location = address;
-                End::Moved
-            }
-            Instr::Advance(distance) => {
-                let Some(next) = next_location(self.location, distance, self.size) else {
-                    return End::OutOfMemory;
-                };
+    fn advance(&mut self, distance: u128, _at: u64, _fault: &mut Refusal) -> End {
+        match next_location(self.location, distance, self.size) {
+            Some(next) => {
                 self.location = next;
                 End::Moved
             }
-            Instr::Set(register, rule) => match self.row.set(register, rule) {
-                Ok(()) => End::On,
-                Err(_) => End::OutOfMemory,
-            },
-            Instr::Restore(register) => {
-                if register >= NEAR || is_in(self.specified, register) {
-                    return End::OutOfMemory;
-                }
-                match self.row.set(register, RegRule::Unspecified) {
-                    Ok(()) => End::On,
-                    Err(_) => End::OutOfMemory,
-                }
-            }
-            Instr::RememberState => self.remember(at, fault),
-            Instr::RestoreState => self.recall(at, fault),
-            definition => match cfa_behind(definition, self.row.cfa_rule()) {
-                Some(rule) => {
-                    self.row.set_cfa(rule);
-                    End::On
-                }
-                None => refuse(Code::CfaNotRegister, at, fault),
-            },
+            None => End::OutOfMemory,
         }
+    }
+
+    #[inline(always)]
+    fn go(&mut self, address: u64, at: u64, fault: &mut Refusal) -> End {
+        if address < self.location {
+            return refuse(Code::LocationBackwards, at, fault);
+        }
+        self.location = address;
+        End::Moved
     }
 
     #[inline(always)]

@@ -3,7 +3,7 @@
 ghost use Rattle.dw_num.specs.Inner.Front.{Gives};
 ghost use Rattle.dw_cfa.specs.Inner.{ByOpcode.{offset_at, restore_at, rule_at, set_at}, Turns.{IsWithinLimit, Taken}};
 
-use crate::instr::{Factors, Instr};
+use crate::instr::Factors;
 use crate::keep::Keep;
 use crate::machine::{End, refused};
 use crate::opcode::{Opcode, block, factored, signed};
@@ -26,7 +26,7 @@ pub(crate) fn run_restore_extended<'a, K: Keep<'a>>(
         Ok(register) => register,
         Err(refusal) => return refused(refusal, fault),
     };
-    keep.take(Instr::Restore(register), at, fault)
+    keep.restore(register, at, fault)
 }
 
 /// A register is saved at the CFA plus an offset, which is factored.
@@ -47,7 +47,7 @@ pub(crate) fn run_offset<'a, K: Keep<'a>>(
         Ok(offset) => offset,
         Err(refusal) => return refused(refusal, fault),
     };
-    keep.take(Instr::Set(register, RegRule::Offset(offset)), at, fault)
+    keep.set(register, RegRule::Offset(offset), at, fault)
 }
 
 // The rule that an instruction gives the register that was read: its operands behind that.
@@ -92,7 +92,7 @@ pub(crate) fn set<'a, K: Keep<'a>>(
         Err(refusal) => return refused(refusal, fault),
     };
     match rule_behind(opcode, cursor, factors, at) {
-        Ok(rule) => keep.take(Instr::Set(register, rule), at, fault),
+        Ok(rule) => keep.set(register, rule, at, fault),
         Err(refusal) => refused(refusal, fault),
     }
 }

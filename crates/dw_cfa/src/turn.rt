@@ -10,7 +10,7 @@ use crate::cfa::{
     run_def_cfa, run_def_cfa_expression, run_def_cfa_offset, run_def_cfa_offset_sf,
     run_def_cfa_register, run_def_cfa_sf,
 };
-use crate::instr::{Factors, Instr};
+use crate::instr::Factors;
 use crate::keep::Keep;
 use crate::machine::{End, refuse, refused};
 use crate::opcode::{Opcode, distance, known_opcode};
@@ -33,14 +33,10 @@ fn apply<'a, K: Keep<'a>>(
     ensures { Taken K.takes (operands_at factors at opcode cursor.old) at keep.old result fault.new cursor.new keep.new }
 {
     match opcode {
-        Opcode::Nop => keep.take(Instr::Nop, at, fault),
+        Opcode::Nop => keep.nop(at, fault),
         Opcode::SetLoc => run_set_loc(cursor, keep, at, fault),
         Opcode::AdvanceLoc(delta) => {
-            keep.take(
-                Instr::Advance(distance(u64::from(delta), factors)),
-                at,
-                fault,
-            )
+            keep.advance(distance(u64::from(delta), factors), at, fault)
         }
         Opcode::AdvanceLoc1 => run_fixed_advance(cursor, factors, keep, at, 1, fault),
         Opcode::AdvanceLoc2 => run_fixed_advance(cursor, factors, keep, at, 2, fault),
@@ -52,10 +48,10 @@ fn apply<'a, K: Keep<'a>>(
         Opcode::DefCfaOffsetSf => run_def_cfa_offset_sf(cursor, factors, keep, at, fault),
         Opcode::DefCfaExpression => run_def_cfa_expression(cursor, keep, at, fault),
         Opcode::Offset(register) => run_offset(cursor, factors, keep, at, register, fault),
-        Opcode::Restore(register) => keep.take(Instr::Restore(register), at, fault),
+        Opcode::Restore(register) => keep.restore(register, at, fault),
         Opcode::RestoreExtended => run_restore_extended(cursor, keep, at, fault),
-        Opcode::RememberState => keep.take(Instr::RememberState, at, fault),
-        Opcode::RestoreState => keep.take(Instr::RestoreState, at, fault),
+        Opcode::RememberState => keep.remember(at, fault),
+        Opcode::RestoreState => keep.recall(at, fault),
         Opcode::Undefined => set(Opcode::Undefined, cursor, factors, keep, at, fault),
         Opcode::SameValue => set(Opcode::SameValue, cursor, factors, keep, at, fault),
         Opcode::OffsetExtended => set(Opcode::OffsetExtended, cursor, factors, keep, at, fault),
