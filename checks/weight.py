@@ -23,7 +23,7 @@ BUDGET = {
     "dw_section": (2976, 5540),
     "dw_canon": (53, 3324),
     "dw_normal": (2897, 3009),
-    "dw_unwind": (1613, 2291),
+    "dw_unwind": (1621, 2291),
     "dw_words": (950, 1004),
     "dw_command": (2360, 2150),
     "dwframe": (277, 0),
