@@ -1,9 +1,9 @@
 //! Why a dump is refused, and where.
 
 ghost use Rattle.std.specs.Prelude.{◌≡◌};
-ghost use Rattle.dw_unwind.specs.{Codes.code_entry, declared.fault.DumpError.TheVariants.{OutOfMemory}};
+ghost use Rattle.dw_unwind.specs.{Codes.code_entry, declared.fault.DumpError.TheVariants.OutOfMemory};
 
-use std::alloc::AllocError;
+use std::alloc::{AllocError, AllocFailed};
 use std::fmt;
 use thiserror::Error;
 
@@ -73,6 +73,14 @@ impl From<AllocError> for DumpError {
     ghost from_gives = { λ _ e. e ≡ OutOfMemory };
 
     fn from(_e: AllocError) -> DumpError {
+        DumpError::OutOfMemory
+    }
+}
+
+impl<T: Drop> From<AllocFailed<T>> for DumpError {
+    ghost from_gives = { λ _ e. e ≡ OutOfMemory };
+
+    fn from(_e: AllocFailed<T>) -> DumpError {
         DumpError::OutOfMemory
     }
 }
