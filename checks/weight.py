@@ -20,14 +20,14 @@ BUDGET = {
     "dw_op": (2102, 3969),
     "dw_eval": (1519, 1117),
     "dw_cfa": (4998, 5391),
-    "dw_section": (2976, 5540),
+    "dw_section": (2622, 5399),
     "dw_canon": (53, 3324),
     "dw_normal": (2897, 3009),
     "dw_unwind": (1658, 2304),
     "dw_words": (950, 1004),
-    "dw_command": (2360, 2150),
+    "dw_command": (2352, 2070),
     "dwframe": (277, 0),
-    "dw_library": (1920, 800),
+    "dw_library": (1918, 769),
 }
 COLUMNS = ["sources", "functions", "public", "specs", "inner", "proofs", "longest"]
 FUNCTION = re.compile(r'^\s*(pub(?:\([a-z]+\))? )?(?:extern "C" )?fn ', re.M)
