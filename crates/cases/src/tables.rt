@@ -106,11 +106,7 @@ fff: none
 401003: 0x401000 cfa=r7+16 r6=[cfa-16] r16=[cfa-8]";
 
 // Fails where one of the look-ups, one after another, finds what its line does not say.
-fn agree_in_turn<'a>(
-    alloc: Global,
-    table: &Table<'a>,
-    room: &mut RowRoom<'a>,
-) -> Result<(), Fail> {
+fn agree_in_turn<'a>(alloc: Global, table: &Table<'a>, room: &mut RowRoom<'a>) -> Result<(), Fail> {
     for line in LOOK_UPS.lines() {
         let (address, wanted) = parts(line)?;
         let text = looked_up(alloc, table, number(address)?, room)?;

@@ -4,9 +4,9 @@ use Rattle.dw_cfa.specs.declared.instr.Instr.{Instr}
 use Rattle.dw_section.specs.Changes.{AreChanges, Changing, ChangesBehind, GivesAddress}
 use Rattle.dw_section.proofs.Lent.{FdeLookup.listed_are, Sections.begin_low}
 use Rattle.dw_library.specs.{Changes.rules_in, declared.changes.Totals.Totals}
-use Rattle.dw_library.proofs.Words.{◌≡◌, ℕ, zero, suc, ◌+◌, ◌-◌, ◌^◌, ◌<◌, ◌≤◌, List, [], ◌∷◌, ◌++◌, length, map, min, get_or, slice_set, refl, sym, ap, subst, ◌∙◌, arith, inl, inr, Option}
-use Rattle.dw_library.proofs.Words.{Some, None, Ok, AllByRecursion, leb_tells, flat_map_more, get_or-map, length-append, length-map, map_push, same_Some, Target, Rules, Accepted, IsAmong}
-use Rattle.dw_library.proofs.{Words.{AreFdes, ChangesOf, IsTable, fde_in, Ranged, Fde, Change, Rule, AreWritten, change_of, over, rule_of, IsLow}, Written.{over_full, over_length}}
+use Rattle.dw_library.proofs.Words.{◌≡◌, ℕ, zero, suc, ◌+◌, ◌-◌, ◌^◌, ◌<◌, ◌≤◌, List, [], ◌∷◌, ◌++◌, length, map, min, get_or, slice_set, true, false, refl, sym, ap, subst, ◌∙◌, arith, inl, inr, Option}
+use Rattle.dw_library.proofs.Words.{Some, None, Ok, AllByRecursion, leb_tells, flat_map_more, get_or-map, length-append, length-map, map_push, same_Some, mid_of, put_mid, Target, Rules, Accepted, IsAmong}
+use Rattle.dw_library.proofs.{Words.{AreFdes, ChangesOf, IsTable, fde_in, Ranged, Fde, Change, Rule, Room, AreWritten, change_of, over, rule_of, IsLow, IsLeft}, Written.{over_full, over_length, written_left}}
 
 -- ---- one more
 
@@ -28,20 +28,37 @@ pushed {X} before x old now new count is few counted inside outside =
           inside (omega (arith, lt.1, same, at)) ∙ rw (is, at) (push_fits before x old lt.1)
     ]
 
-module _ (f : Fde) (done : List (ℕ × Rules)) (change : ℕ × Rules) (changes changes_now new_changes : List Change) (rules rules_now new_rules : List Rule) (before after : Totals) (count : ℕ) where
-  pub written_more : AreWritten f done changes rules changes_now rules_now before → length changes_now < 2 ^ 64 → new_rules ≡ over (rules_in done ++ map rule_of change.1.registers) rules → count ≡ length change.1.registers
+-- where the next rules go
+left_at : (before : List Rule) (count place size : ℕ) → count ≡ min (length before) (2 ^ 64 - 1) → place ≡ min count size → size < 2 ^ 64 → (room : Room) × IsLeft size before room × (room.place ≡ place)
+left_at before count place size counted is few =
+    elim (leb_tells (length before) size) [
+      | inl le ↦ (record { place = place; short = false }, inl (refl, omega (arith, le.1, counted, is, few), le.1), refl)
+      | inr lt ↦ (record { place = place; short = true }, inr (refl, omega (arith, lt.1, counted, is, few), lt.1), refl)
+    ]
+
+module _ (f : Fde) (done : List (ℕ × Rules)) (change : ℕ × Rules) (changes changes_now new_changes : List Change) (rules rules_now new_rules part : List Rule) (before after : Totals) (place count : ℕ) where
+  abbrev own : List Rule
+  own = map rule_of change.1.registers
+
+  pub written_more : AreWritten f done changes rules changes_now rules_now before
+      → length changes_now < 2 ^ 64 → length rules_now < 2 ^ 64 → place ≡ min before.rules (length rules_now)
+      → part ≡ over own (mid_of place (length rules_now - place) rules_now) → new_rules ≡ put_mid place (length rules_now - place) rules_now part → count ≡ length change.1.registers
       → (before.changes < length changes_now → new_changes ≡ slice_set changes_now before.changes (change_of f change)) → (length changes_now ≤ before.changes → new_changes ≡ changes_now)
       → after.changes ≡ min (before.changes + 1) (2 ^ 64 - 1) → after.rules ≡ min (before.rules + count) (2 ^ 64 - 1)
       → AreWritten f (done ++ change ∷ []) changes rules new_changes new_rules after
-  written_more w few put counted inside outside more more_rules =
-      let own = map rule_of change.1.registers in
+  written_more w few few_rules at part_is put counted inside outside more more_rules =
       let told = map (change_of f) done in
       let so_long : length told ≡ length done = length-map done (change_of f) in
       let all : rules_in done ++ own ≡ rules_in (done ++ change ∷ []) = flat_map_more (λ (c : ℕ × Rules). map rule_of c.1.registers) [] done change in
+      let room = left_at (rules_in done) before.rules place (length rules_now) w.rule_count at few_rules in
+      let le : place ≤ length rules_now = omega (arith, at) in
+      let behind : put_mid place (length rules_now - place) rules_now part ≡ over (rules_in done ++ own) rules =
+      subst (λ (k : ℕ). part ≡ over own (mid_of k (length rules_now - k) rules_now) → k ≤ length rules_now → put_mid k (length rules_now - k) rules_now part ≡ over (rules_in done ++ own) rules) room.2
+      (λ p l. written_left (rules_in done) own rules rules_now part room.0 room.1 w.rules_are l p) part_is le in
       record {
         changes_are = pushed told (change_of f change) changes changes_now new_changes before.changes w.changes_are few (w.change_count ∙ ap (λ (k : ℕ). min k (2 ^ 64 - 1)) (sym so_long)) inside outside
             ∙ ap (λ (l : List Change). over l changes) (sym (map_push (change_of f) done change));
-        rules_are = put ∙ ap (λ (l : List Rule). over l rules) all;
+        rules_are = put ∙ behind ∙ ap (λ (l : List Rule). over l rules) all;
         change_count = omega (arith, more, w.change_count, length-append done (change ∷ []));
         rule_count = omega (arith, more_rules, w.rule_count, counted, length-map change.1.registers rule_of, length-append (rules_in done) own, ap (λ (l : List Rule). length l) all);
       }

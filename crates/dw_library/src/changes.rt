@@ -9,7 +9,7 @@ ghost use Rattle.dw_library.specs.{declared.changes.Change.{Change as TheChange}
 use crate::answer::{
     BAD_ARGUMENT, NO_FDE, OK, OUT_OF_MEMORY, Refused, Section, TOO_SHORT, put_at, refuse, target_of,
 };
-use crate::index::{Row, Rule, put_behind, told_row};
+use crate::index::{Row, Rule, put_rules, told_row};
 use dw_cfa::Row as CfaRow;
 use dw_num::ReadError;
 use dw_section::{Changes, Fde, FdeRef, Ranged, Table, check};
@@ -50,17 +50,17 @@ fn fde_in(entry: &Ranged) -> Fde
 // Writes a change and its rules behind those before, as far as they fit, and says how many there are then.
 fn put_change(
     row: &CfaRow<'_>,
-    fde: Fde,
+    entry: &Ranged,
     address: u64,
     before: Totals,
     out: &mut [Change],
     rules: &mut [Rule],
 ) -> Totals
-    requires { (range : ℕ) × (range < 2 ^ 64) × (fde.end ≡ fde.begin + range) }
-    ensures { (done : List (ℕ × Rules)) (changes : List TheChange) (buffer : List TheRule) → AreWritten fde done changes buffer out.old rules.old before → AreWritten fde (done ++ (address, row.now) ∷ []) changes buffer out.new rules.new result }
+    ensures { (done : List (ℕ × Rules)) (changes : List TheChange) (buffer : List TheRule) → AreWritten (fde_in entry.now) done changes buffer out.old rules.old before → AreWritten (fde_in entry.now) (done ++ (address, row.now) ∷ []) changes buffer out.new rules.new result }
 {
-    let count = put_behind(row, before.rules, rules);
-    let row = told_row(fde, row, count);
+    let place = before.rules.min(rules.len());
+    let count = put_rules(row, &mut rules[place..]);
+    let row = told_row(fde_in(entry), row, count);
     put_at(Change { address, row }, out, before.changes);
     Totals {
         changes: before.changes.saturating_add(1),
@@ -71,20 +71,19 @@ fn put_change(
 // Writes the changes that are still to come.
 fn put_changes(
     changes: &mut Changes<'_>,
-    fde: Fde,
+    entry: &Ranged,
     out: &mut [Change],
     rules: &mut [Rule],
 ) -> Result<Totals, AllocError>
     requires low { AllByRecursion IsLow changes.old.to_come }
-    requires range { (range : ℕ) × (range < 2 ^ 64) × (fde.end ≡ fde.begin + range) }
-    ensures { IfOk result (λ totals. AreWritten fde changes.old.to_come out.old rules.old out.new rules.new totals) }
+    ensures { IfOk result (λ totals. AreWritten (fde_in entry.now) changes.old.to_come out.old rules.old out.new rules.new totals) }
 {
     let mut totals = Totals::default();
     'told: while let Some(address) = changes.advance()? {
         let Some(row) = changes.row() else {
             unreachable!();
         };
-        totals = put_change(row, fde, address as u64, totals, out, rules);
+        totals = put_change(row, entry, address as u64, totals, out, rules);
     }
     Ok(totals)
 }
@@ -114,7 +113,7 @@ fn put_fde(
     table.accepted();
     let entry = table.index()[fde.place];
     let mut changes = table.changes(fde);
-    let totals = put_changes(&mut changes, fde_in(&entry), out, rules)?;
+    let totals = put_changes(&mut changes, &entry, out, rules)?;
     *needed = totals;
     Ok(fitting(totals, out.len(), rules.len()))
 }

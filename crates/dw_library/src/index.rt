@@ -1,12 +1,11 @@
 //! Look-ups by an index that the caller keeps.
 
-ghost use Rattle.std.specs.Prelude.{◌≡◌, ◌+◌, ◌-◌, ◌^◌, ◌<◌, ◌++◌, ℕ, List, IfOk, IfErr, OnErr, MatchResult, length, map, min};
+ghost use Rattle.std.specs.Prelude.{◌≡◌, ◌+◌, ◌^◌, ◌<◌, ℕ, IfOk, IfErr, OnErr, MatchResult, length, map};
 ghost use Rattle.dw_op.specs.Faults.{IsWithin};
 ghost use Rattle.dw_section.specs.{Ranges.IsTable, StandingFde.{LookUpFault, Misleads, RefusesAs}};
 ghost use Rattle.dw_section.specs.declared.standing_fde.LookUpError.TheVariants as TheLookUpError;
 ghost use Rattle.dw_library.specs.{Answers.target_of, Index.{HasSize, IsAnyRow, IsIndexed, IsRow, IsTold, TellsFde, TellsRow}};
 ghost use Rattle.dw_library.specs.Index.{TellsRules, Told, cfa_kind_of, cfa_offset_of, cfa_register_of, no_row, over, row_of, rule_of};
-ghost use Rattle.dw_library.specs.declared.index.Rule.{Rule as TheRule};
 
 use crate::answer::{
     BAD_ARGUMENT, BAD_INDEX, NO_FDE, OK, OUT_OF_MEMORY, Refused, Section, TOO_SHORT, put_at,
@@ -140,8 +139,8 @@ fn any_rule(number: u16, rule: &RegRule<'_>) -> Rule
     }
 }
 
-// Writes the rules of a row to the front of a buffer, as many as fit, and tells how many there are.
-fn put_rules(row: &CfaRow<'_>, out: &mut [Rule]) -> usize
+/// Writes the rules of a row to the front of a buffer, as many as fit, and tells how many there are.
+pub(crate) fn put_rules(row: &CfaRow<'_>, out: &mut [Rule]) -> usize
     ensures count { result ≡ length row.now.registers }
     ensures rules { out.new ≡ over (map rule_of row.now.registers) out.old }
 {
@@ -159,15 +158,6 @@ fn put_rules(row: &CfaRow<'_>, out: &mut [Rule]) -> usize
         put_at(any_rule(number, &rule), out, count);
         count += 1;
     }
-}
-
-/// Writes the rules of a row behind so many of the rows before, as far as they fit, and tells how many there are of this row.
-pub(crate) fn put_behind(row: &CfaRow<'_>, before: usize, out: &mut [Rule]) -> usize
-    ensures count { result ≡ length row.now.registers }
-    ensures rules { (done buffer : List TheRule) → before ≡ min (length done) (2 ^ 64 - 1) → out.old ≡ over done buffer → out.new ≡ over (done ++ map rule_of row.now.registers) buffer }
-{
-    let place = before.min(out.len());
-    put_rules(row, &mut out[place..])
 }
 
 // The kind of a rule of the CFA, and the register and the offset that it names.
@@ -204,12 +194,12 @@ pub(crate) fn told_row(fde: Fde, rules: &CfaRow<'_>, count: usize) -> Row
 }
 
 // Writes an FDE and a row of it.
-fn tell(fde: Fde, rules: &CfaRow<'_>, out: &mut [Rule], row: &mut Row) -> u32
-    requires { (range : ℕ) × (range < 2 ^ 64) × (fde.end ≡ fde.begin + range) }
-    ensures { TellsRow (record { fde = fde; row = rules.now }) out.old (record { status = result; row = row.new; rules = out.new }) }
+fn tell(found: Fde, rules: &CfaRow<'_>, out: &mut [Rule], row: &mut Row) -> u32
+    requires { (range : ℕ) × (range < 2 ^ 64) × (found.end ≡ found.begin + range) }
+    ensures { TellsRow (record { fde = found; row = rules.now }) out.old (record { status = result; row = row.new; rules = out.new }) }
 {
     let count = put_rules(rules, out);
-    *row = told_row(fde, rules, count);
+    *row = told_row(found, rules, count);
     if count <= out.len() { OK } else { TOO_SHORT }
 }
 

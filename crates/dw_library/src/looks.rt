@@ -1,45 +1,81 @@
 //! The rows of many addresses by one call.
 
-ghost use Rattle.std.specs.Prelude.{◌≡◌, ◌-◌, ◌^◌, ◌≤◌, ◌++◌, List, length, min, IfOk, OnErr};
+ghost use Rattle.std.specs.Prelude.{◌≡◌, ◌≤◌, ◌++◌, List, length, IfOk, OnErr};
 ghost use Rattle.dw_library.specs.{Answers.target_of, Index.over, Looks.{AreLooks, IsLook, Look, TellsLooks, ToldRows}};
-ghost use Rattle.dw_library.specs.{declared.index.Rule.{Rule as TheRule}, Inner.Looks.status_of};
+ghost use Rattle.dw_library.specs.{declared.index.Rule.{Rule as TheRule}, Inner.Looks.{IsLeft, status_of}};
 
 use crate::answer::{
     BAD_ARGUMENT, OK, OUT_OF_MEMORY, Refused, Section, TOO_SHORT, refuse, target_of,
 };
-use crate::index::{Row, Rule, put_behind, told_row};
+use crate::index::{Row, Rule, put_rules, told_row};
 use dw_cfa::RowRoom;
 use dw_num::ReadError;
 use dw_section::{Table, check};
 use std::alloc::{AllocError, Global};
 
-// Writes the row of an address, and its rules behind so many of the addresses before, as far as they fit, and tells how many there
-// are then.
+// Where the next rules go in a buffer, and whether those before did not all fit.
+#[derive(Clone, Copy)]
+struct Room {
+    place: usize,
+    short: bool,
+}
+
+// What is left of a room of so many rules behind so many more of them.
+fn behind(room: Room, count: usize, size: usize) -> Room
+    requires { room.place ≤ size }
+    ensures { (before own : List TheRule) → IsLeft size before room → count ≡ length own → IsLeft size (before ++ own) result }
+{
+    let left = size - room.place;
+    Room {
+        place: room.place + count.min(left),
+        short: room.short || left < count,
+    }
+}
+
+// Writes the row of an address, and its rules to the front of a buffer, and tells how many rules there are.
 fn put_look<'a>(
     table: &Table<'a>,
     room: &mut RowRoom<'a>,
     address: u64,
-    before: usize,
     row: &mut Row,
     rules: &mut [Rule],
 ) -> Result<usize, AllocError>
-    ensures look { (done buffer : List TheRule) → before ≡ min (length done) (2 ^ 64 - 1) → rules.old ≡ over done buffer → IfOk result (λ count. (l : Look) × IsLook table.now.target table.now.bytes address l × (row.new ≡ l.row) × (rules.new ≡ over (done ++ l.rules) buffer) × (count ≡ min (length (done ++ l.rules)) (2 ^ 64 - 1))) }
+    ensures look { IfOk result (λ count. (l : Look) × IsLook table.now.target table.now.bytes address l × (row.new ≡ l.row) × (rules.new ≡ over l.rules rules.old) × (count ≡ length l.rules)) }
     ensures kept { OnErr result ((row.new ≡ row.old) × (rules.new ≡ rules.old)) }
 {
     table.accepted();
     let Some(found) = table.look_up(address, room)? else {
         *row = Row::default();
-        return Ok(before);
+        return Ok(0);
     };
-    let count = put_behind(room.row(), before, rules);
+    let count = put_rules(room.row(), rules);
     *row = told_row(found, room.row(), count);
-    Ok(before.saturating_add(count))
+    Ok(count)
 }
 
-// Writes a row for each address, and their rules one after another, and tells whether all of them fit.
+// The same, behind the rules of the addresses before.
+fn put_next<'a>(
+    table: &Table<'a>,
+    row_room: &mut RowRoom<'a>,
+    address: u64,
+    row: &mut Row,
+    rules: &mut [Rule],
+    room: Room,
+) -> Result<Room, AllocError>
+    requires room { (before : List TheRule) × IsLeft (length rules.old) before room }
+    ensures look { (before buffer : List TheRule) → IsLeft (length rules.old) before room → rules.old ≡ over before buffer → IfOk result (λ left. (l : Look) × IsLook table.now.target table.now.bytes address l × (row.new ≡ l.row) × (rules.new ≡ over (before ++ l.rules) buffer) × IsLeft (length rules.old) (before ++ l.rules) left) }
+    ensures length { length rules.new ≡ length rules.old }
+    ensures kept { OnErr result ((row.new ≡ row.old) × (rules.new ≡ rules.old)) }
+{
+    let size = rules.len();
+    let count = put_look(table, row_room, address, row, &mut rules[room.place..])?;
+    Ok(behind(room, count, size))
+}
+
+// Writes a row for each address, and their rules one after another, and tells whether not all of them fit.
 fn put_looks<'a>(
     table: &Table<'a>,
-    room: &mut RowRoom<'a>,
+    row_room: &mut RowRoom<'a>,
     addresses: &[u64],
     rows: &mut [Row],
     rules: &mut [Rule],
@@ -49,28 +85,31 @@ fn put_looks<'a>(
     requires done { done.old ≡ 0 }
     ensures { TellsLooks table.now.target table.now.bytes addresses.now rows.old rules.old (record { status = status_of result; done = done.new; rows = rows.new; rules = rules.new }) }
 {
-    let mut count = 0;
+    let mut room = Room {
+        place: 0,
+        short: false,
+    };
     'addresses: for place in 0..addresses.len() {
-        count = put_look(
+        room = put_next(
             table,
-            room,
+            row_room,
             addresses[place],
-            count,
             &mut rows[place],
             rules,
+            room,
         )?;
         *done = place + 1;
     }
-    Ok(count <= rules.len())
+    Ok(room.short)
 }
 
 // The status of a call that wrote rows.
-fn status_of(fit: Result<bool, AllocError>) -> u32
-    ensures { result ≡ status_of fit }
+fn status_of(short: Result<bool, AllocError>) -> u32
+    ensures { result ≡ status_of short }
 {
-    match fit {
-        Ok(true) => OK,
-        Ok(false) => TOO_SHORT,
+    match short {
+        Ok(false) => OK,
+        Ok(true) => TOO_SHORT,
         Err(_) => OUT_OF_MEMORY,
     }
 }

@@ -105,7 +105,13 @@ fn sum_of<'a>(
 
 fn print_sum(rt: &impl Calls, table: &Table<'_>, count: u64, with_rules: bool) -> Result<(), Fail> {
     let fdes: Vec<Fde> = table.fdes().collect(rt.alloc())?;
-    let sum = sum_of(table, &mut RowRoom::new(rt.alloc()), &fdes, count, with_rules)?;
+    let sum = sum_of(
+        table,
+        &mut RowRoom::new(rt.alloc()),
+        &fdes,
+        count,
+        with_rules,
+    )?;
     Ok(println!(rt; "lookups={count} sum={sum:016x}")?)
 }
 

@@ -16,7 +16,7 @@ offset_bounds-index-fde c = omega (arith, inside (goal.at.offset_bounds-index-fd
 pub put_changes-requires : goal.put_changes-requires
 put_changes-requires c =
     let fs = c.accepted.ensures.fdes in
-    record { range = c.fde_in.ensures.range; low = changes_low c.args.table.now.target c.args.table.now.bytes c.accepted.ensures.bytes c.accepted.ensures.accepted (get_or fs.0 c.args.fde.place no_fde) c.changes-changes.result.to_come (c.changes-changes.ensures.changes fs.0 fs.1 no_fde) }
+    record { low = changes_low c.args.table.now.target c.args.table.now.bytes c.accepted.ensures.bytes c.accepted.ensures.accepted (get_or fs.0 c.args.fde.place no_fde) c.changes-changes.result.to_come (c.changes-changes.ensures.changes fs.0 fs.1 no_fde) }
 
 pub returns-clause-told : goal.returns-clause-told
 returns-clause-told c =
@@ -24,7 +24,7 @@ returns-clause-told c =
     let s = c.args.table.now.bytes in
     let fs = c.accepted.ensures.fdes in
     let all = c.changes-changes.result.to_come in
-    let is = λ gs are d. c.fde_in.ensures.is ∙ entry_is t s c.index.result.now c.index.ensures c.args.fde.place _ (inside (goal.at.returns-clause-told c).After-index) gs are d in
+    let is = entry_is t s c.index.result.now c.index.ensures c.args.fde.place _ (inside (goal.at.returns-clause-told c).After-index) in
     let w = c.in_ok-totals.ensures in
     let changes_long : length c.put_changes.new.out ≡ length c.args.out.now = ap (λ (l : List Change). length l) w.changes_are ∙ over_length _ c.args.out.now in
     let rules_long : length c.put_changes.new.rules ≡ length c.args.rules.now = ap (λ (l : List Rule). length l) w.rules_are ∙ over_length _ c.args.rules.now in

@@ -1,12 +1,12 @@
-use Rattle.dw_library.proofs.Words.{List, map, [], arith, length, refl, rules, ap, inl, inr, append-nil, length-append, length-map, AreFdes, Fde, Rules, rule_of}
+use Rattle.dw_library.proofs.Words.{List, map, [], refl, rules, sym, ap, ◌∙◌, inl, inr, length, length-map, AreFdes, Fde, Rules, rule_of}
 use Rattle.dw_library.proofs.looks.put_look.Goals as goal
 
 pub returns-in_default-clause-look : goal.returns-in_default-clause-look
-returns-in_default-clause-look c = λ done buffer before is.
-    (record { row = c.default.result; rules = [] }, inr (λ fs are. rw c.in_default.is at (c.in_ok-found.ensures.found fs are), search rules, refl), refl, rw append-nil is, rw append-nil before)
+returns-in_default-clause-look c =
+    (record { row = c.default.result; rules = [] }, inr (λ fs are. rw c.in_default.is at (c.in_ok-found.ensures.found fs are), search rules, refl), refl, refl, refl)
 
 pub returns-clause-look : goal.returns-clause-look
-returns-clause-look c = λ done buffer before is.
+returns-clause-look c =
     let row = c.look_up.new.room in
     let fs = c.accepted.ensures.fdes in
     let there = λ (gs : List Fde) (are : AreFdes c.args.table.now.target c.args.table.now.bytes gs). rw c.in-Some.is at (c.in_ok-found.ensures.found gs are) in
@@ -14,6 +14,6 @@ returns-clause-look c = λ done buffer before is.
       record { row = c.told_row.result; rules = map rule_of row.registers },
       inl (record { fde = c.in-Some.found; row = row }, here.2, λ gs are. (there gs are).0, here.1, rw c.row-2.ensures at c.told_row.ensures.told, refl),
       refl,
-      rw c.row.ensures at (c.put_behind-count.ensures.rules done buffer before is),
-      omega (arith, c.saturating_add.ensures, before, c.put_behind-count.ensures.count, ap (λ (r : Rules). length r.registers) c.row.ensures, length-append done (map rule_of row.registers), length-map row.registers rule_of),
+      rw c.row.ensures at c.put_rules-count.ensures.rules,
+      c.put_rules-count.ensures.count ∙ ap (λ (r : Rules). length r.registers) c.row.ensures ∙ sym (length-map row.registers rule_of),
     )
