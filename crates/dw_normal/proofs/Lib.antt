@@ -16,8 +16,6 @@ mod Reports
 mod FaultPlaces
 mod Placed
 mod Alike
-mod CiePairs
-mod TwinRows
 mod Joined
 mod Filled
 mod Sited
