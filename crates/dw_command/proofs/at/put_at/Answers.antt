@@ -5,7 +5,7 @@ pub returns-then-not-branch-clause-put : goal.returns-then-not-branch-clause-put
 returns-then-not-branch-clause-put g c = λ fs are. (
   (c.args.address, None),
   tells_none c.args.lookups.now.section c.args.address c.in_ok-find.field-0 c.find.new.self.fde c.find.new.self.row c.in_ok-find.ensures.fde c.in_ok-find.ensures.found c.if-not-branch.true fs are,
-  c.in_ok-put_none.ensures.put,
+  c.put_none.ensures,
 )
 
 pub unreachable-requires : goal.unreachable-requires
@@ -18,15 +18,16 @@ unreachable-requires-in_default-row g c =
     has_row c.args.lookups.now.section c.args.address c.in_ok-find.field-0 c.find.new.self.fde c.find.new.self.row c.in_ok-find.ensures.fde c.in_ok-find.ensures.found
     c.requires.bytes c.requires.accepted c.if-not-branch.false c.in_default-row.ensures
 
-pub put_found-requires-clause-in_space : goal.put_found-requires-clause-in_space
-put_found-requires-clause-in_space g c =
-    ends_low c.args.lookups.now.section c.args.address c.in_ok-find.field-0 c.find.new.self.fde c.find.new.self.row c.in_ok-find.ensures.fde c.in_ok-find.ensures.found
-    c.requires.bytes c.requires.accepted c.if-not-branch.false c.fde-fde.result (c.in-Some.ensures ∙ ap (λ (f : Fde). Some f) (sym c.fde-fde.ensures))
+pub put_found-requires : goal.put_found-requires
+put_found-requires g c =
+    let low = ends_low c.args.lookups.now.section c.args.address c.in_ok-find.field-0 c.find.new.self.fde c.find.new.self.row c.in_ok-find.ensures.fde c.in_ok-find.ensures.found in
+    let covers = c.in-Some.ensures ∙ ap (λ (f : Fde). Some f) (sym c.fde-fde.ensures) in
+    record { in_space = low c.requires.bytes c.requires.accepted c.if-not-branch.false c.fde-fde.result covers }
 
 pub returns-clause-put : goal.returns-clause-put
 returns-clause-put g c = λ fs are. (
   (c.args.address, Some (c.fde-fde.result, c.in-Some-row.row.now)),
   tells_some c.args.lookups.now.section c.args.address c.in_ok-find.field-0 c.find.new.self.fde c.find.new.self.row c.in_ok-find.ensures.fde c.in_ok-find.ensures.found
       c.if-not-branch.false c.fde-fde.result c.in-Some-row.row.now (c.in-Some.ensures ∙ ap (λ (f : Fde). Some f) (sym c.fde-fde.ensures)) c.in-Some-row.ensures fs are,
-  c.in_ok-put_found.ensures.put,
+  c.put_found.ensures,
 )

@@ -1,31 +1,29 @@
-use Rattle.dw_command.proofs.Words.{◌∙◌, ℕ, List, [], ◌∷◌, ◌++◌, ap, arith, get_or, refl, subst, sym, Appends-nil, Appends-trans, AreBytes, Accepted, Finding, AreFdes, Section, TellsOf, Adds, at_text}
-use Rattle.dw_command.proofs.TextLines.{lines_push, zip_all, zip_more}
+use Rattle.dw_command.proofs.Words.{◌∙◌, ℕ, List, [], ◌∷◌, ◌++◌, ap, arith, get_or, subst, sym, AreBytes, Accepted, Finding, AreFdes, Section, TellsOf, Adds, at_text}
+use Rattle.dw_command.proofs.{Puts.{nothing, on}, TextLines.{lines_push, zip_all, zip_more}}
 use Rattle.dw_command.proofs.at.put_each.Goals as goal
 
 pub put_at-requires-clause-bytes : goal.put_at-requires-clause-bytes
-put_at-requires-clause-bytes g c = subst (λ (s : Section). AreBytes s.bytes) (sym c.loop-address.invariant.1) c.accepted.ensures.bytes
+put_at-requires-clause-bytes g c = subst (λ (s : Section). AreBytes s.bytes) (sym c.loop-address.invariant.0) c.accepted.ensures.bytes
 
 pub put_at-requires-clause-accepted : goal.put_at-requires-clause-accepted
-put_at-requires-clause-accepted g c = subst (λ (s : Section). Accepted s.target s.bytes) (sym c.loop-address.invariant.1) c.accepted.ensures.accepted
+put_at-requires-clause-accepted g c = subst (λ (s : Section). Accepted s.target s.bytes) (sym c.loop-address.invariant.0) c.accepted.ensures.accepted
 
 pub loop-address-init : goal.loop-address-init
-loop-address-init g c = (refl, ap (λ (f : Finding). f.section) c.lookups-lookups.ensures, λ fs are. ([], tt, Appends-nil _))
+loop-address-init g c = (ap (λ (f : Finding). f.section) c.lookups-lookups.ensures, λ fs are. ([], tt, nothing g.W.Write.contents c.args.out.now))
 
 pub loop-address-preserved : goal.loop-address-preserved
 loop-address-preserved g c =
     let table = c.args.table.now in
-    let same = c.loop-address.invariant.1 in
-    let asked = get_or c.args.addresses.now c.loop-address.address-index 0 in
-    let new = c.put_at.new.out in (
-      c.in_ok-put_at.ensures.told ∙ c.loop-address.invariant.0,
+    let same = c.loop-address.invariant.0 in
+    let asked = get_or c.args.addresses.now c.loop-address.address-index 0 in (
       c.put_at.ensures.same ∙ same,
       λ fs are.
-          let before = c.loop-address.invariant.2 fs are in
+          let before = c.loop-address.invariant.1 fs are in
           let one = c.in_ok-put_at.ensures.put fs (subst (λ (s : Section). AreFdes s.target s.bytes fs) (sym same) are) in
           let tells = subst (λ (s : Section). TellsOf s.target s.bytes fs asked one.0) same one.1 in (
             before.0 ++ one.0 ∷ [],
             zip_more (TellsOf table.target table.bytes fs) c.args.addresses.now before.0 c.loop-address.address-index 0 one.0 c.loop-address-test.true before.1 tells,
-            subst (λ (t : List ℕ). Adds g.W.Write.contents c.args.out.now new t) (sym (lines_push at_text before.0 one.0)) (Appends-trans _ _ _ _ _ before.2 one.2),
+            subst (λ (t : List ℕ). Adds g.W.Write.contents c.args.out.now c.put_at.new.out t) (sym (lines_push at_text before.0 one.0)) (on g.W.Write.contents _ _ _ _ _ before.2 one.2),
           ),
     )
 
@@ -33,6 +31,6 @@ pub returns-clause-put : goal.returns-clause-put
 returns-clause-put g c =
     let table = c.args.table.now in
     let fdes = c.accepted.ensures.fdes in
-    let all = c.loop-address.invariant.2 fdes.0 fdes.1 in
+    let all = c.loop-address.invariant.1 fdes.0 fdes.1 in
     let ended = c.loop-address-test.false in
     (all.0, (fdes.0, fdes.1, zip_all (TellsOf table.target table.bytes fdes.0) c.args.addresses.now all.0 c.loop-address.address-index (omega (arith, ended)) all.1), all.2)
