@@ -25,7 +25,7 @@ BUDGET = {
     "dw_normal": (2444, 2755),
     "dw_unwind": (1658, 2304),
     "dw_words": (950, 1004),
-    "dw_command": (2360, 2150),
+    "dw_command": (2217, 1712),
     "dwframe": (277, 0),
     "dw_library": (1920, 800),
 }

@@ -1,157 +1,92 @@
--- Hexadecimal digits without leading zeros, and how many they are.
-use Rattle.dw_command.proofs.Words.{◌≡◌, ◌∙◌, ◌⊎◌, inl, inr, ℕ, zero, suc, ◌+◌, ◌-◌, ◌*◌, ◌/◌, ◌%◌, ◌^◌, ◌<◌, ◌≤◌, ◌==◌, Bool, true, false, List, [], ◌∷◌, ◌++◌, length, take, refl, ap, ap₂, sym, arith, codes, ⊎_elim, nat_lt, if◌then◌else◌}
-use Rattle.dw_command.proofs.Words.{min, digit_glyph, digits, digits_onto, eqb-true, ltb-true, ltb-false, append_assoc, append-nil, length-append, leading_top, pow-add, eq-or-lt_of_le, mod-eq_of_lt, mul_assoc, mul-lt-mul_of_pos_right}
-use Rattle.dw_command.proofs.Words.{pow-suc, take-append-add, take-append_seam, last_digits}
+-- Hexadecimal digits, two of a byte, without leading zeros.
+use Rattle.dw_command.proofs.Words.{◌≡◌, ◌∙◌, ◌⊎◌, inl, inr, ℕ, zero, suc, ◌+◌, ◌-◌, ◌*◌, ◌/◌, ◌%◌, ◌^◌, ◌<◌, ◌≤◌, ◌==◌, ◌&&◌, Bool, true, false, List, [], ◌∷◌, ◌++◌, get_or, refl, ap, sym, arith, codes, ⊎_elim, min, if◌then◌else◌}
+use Rattle.dw_command.proofs.Words.{digit_glyph, digits, digits_onto, append_assoc, append-nil, eq-or-lt_of_le, pow-suc, eqb-true, leading_top}
+use Rattle.std.proofs.Common.{T, eqb, eqb→eq, eq-zero-or-pos}
+use lib.Ieee.Fits.{and_l, and_r}
 use Rattle.std.specs.Int.Count.{count_leading_zeros, leading_of_zero}
-use Rattle.std.proofs.Math.Nat.{one-le-pow, pow-le-pow_right}
+use Rattle.std.proofs.Math.{Nat.pow-le-pow_right, Pow.shr_mono}
+use Rattle.std.proofs.lemmas.Nat.{shl-shr, shr-shr, shr_below}
+use Rattle.dw_command.specs.declared.listing.TheConstants.{HEX_PAIRS}
 
--- ---- the digits of a number that has so many
+-- ---- the table
 
-last : (q : ℕ) (xs ys : List ℕ) → q ≡ 0 → (if q == 0 then xs else ys) ≡ xs
-last q xs ys h = rw h refl
+abbrev are_pairs : ℕ → Bool
+are_pairs zero = true
+are_pairs (suc b) = (eqb (get_or HEX_PAIRS.now (2 * b) 0) (digit_glyph false (b / 16)) && eqb (get_or HEX_PAIRS.now (2 * b + 1) 0) (digit_glyph false (b % 16))) && are_pairs b
 
-before : (q : ℕ) (xs ys : List ℕ) → 0 < q → (if q == 0 then xs else ys) ≡ ys
-before q xs ys h = of (q == 0) refl
-  where
-    of : (b : Bool) → (q == 0) ≡ b → (if b then xs else ys) ≡ ys
-    of true is = let none = eqb-true q 0 is in absurd (omega (arith, none, h))
-    of false is = refl
+below : (n b : ℕ) → T (are_pairs n) → b < n → (get_or HEX_PAIRS.now (2 * b) 0 ≡ digit_glyph false (b / 16)) × (get_or HEX_PAIRS.now (2 * b + 1) 0 ≡ digit_glyph false (b % 16))
+below zero b t h = absurd (omega (arith, h))
+below (suc n) b t h = elim (eq-zero-or-pos (n - b)) [
+  | inl none ↦ let same : b ≡ n = omega (arith, none, h) in let a = and_l _ (are_pairs n) t in rw same (eqb→eq _ _ (and_l _ _ a), eqb→eq _ _ (and_r _ _ a))
+  | inr some ↦ below n b (and_r _ (are_pairs n) t) (omega (arith, some))
+]
 
-onto : (k j n : ℕ) (acc : List ℕ) → k < j → n < 16 ^ suc k → (16 ^ k ≤ n) ⊎ (k ≡ 0) → digits_onto j 16 false n acc ≡ last_digits (suc k) n ++ acc
-onto k zero n acc h below least = absurd (omega (arith, h))
-onto zero (suc j) n acc h below least =
-    last (n / 16) (digit_glyph false (n % 16) ∷ acc) (digits_onto j 16 false (n / 16) (digit_glyph false (n % 16) ∷ acc)) (omega (arith, below))
-onto (suc k) (suc j) n acc h below (inr is) = absurd (omega (arith, is))
-onto (suc k) (suc j) n acc h below (inl least) =
-    let p = pow-suc 16 (suc k) in
-    let q = pow-suc 16 k in
-    let some = one-le-pow k 16 (omega arith) in
-    before (n / 16) (digit_glyph false (n % 16) ∷ acc) (digits_onto j 16 false (n / 16) (digit_glyph false (n % 16) ∷ acc)) (omega (arith, q, least, some))
-    ∙ onto k j (n / 16) (digit_glyph false (n % 16) ∷ acc) (omega (arith, h)) (omega (arith, p, below)) (inl (omega (arith, q, least)))
-    ∙ sym (append_assoc (last_digits (suc k) (n / 16)) (digit_glyph false (n % 16) ∷ []) acc)
-
-pub digits_are : (k n : ℕ) → k < 64 → n < 16 ^ suc k → (16 ^ k ≤ n) ⊎ (k ≡ 0) → digits 16 false n ≡ last_digits (suc k) n
-unfolding digits
-digits_are k n h below least = onto k 64 n [] h below least ∙ append-nil (last_digits (suc k) n)
+pub pair_at : (b : ℕ) → b < 256 → (get_or HEX_PAIRS.now (2 * b) 0 ≡ digit_glyph false (b / 16)) × (get_or HEX_PAIRS.now (2 * b + 1) 0 ≡ digit_glyph false (b % 16))
+pair_at b h = below 256 b tt h
 
 -- ---- digits behind digits
 
-pub length_last : (k n : ℕ) → length (last_digits k n) ≡ k
-length_last zero n = refl
-length_last (suc k) n = let h = length_last k (n / 16) in length-append (last_digits k (n / 16)) (digit_glyph false (n % 16) ∷ []) ∙ omega (arith, h)
-
-joined : (k l n m : ℕ) → m < 16 ^ l → last_digits (k + l) (n * 16 ^ l + m) ≡ last_digits k n ++ last_digits l m
-joined k zero n m h =
-    let e : k + 0 ≡ k = omega arith in
-    let q : n * 1 + m ≡ n = omega (arith, h) in
-    ap₂ last_digits e q ∙ sym (append-nil (last_digits k n))
-joined k (suc l) n m h =
-    let p = pow-suc 16 l in
-    let e : k + suc l ≡ suc (k + l) = omega arith in
-    let big : n * 16 ^ suc l ≡ n * 16 ^ l * 16 = ap (λ (x : ℕ). n * x) p ∙ sym (mul_assoc n (16 ^ l) 16) in
-    let q : (n * 16 ^ suc l + m) / 16 ≡ n * 16 ^ l + m / 16 = omega (arith, big) in
-    let r : (n * 16 ^ suc l + m) % 16 ≡ m % 16 = omega (arith, big) in
-    ap (λ (t : ℕ). last_digits t (n * 16 ^ suc l + m)) e
-    ∙ ap₂ (λ (x y : ℕ). last_digits (k + l) x ++ digit_glyph false y ∷ []) q r
-    ∙ ap (λ (xs : List ℕ). xs ++ digit_glyph false (m % 16) ∷ []) (joined k l n (m / 16) (omega (arith, p, h)))
-    ∙ append_assoc (last_digits k n) (last_digits l (m / 16)) (digit_glyph false (m % 16) ∷ [])
-
--- the front of the digits of a number that is shifted
-pub front : (k z n : ℕ) → take k (last_digits (k + z) (n * 16 ^ z)) ≡ last_digits k n
-front k z n =
-    let plain : n * 16 ^ z ≡ n * 16 ^ z + 0 = omega arith in
-    let some = one-le-pow z 16 (omega arith) in
-    let all : last_digits (k + z) (n * 16 ^ z) ≡ last_digits k n ++ last_digits z 0 = ap (last_digits (k + z)) plain ∙ joined k z n 0 (omega (arith, some)) in
-    ap (take k) all ∙ ap (λ (i : ℕ). take i (last_digits k n ++ last_digits z 0)) (sym (length_last k n)) ∙ take-append_seam (last_digits k n) (last_digits z 0)
-
-width : (j n : ℕ) → 0 < n → n < 16 ^ j → (k : ℕ) × (k < j) × (n < 16 ^ suc k) × (16 ^ k ≤ n)
-width zero n some below = absurd (omega (arith, some, below))
-width (suc j) n some below = of (nat_lt n 16) refl (width j (n / 16))
+-- however many digits there may be at most
+onto : (j k l n : ℕ) (acc : List ℕ) → n < 16 ^ suc j → j < k → j < l → digits_onto k 16 false n acc ≡ digits_onto l 16 false n [] ++ acc
+onto j zero l n acc small h i = absurd (omega (arith, h))
+onto j k zero n acc small h i = absurd (omega (arith, i))
+onto zero (suc k) (suc l) n acc small h i = let none : n / 16 ≡ 0 = omega (arith, small) in rw none refl
+onto (suc j) (suc k) (suc l) n acc small h i =
+    let p = pow-suc 16 (suc j) in
+    let fewer : n / 16 < 16 ^ suc j = omega (arith, p, small) in
+    let last = digit_glyph false (n % 16) in
+    of (n / 16 == 0) (onto j k l (n / 16) (last ∷ acc) fewer (omega (arith, h)) (omega (arith, i))) (onto j l l (n / 16) (last ∷ []) fewer (omega (arith, i)) (omega (arith, i)))
   where
-    of : (b : Bool) → nat_lt n 16 ≡ b → (0 < n / 16 → n / 16 < 16 ^ j → (k : ℕ) × (k < j) × (n / 16 < 16 ^ suc k) × (16 ^ k ≤ n / 16)) → (k : ℕ) × (k < suc j) × (n < 16 ^ suc k) × (16 ^ k ≤ n)
-    of true is later = let l = ltb-true n 16 is in (0, omega arith, l, some)
-    of false is later =
-        let l = ltb-false n 16 is in
-        let p = pow-suc 16 j in
-        let w = later (omega (arith, l)) (omega (arith, p, below)) in
-        let q = pow-suc 16 (suc w.0) in
-        let r = pow-suc 16 w.0 in
-        (suc w.0, omega (arith, w.1), omega (arith, w.2, q), omega (arith, w.3, r))
+    of : (b : Bool) → digits_onto k 16 false (n / 16) (digit_glyph false (n % 16) ∷ acc) ≡ digits_onto l 16 false (n / 16) [] ++ digit_glyph false (n % 16) ∷ acc
+        → digits_onto l 16 false (n / 16) (digit_glyph false (n % 16) ∷ []) ≡ digits_onto l 16 false (n / 16) [] ++ digit_glyph false (n % 16) ∷ []
+        → (if b then digit_glyph false (n % 16) ∷ acc else digits_onto k 16 false (n / 16) (digit_glyph false (n % 16) ∷ acc))
+        ≡ (if b then digit_glyph false (n % 16) ∷ [] else digits_onto l 16 false (n / 16) (digit_glyph false (n % 16) ∷ [])) ++ acc
+    of true long short = refl
+    of false long short = long ∙ sym (append_assoc (digits_onto l 16 false (n / 16) []) (digit_glyph false (n % 16) ∷ []) acc) ∙ ap (λ (xs : List ℕ). xs ++ acc) (sym short)
 
--- eight digits behind those of a number
-pub behind : (n m : ℕ) → 0 < n → n < 2 ^ 32 → m < 2 ^ 32 → digits 16 false n ++ last_digits 8 m ≡ digits 16 false (n * 2 ^ 32 + m)
-behind n m some below small =
-    let w = width 8 n some below in
-    let k = w.0 in
-    let e : suc k + 8 ≡ suc (k + 8) = omega arith in
-    let p : 16 ^ suc (k + 8) ≡ 16 ^ suc k * 2 ^ 32 = ap (λ (i : ℕ). 16 ^ i) (sym e) ∙ pow-add 16 (suc k) 8 in
-    let q : 16 ^ (k + 8) ≡ 16 ^ k * 2 ^ 32 = pow-add 16 k 8 in
-    let most : n * 2 ^ 32 + m < 16 ^ suc (k + 8) = omega (arith, p, w.2, small) in
-    let least : 16 ^ (k + 8) ≤ n * 2 ^ 32 + m = omega (arith, q, w.3) in
-    ap (λ (xs : List ℕ). xs ++ last_digits 8 m) (digits_are k n (omega (arith, w.1)) w.2 (inl w.3))
-    ∙ sym (joined (suc k) 8 n m small) ∙ ap (λ (i : ℕ). last_digits i (n * 2 ^ 32 + m)) e ∙ sym (digits_are (k + 8) (n * 2 ^ 32 + m) (omega (arith, w.1)) most (inl least))
+next : (k n : ℕ) (acc : List ℕ) → 0 < n / 16 → digits_onto (suc k) 16 false n acc ≡ digits_onto k 16 false (n / 16) (digit_glyph false (n % 16) ∷ acc)
+next k n acc some = of (n / 16 == 0) refl
+  where
+    of : (b : Bool) → (n / 16 == 0) ≡ b → (if b then digit_glyph false (n % 16) ∷ acc else digits_onto k 16 false (n / 16) (digit_glyph false (n % 16) ∷ acc)) ≡ digits_onto k 16 false (n / 16) (digit_glyph false (n % 16) ∷ acc)
+    of true is = let none = eqb-true (n / 16) 0 is in absurd (omega (arith, none, some))
+    of false is = refl
 
--- ---- leading zeros
+-- a byte more
+pub byte_more : (n b : ℕ) → 1 ≤ n / 256 → n < 2 ^ 64 → b ≡ n % 256 → digits 16 false n ≡ digits 16 false (n / 256) ++ digit_glyph false (b / 16) ∷ digit_glyph false (b % 16) ∷ []
+unfolding digits
+byte_more n b some small is =
+    let two : List ℕ = digit_glyph false (b / 16) ∷ digit_glyph false (b % 16) ∷ [] in
+    let high : n / 16 % 16 ≡ b / 16 = omega (arith, is) in
+    let low : n % 16 ≡ b % 16 = omega (arith, is) in
+    let rest : n / 16 / 16 ≡ n / 256 = omega arith in
+    next 63 n [] (omega (arith, some)) ∙ next 62 (n / 16) (digit_glyph false (n % 16) ∷ []) (omega (arith, some)) ∙ rw (high, low, rest) (onto 15 62 64 (n / 256) two (omega (arith, small)) (omega arith) (omega arith))
 
-four : (k : ℕ) → 2 ^ (4 * k) ≡ 16 ^ k
-four zero = refl
-four (suc k) =
-    let e : 4 * suc k ≡ 4 * k + 4 = omega arith in
-    ap (λ (i : ℕ). 2 ^ i) e ∙ pow-add 2 (4 * k) 4 ∙ ap (λ (x : ℕ). x * 16) (four k) ∙ sym (pow-suc 16 k)
+-- ---- the bytes of a number
 
--- a number without its leading digits that are zeros, of which one stays
-pub record Led (n z : ℕ) : Type 0 where
-  pub most : z ≤ 7
-  pub below : n < 16 ^ suc (7 - z)
-  pub least : (16 ^ (7 - z) ≤ n) ⊎ (7 - z ≡ 0)
+-- one byte less is left
+pub byte_of : (n left : ℕ) → 0 < left → n / 2 ^ (8 * (left - 1)) / 256 ≡ n / 2 ^ (8 * left)
+byte_of n left some =
+    let e : 8 * (left - 1) + 8 ≡ 8 * left = omega (arith, some) in
+    shr-shr n (8 * (left - 1)) 8 ∙ ap (λ (k : ℕ). n / 2 ^ k) e
 
-pub led : (n z : ℕ) → n < 2 ^ 32 → z ≡ min (count_leading_zeros 32 n / 4) 7 → Led n z
-led zero z h is = let seven : z ≡ 7 = is ∙ ap (λ (x : ℕ). min (x / 4) 7) (leading_of_zero 32) in rw seven (record { most = omega arith; below = omega arith; least = inr refl })
-led (suc n) z h is =
-    let t = leading_top 32 (suc n) (omega arith) h in
-    let long : suc t.0 ≤ 4 * suc (7 - z) = omega (arith, is, t.1) in
-    let short : 4 * (7 - z) ≤ t.0 = omega (arith, is, t.1) in
-    let p = four (suc (7 - z)) in
-    let q = four (7 - z) in
-    let more = pow-le-pow_right {n = 2} (omega arith) long in
-    let less = pow-le-pow_right {n = 2} (omega arith) short in
-    record { most = omega (arith, is); below = omega (arith, p, more, t.3); least = inl (omega (arith, q, less, t.2)) }
+-- the first byte that is not zero
+pub first_byte : (n z : ℕ) → n < 2 ^ 64 → z ≡ min (count_leading_zeros 64 n / 8) 7 → (n / 2 ^ (8 * (7 - z)) < 256) × ((7 - z ≡ 0) ⊎ (1 ≤ n / 2 ^ (8 * (7 - z))))
+first_byte zero z small is = let seven : z ≡ 7 = is ∙ ap (λ (x : ℕ). min (x / 8) 7) (leading_of_zero 64) in rw seven (omega arith, inl refl)
+first_byte (suc n) z small is =
+    let t = leading_top 64 (suc n) (omega arith) small in
+    let k = 8 * (7 - z) in
+    let long : suc t.0 ≤ 8 + k = omega (arith, is, t.1) in
+    let short : k ≤ t.0 = omega (arith, is, t.1) in
+    let most = pow-le-pow_right {n = 2} (omega arith) long in
+    let least = pow-le-pow_right {n = 2} (omega arith) short in
+    let one : 1 * 2 ^ k ≤ suc n = omega (arith, least, t.2) in
+    (shr_below (suc n) 8 k (omega (arith, most, t.3)), inr (rw (shl-shr 1 k) at (shr_mono k one)))
 
--- no digit is lost by the shift
-pub led_whole : (n z : ℕ) → Led n z → n * 2 ^ (4 * z) % 2 ^ 32 ≡ n * 16 ^ z
-led_whole n z h =
-    let some = one-le-pow z 16 (omega arith) in
-    let most = h.most in
-    let e : suc (7 - z) + z ≡ 8 = omega (arith, most) in
-    let p : 16 ^ suc (7 - z) * 16 ^ z ≡ 2 ^ 32 = sym (pow-add 16 (suc (7 - z)) z) ∙ ap (λ (i : ℕ). 16 ^ i) e in
-    let less : n * 16 ^ z < 16 ^ suc (7 - z) * 16 ^ z = mul-lt-mul_of_pos_right h.below (omega (arith, some)) in
-    ap (λ (x : ℕ). n * x % 2 ^ 32) (four z) ∙ mod-eq_of_lt (omega (arith, less, p))
+-- ---- the end of the last address
 
--- ---- a room from which zeros are taken back
-
-cut : (n m : ℕ) (l : List ℕ) → n ≤ m → take n (take m l) ≡ take n l
-cut zero m l h = refl
-cut (suc n) zero l h = absurd (omega (arith, h))
-cut (suc n) (suc m) [] h = refl
-cut (suc n) (suc m) (x ∷ l) h = ap (λ (xs : List ℕ). x ∷ xs) (cut n m l (omega (arith, h)))
-
-pub taken_back : (room front text : List ℕ) (new old z : ℕ) → take new room ≡ front ++ text → length front ≡ old → new ≡ old + 8 → z ≤ 7 → take (new - z) room ≡ front ++ take (suc (7 - z)) text
-taken_back room front text new old z put long is most =
-    let e : new - z ≡ length front + suc (7 - z) = omega (arith, long, is, most) in
-    sym (cut (new - z) new room (omega arith)) ∙ ap₂ take e put ∙ take-append-add front text (suc (7 - z))
-
--- the digits that are left
-pub no_zeros : (n z : ℕ) (text : List ℕ) → Led n z → text ≡ last_digits 8 (n * 2 ^ (4 * z) % 2 ^ 32) → take (suc (7 - z)) text ≡ digits 16 false n
-no_zeros n z text h is =
-    let most = h.most in
-    let e : 8 ≡ suc (7 - z) + z = omega (arith, most) in
-    ap (take (suc (7 - z))) (is ∙ ap₂ last_digits e (led_whole n z h)) ∙ front (suc (7 - z)) z n ∙ sym (digits_are (7 - z) n (omega arith) h.below h.least)
-
--- the end of the last address
-pub last_end : digits 16 false 18446744073709551616 ≡ codes "10000000000000000"
+last_end : digits 16 false 18446744073709551616 ≡ codes "10000000000000000"
 unfolding digits
 last_end = refl
 
-pub is_last : (n : ℕ) (xs : List ℕ) (all : List ℕ) → n ≤ 2 ^ 64 → (n < 2 ^ 64 → ⊥) → all ≡ xs ++ codes "10000000000000000" → all ≡ xs ++ digits 16 false n
-is_last n xs all most least h =
-    ⊎_elim (λ is. h ∙ ap (λ (ys : List ℕ). xs ++ ys) (sym last_end ∙ ap (digits 16 false) (sym is))) (λ less. absurd (least less)) (eq-or-lt_of_le most)
+pub is_last : (n : ℕ) → n ≤ 2 ^ 64 → (n < 2 ^ 64 → ⊥) → codes "10000000000000000" ≡ digits 16 false n
+is_last n most least = ⊎_elim (λ is. sym last_end ∙ ap (digits 16 false) (sym is)) (λ less. absurd (least less)) (eq-or-lt_of_le most)

@@ -41,12 +41,6 @@ lent gives path s t is h = rw is h
 pub dump_lent : (gives : Text → Result (List ℕ) LoadError → Type 0) (path : Text) (s t : List ℕ) → t ≡ s → LoadsDump gives path (Ok s) → LoadsDump gives path (Ok t)
 dump_lent gives path s t is h = rw is h
 
--- what was loaded, and stands behind a change of its error
-pub loaded : {V : Type 0} (P : V → Type 0) (Q : LoadError → Type 0) (r : Result V LoadError) (v : V)
-    → MatchResult r P Q → MatchResult r (λ x. ◌≡◌ {A = Result V Failure} (Ok v) (Ok x)) (λ _. ⊥) → P v
-loaded P Q (Ok x) v h is = let same : v ≡ x = cc in rw same h
-loaded P Q (Err e) v h is = absurd is
-
 -- a normal form that is not written whole
 pub unwritten : (target : Target) (most : ℕ) (s : List ℕ) (e : WriteError) (old new : Output)
     → Writes target most s (Err e) old.failures new.failures old.put new.put → Before old new (Normalises target most s) (λ n. Prints {A = Unit {0}} old new n tt) (Err (of_write e))
@@ -54,11 +48,6 @@ unwritten target most s (write_error.Refused r) old new h = inr (failures.Refuse
 unwritten target most s (write_error.Write written) old new h = inl (h.1.normal, (h.1.is, h.1.within), h.0)
 unwritten target most s (write_error.Memory written) old new (same, inl none) = inr (failures.OutOfMemory, (read_error.OutOfMemory, tt, refl), refl, none.1)
 unwritten target most s (write_error.Memory written) old new (same, inr out) = inl (out.normal, (out.is, out.within), tt)
-
--- a text that is put, and then written out
-pub finished : (old mid new : Output) (text : List ℕ) (r : Result (Unit {0}) Failure) → mid.failures ≡ old.failures → Appends old.put mid.put text → Prints mid new [] tt r → Prints old new text tt r
-finished old mid new text (Ok a) same put h = (h.0, h.1 ∙ same, h.2, subst (λ (t : List ℕ). Appends old.put new.put t) (append-nil text) (Appends-trans old.put mid.put new.put text [] put h.3))
-finished old mid new text (Err e) same put h = subst (λ (n : ℕ). Unprinted n new.failures e) same h
 
 -- the entries of a section that was checked are counted
 pub counted : (target : Target) (s : List ℕ) (table : Section) (counts : EntryCounts) → table ≡ record { target = target; bytes = s }
@@ -84,23 +73,6 @@ evaluated t u ops start dump steps e is (inl h) = inl cc
 evaluated t u ops start dump steps e is (inr h) =
     inr (subst (λ (t : Target). Evaluates ops (stopped t dump.registers (byte_in dump.memory)) (first_stack t.size start) steps (Err e)) is h)
 
--- behind a text and a block that is decoded
-pub behind_block : (gives : Text → Result (List ℕ) LoadError → Type 0) (old new : Output) (target : Target) (e : Evaluation)
-    (text text' block' : List ℕ) (ops : List Op) (r : Result (Unit {0}) Failure)
-    → text' ≡ text → LoadsText gives (option_map (λ p. p.now) e.dump) (Ok text) → block' ≡ e.block.items → IsBlock Location target ops block'
-    → Before old new (Parses target text') (λ dump. Before old new (Values target ops e.start dump e.steps) (λ v. Prints {A = Unit {0}} old new (value_text v) tt)) r
-    → EvalEnds gives old new target e r
-behind_block gives old new target e text text' block' ops r lent loads same found ends =
-    inl (text', subst (λ (t : List ℕ). LoadsText gives (option_map (λ p. p.now) e.dump) (Ok t)) (sym lent) loads, inl (ops, subst (λ (b : List ℕ). IsBlock Location target ops b) same found, ends))
-
--- behind a text and a block that is refused
-pub block_refused : (gives : Text → Result (List ℕ) LoadError → Type 0) (old : Output) (target : Target) (e : Evaluation)
-    (text block' : List ℕ) (why : ReadError) (f : Failure)
-    → LoadsText gives (option_map (λ p. p.now) e.dump) (Ok text) → block' ≡ e.block.items → Refuses (BlockFault Location target block') why → f ≡ of_read why
-    → EvalEnds gives old old target e (Err f)
-block_refused gives old target e text block' why f loads same refused is =
-    inl (text, loads, inr (f, (why, subst (λ (b : List ℕ). Refuses (BlockFault Location target b) why) same refused, is), refl, Keeps-refl old.put))
-
 -- ---- frames
 
 -- what is unwound, or want of memory
@@ -110,38 +82,3 @@ pub unwound : (t u : Target) (s : List ℕ) (pc : ℕ) (dump : Dump) (policy : P
 unwound t u s pc dump policy steps e is (inl h) = inl cc
 unwound t u s pc dump policy steps e is (inr h) =
     inr (subst (λ (t : Target). Unwound t s pc (stopped t dump.registers (byte_in dump.memory)) policy steps (Err e)) is h)
-
--- behind both files
-pub behind_files : (gives : Text → Result (List ℕ) LoadError → Type 0) (old new : Output) (target : Target) (u : Unwinding)
-    (s s' text text' : List ℕ) (r : Result (Unit {0}) Failure)
-    → s' ≡ s → Loads gives u.path.now (Ok s) → text' ≡ text → LoadsDump gives u.dump.now (Ok text)
-    → Before old new (Checks target s') (λ _. Before old new (Parses target text') (λ dump. Before old new (Frames target s' dump u.default u.steps) (λ frame. Prints {A = Unit {0}} old new (frame_text frame) tt))) r
-    → UnwindEnds gives old new target u r
-behind_files gives old new target u s s' text text' r same loads same' loads' ends =
-    inl (s', lent gives u.path.now s s' same loads, inl (text', dump_lent gives u.dump.now text text' same' loads', ends))
-
--- ---- look-ups
-
--- behind a section and the lines of standard input
-pub behind_lines : (gives : Text → Result (List ℕ) LoadError → Type 0) (old new : Output) (target : Target) (l : Lookup)
-    (s s' text text' : List ℕ) (r : Result (Unit {0}) Failure)
-    → s' ≡ s → Loads gives l.path.now (Ok s) → text' ≡ text → LoadsText gives (lines_in l.addresses.items) (Ok text)
-    → Before old new (Checks target s') (λ _. Before old new (Asks target l.addresses.items text') (λ asked. PrintsOf {A = List At} {B = Unit {0}} old new (Tells target s' asked) (lines at_text) tt)) r
-    → AtEnds gives old new target l r
-behind_lines gives old new target l s s' text text' r same loads same' loads' ends =
-    inl (s', lent gives l.path.now s s' same loads, inl (text', subst (λ (t : List ℕ). LoadsText gives (lines_in l.addresses.items) (Ok t)) (sym same') loads', ends))
-
--- ---- costs
-
--- behind a normal form that is measured
-pub behind_length : (gives : Text → Result (List ℕ) LoadError → Type 0) (old new : Output) (target : Target) (path : Text) (s one two : List ℕ) (r : Result (Unit {0}) Failure)
-    → one ≡ s → two ≡ s → Loads gives path (Ok s) → (within : FitsCap target 2147483647 one)
-    → Before old new (CostsBehind target two within.0) (λ cost. Prints {A = Unit {0}} old new (costs_text (length two) cost) tt) r
-    → OverFile gives old new path (Costs target) (λ s cost. Prints {A = Unit {0}} old new (costs_text (length s) cost) tt) r
-behind_length gives old new target path s one two r first second loads within ends =
-    inl (two, lent gives path s two second loads, costs (subst (λ (t : List ℕ). IsNormalForm target t within.0) (first ∙ sym second) within.1) r ends)
-  where
-    costs : IsNormalForm target two within.0 → (r : Result (Unit {0}) Failure) → Before old new (CostsBehind target two within.0) (λ cost. Prints {A = Unit {0}} old new (costs_text (length two) cost) tt) r
-        → Before old new (Costs target two) (λ cost. Prints {A = Unit {0}} old new (costs_text (length two) cost) tt) r
-    costs short r (inl (cost, counts, prints)) = inl (cost, inl (within.0, (short, within.2), counts), prints)
-    costs short r (inr (e, counts, is, kept)) = inr (e, inl (within.0, (short, within.2), counts), is, kept)

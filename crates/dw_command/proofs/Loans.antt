@@ -1,6 +1,6 @@
 -- What a run tells of an output that is lent, and what the output holds behind it.
 use Rattle.dw_command.proofs.Words.{◌≡◌, ◌∙◌, ℕ, ◌-◌, List, [], ◌∷◌, ◌++◌, length, take, if◌then◌else◌, Option, Some, None, option_map, Result, Ok, Err, inl, inr, sym, ap, arith, refl, Appends, Keeps, append-nil, length-append, Text}
-use Rattle.dw_command.proofs.Words.{Target, Location, Evaluation, Lookup, Unwinding, LoadError, Failure, lines_in, AndThen, Asks, AtEnds, Before, Checks, Compares, Costs, Cuts, Decodes, Ends, EvalEnds, Follows, Frames, ListsFdes, Loads}
+use Rattle.dw_command.proofs.Words.{Target, Location, LoadError, Failure, lines_in, AndThen, Asks, AtEnds, Before, Checks, Compares, Costs, Cuts, Decodes, Ends, EvalEnds, Follows, Frames, ListsFdes, Loads}
 use Rattle.dw_command.proofs.Words.{LoadsDump, LoadsText, Normalises, OverBlock, OverFile, Parses, Plans, Prints, PrintsOf, PrintsText, SameEnds, SpellsLeast, Tallies, TaskEnds, UnwindEnds, Values, costs_text, Output, put_so_far, at_text}
 use Rattle.dw_command.proofs.Words.{member_text, block_text, counts_text, entry_text, frame_text, lines, sameness_text, value_text}
 use Rattle.dw_words.specs.declared.request.{Request.Request, Task.Task}
@@ -86,51 +86,36 @@ module _ (old new old' new' : Output) (tells : Tells old new old' new') where
   done E E' go r (inr (e, h, is)) = inr (e, go (Err e) h, is)
 
   module _ (gives : Text → Result (List ℕ) LoadError → Type 0) where
-    over_file : {A : Type 0} (path : Text) (Judges : List ℕ → Result A Failure → Type 0) (Goes Goes' : List ℕ → A → Result (Unit {0}) Failure → Type 0)
-        → ((s : List ℕ) (a : A) (r : Result (Unit {0}) Failure) → Goes s a r → Goes' s a r)
-        → (r : Result ℕ Failure) → AndThen (OverFile gives old new path Judges Goes) (λ (_ : Unit {0}) status. status ≡ Ok 0) r
-        → AndThen (OverFile gives old' new' path Judges Goes') (λ (_ : Unit {0}) status. status ≡ Ok 0) r
-    over_file path Judges Goes Goes' goes r h =
-        done (OverFile gives old new path Judges Goes) (OverFile gives old' new' path Judges Goes')
-        (λ r. before (Loads gives path) (λ s. Before old new (Judges s) (Goes s)) (λ s. Before old' new' (Judges s) (Goes' s)) (λ s. before (Judges s) (Goes s) (Goes' s) (goes s)) r) r h
-
     of_file : {A : Type 0} (path : Text) (Judges : List ℕ → Result A Failure → Type 0) (text : List ℕ → A → List ℕ)
         → (r : Result ℕ Failure) → AndThen (OverFile gives old new path Judges (λ s a. Prints old new (text s a) tt)) (λ (_ : Unit {0}) status. status ≡ Ok 0) r
         → AndThen (OverFile gives old' new' path Judges (λ s a. Prints old' new' (text s a) tt)) (λ (_ : Unit {0}) status. status ≡ Ok 0) r
-    of_file path Judges text r h = over_file path Judges (λ s a. Prints old new (text s a) tt) (λ s a. Prints old' new' (text s a) tt) (λ s a. prints (text s a) tt) r h
-
-    at_ends : (target : Target) (l : Lookup) (r : Result (Unit {0}) Failure) → AtEnds gives old new target l r → AtEnds gives old' new' target l r
-    at_ends target l r h =
-        before (Loads gives l.path.now) _ _ (λ s. before (LoadsText gives (lines_in l.addresses.items)) _ _ (λ text. before (Checks target s) _ _ (λ _.
-        before (Asks target l.addresses.items text) _ _ (λ asked. prints_of (SaysOf target s asked) (lines at_text) tt)))) r h
-
-    eval_ends : (target : Target) (e : Evaluation) (r : Result (Unit {0}) Failure) → EvalEnds gives old new target e r → EvalEnds gives old' new' target e r
-    eval_ends target e r h =
-        before (LoadsText gives (option_map (λ path. path.now) e.dump)) _ _ (λ text. before (Decodes Location target e.block.items) _ _ (λ ops.
-        before (Parses target text) _ _ (λ dump. before (Values target ops e.start dump e.steps) _ _ (λ v. prints (value_text v) tt)))) r h
-
-    unwind_ends : (target : Target) (u : Unwinding) (r : Result (Unit {0}) Failure) → UnwindEnds gives old new target u r → UnwindEnds gives old' new' target u r
-    unwind_ends target u r h =
-        before (Loads gives u.path.now) _ _ (λ s. before (LoadsDump gives u.dump.now) _ _ (λ text. before (Checks target s) _ _ (λ _.
-        before (Parses target text) _ _ (λ dump. before (Frames target s dump u.default u.steps) _ _ (λ frame. prints (frame_text frame) tt))))) r h
-
-    same_ends : (target : Target) (path other : Text) (r : Result ℕ Failure) → SameEnds gives old new target path other r → SameEnds gives old' new' target path other r
-    same_ends target path other r h =
-        before (Loads gives path) _ _ (λ s. before (Loads gives other) _ _ (λ t. before (Compares target s t) _ _ (λ b. prints (sameness_text b) (if b then 0 else 1)))) r h
+    of_file path Judges text r h =
+        done (OverFile gives old new path Judges (λ s a. Prints old new (text s a) tt)) (OverFile gives old' new' path Judges (λ s a. Prints old' new' (text s a) tt))
+        (before (Loads gives path) _ _ (λ s. before (Judges s) _ _ (λ a. prints (text s a) tt))) r h
 
     task_ends : (target : Target) (task : Task) (r : Result ℕ Failure) → TaskEnds gives old new target task r → TaskEnds gives old' new' target task r
-    task_ends target (tasks.At l) r h = done (AtEnds gives old new target l) (AtEnds gives old' new' target l) (at_ends target l) r h
+    task_ends target (tasks.At l) r h =
+        done (AtEnds gives old new target l) (AtEnds gives old' new' target l)
+        (before (Loads gives l.path.now) _ _ (λ s. before (LoadsText gives (lines_in l.addresses.items)) _ _ (λ text. before (Checks target s) _ _ (λ _.
+        before (Asks target l.addresses.items text) _ _ (λ asked. prints_of (SaysOf target s asked) (lines at_text) tt))))) r h
     task_ends target (tasks.Check path) r h = of_file path.now (Tallies target) (λ s counts. counts_text counts (length s)) r h
     task_ends target (tasks.Cost path) r h = of_file path.now (Costs target) (λ s cost. costs_text (length s) cost) r h
     task_ends target (tasks.Entries path) r h = of_file path.now (Cuts target) (λ s es. lines entry_text es) r h
-    task_ends target (tasks.Eval e) r h = done (EvalEnds gives old new target e) (EvalEnds gives old' new' target e) (eval_ends target e) r h
+    task_ends target (tasks.Eval e) r h =
+        done (EvalEnds gives old new target e) (EvalEnds gives old' new' target e)
+        (before (LoadsText gives (option_map (λ path. path.now) e.dump)) _ _ (λ text. before (Decodes Location target e.block.items) _ _ (λ ops.
+        before (Parses target text) _ _ (λ dump. before (Values target ops e.start dump e.steps) _ _ (λ v. prints (value_text v) tt))))) r h
     task_ends target (tasks.Expr profile block) r h =
         done (OverBlock old new target profile block.items) (OverBlock old' new' target profile block.items)
-        (λ r. before (SpellsLeast profile target block.items) _ _ (λ spelled. prints (block_text spelled.0 spelled.1) tt) r) r h
+        (before (SpellsLeast profile target block.items) _ _ (λ spelled. prints (block_text spelled.0 spelled.1) tt)) r h
     task_ends target (tasks.Normal w) r h = of_file w.path.now (Normalises target w.cap) (λ s n. n) r h
     task_ends target (tasks.Rows path) r h = of_file path.now (ListsFdes target) (λ s ms. lines member_text ms) r h
-    task_ends target (tasks.Same path other) r h = same_ends target path.now other.now r h
-    task_ends target (tasks.Unwind u) r h = done (UnwindEnds gives old new target u) (UnwindEnds gives old' new' target u) (unwind_ends target u) r h
+    task_ends target (tasks.Same path other) r h =
+        before (Loads gives path.now) _ _ (λ s. before (Loads gives other.now) _ _ (λ t. before (Compares target s t) _ _ (λ b. prints (sameness_text b) (if b then 0 else 1)))) r h
+    task_ends target (tasks.Unwind u) r h =
+        done (UnwindEnds gives old new target u) (UnwindEnds gives old' new' target u)
+        (before (Loads gives u.path.now) _ _ (λ s. before (LoadsDump gives u.dump.now) _ _ (λ text. before (Checks target s) _ _ (λ _.
+        before (Parses target text) _ _ (λ dump. before (Frames target s dump u.default u.steps) _ _ (λ frame. prints (frame_text frame) tt)))))) r h
 
     follows : (request : Request) (r : Result ℕ Failure) → Follows gives old new request r → Follows gives old' new' request r
     follows (requests.Run job) r h = task_ends job.target job.task r h

@@ -1,6 +1,7 @@
 -- What was put so far, while the output gets what is left and texts are put behind.
-use Rattle.dw_command.proofs.Words.{◌≡◌, ◌∙◌, ℕ, zero, suc, ◌+◌, ◌-◌, ◌≤◌, List, [], ◌∷◌, ◌++◌, length, take, drop, refl, sym, ap, arith, subst, Option, Some, None, Result, Ok, Err, OnOk, min, Appends, Keeps, append_known, Keeps-refl}
-use Rattle.dw_command.proofs.Words.{append_assoc, length-take-le, length-drop, drop-take, take_min, take-append-drop, append-nil, take-append_seam, put_so_far}
+use Rattle.dw_command.proofs.Words.{◌≡◌, ◌∙◌, ℕ, zero, suc, ◌+◌, ◌-◌, ◌≤◌, List, [], ◌∷◌, ◌++◌, length, take, drop, refl, sym, ap, arith, subst, Option, Some, None, Result, Ok, Err, OnOk, min, Appends, Keeps, append_known, Keeps-refl, false, Bool}
+use Rattle.dw_command.proofs.Words.{append_assoc, length-take-le, length-drop, drop-take, take_min, take-append-drop, append-nil, take-append_seam, put_so_far, output_of, Adds, Fills, Finishes, Stays, Appends-kept, Appends-nil, Appends-trans, Failure, Prints, PrintsOf}
+use Rattle.dw_command.specs.declared.listing.Listing.{Listing}
 use lib.Seq.{paste}
 
 -- no more than all
@@ -8,7 +9,7 @@ pub whole : (len most : ℕ) (room : List ℕ) → length room ≡ most → take
 whole len most room is = ap (λ (k : ℕ). take (min len k) room) (sym is) ∙ take_min len room
 
 -- what is left is moved to the front
-pub moved_front : (done k : ℕ) (room : List ℕ) → done + k ≤ length room → take k (paste room 0 (drop done room) k) ≡ take k (drop done room)
+moved_front : (done k : ℕ) (room : List ℕ) → done + k ≤ length room → take k (paste room 0 (drop done room) k) ≡ take k (drop done room)
 moved_front done k room fits =
     let long = length-drop done room in
     let short : length (take k (drop done room)) ≡ k = length-take-le k (drop done room) (omega (arith, long, fits)) in
@@ -24,39 +25,55 @@ parted len m done room is most fits =
     let rest : drop done (take m room) ≡ take k (drop done room) = ap (λ (n : ℕ). drop done (take n room)) (sym e) ∙ drop-take done k room in
     sym is ∙ sym (take-append-drop done (take m room)) ∙ ap (λ (l : List ℕ). take done (take m room) ++ l) (rest ∙ sym (moved_front done k room (omega (arith, e, fits))))
 
--- the output took all
-pub took_all : (len m done : ℕ) (room : List ℕ) → take m room ≡ take len room → m ≤ done → take len room ≡ take done (take m room) ++ []
-took_all len m done room is all = sym is ∙ sym (twice m done room all) ∙ sym (append-nil (take done (take m room)))
-  where
-    twice : (m done : ℕ) (room : List ℕ) → m ≤ done → take done (take m room) ≡ take m room
-    twice zero zero room h = refl
-    twice zero (suc done) room h = refl
-    twice (suc m) zero room h = absurd (omega (arith, h))
-    twice (suc m) (suc done) [] h = refl
-    twice (suc m) (suc done) (x ∷ room) h = ap (λ (xs : List ℕ). x ∷ xs) (twice m done room (omega (arith, h)))
-
 -- ---- one text behind another
 
 -- a text that is put into the room
-pub in_room : {W : Type 0} (contents : W → Option (List ℕ)) (out out' : W) (len len' : ℕ) (room room' text : List ℕ) → out' ≡ out → take len' room' ≡ take len room ++ text
-    → Appends (put_so_far (contents out) len room) (put_so_far (contents out') len' room') text
-in_room {W} contents out out' len len' room room' text is put = subst (λ (o : W). Appends (put_so_far (contents out) len room) (put_so_far (contents o) len' room') text) (sym is) (known (contents out))
+pub in_room : {W : Type 0} (contents : W → Option (List ℕ)) (old new : Listing W) (text : List ℕ) → Fills old new text → Adds contents old new text
+in_room {W} contents old new text h = record {
+  works = λ still. sym h.works ∙ still;
+  put = λ still. subst (λ (o : W). Appends (put_so_far (contents old.out) old.len old.room) (put_so_far (contents o) new.len new.room) text) (sym h.out) (known (contents old.out));
+}
   where
-    known : (a : Option (List ℕ)) → Appends (append_known a (take len room)) (append_known a (take len' room')) text
+    known : (a : Option (List ℕ)) → Appends (append_known a (take old.len old.room)) (append_known a (take new.len new.room)) text
     known None = tt
-    known (Some xs) = ap (λ (l : List ℕ). xs ++ l) put ∙ sym (append_assoc xs (take len room) text)
+    known (Some xs) = ap (λ (l : List ℕ). xs ++ l) h.put ∙ sym (append_assoc xs (take old.len old.room) text)
+
+-- two texts that are put into the room
+pub filled : {W : Type 0} (a b c : Listing W) (s t : List ℕ) → Fills a b s → Fills b c t → Fills a c (s ++ t)
+filled a b c s t h k = record {
+  works = k.works ∙ h.works;
+  out = k.out ∙ h.out;
+  put = k.put ∙ ap (λ (l : List ℕ). l ++ t) h.put ∙ append_assoc (take a.len a.room) s t;
+}
 
 -- a text behind what stays
-pub behind_kept : (a b c : Option (List ℕ)) (text : List ℕ) → Keeps a b → Appends b c text → Appends a c text
+behind_kept : (a b c : Option (List ℕ)) (text : List ℕ) → Keeps a b → Appends b c text → Appends a c text
 behind_kept None b c text p q = tt
 behind_kept (Some x) None c text p q = absurd p
 behind_kept (Some x) (Some y) None text p q = absurd q
 behind_kept (Some x) (Some y) (Some z) text p q = q ∙ ap (λ (l : List ℕ). l ++ text) p
 
--- what comes behind an answer that is there
-pub on_ok : {T E P Q : Type 0} (r : Result T E) → OnOk r P → (P → Q) → OnOk r Q
-on_ok (Ok x) h f = f h
-on_ok (Err e) h f = h
+-- nothing is put
+pub nothing : {W : Type 0} (contents : W → Option (List ℕ)) (l : Listing W) → Adds contents l l []
+nothing contents l = record { works = λ still. still; put = λ _. Appends-nil (put_so_far (contents l.out) l.len l.room) }
 
-pub kept : (a : Option (List ℕ)) → Keeps a a
-kept a = Keeps-refl a
+module _ {W : Type 0} (contents : W → Option (List ℕ)) (a b c : Listing W) where
+  pub on : (s t : List ℕ) → Adds contents a b s → Adds contents b c t → Adds contents a c (s ++ t)
+  on s t h k = record { works = λ still. h.works (k.works still); put = λ still. Appends-trans _ _ _ s t (h.put (k.works still)) (k.put still) }
+
+  pub kept_on : (t : List ℕ) → Stays contents a b → Adds contents b c t → Adds contents a c t
+  kept_on t h k = record { works = λ still. h.works (k.works still); put = λ still. behind_kept _ _ _ t (h.put (k.works still)) (k.put still) }
+
+  pub on_kept : (s : List ℕ) → Adds contents a b s → Stays contents b c → Adds contents a c s
+  on_kept s h k = record { works = λ still. h.works (k.works still); put = λ still. Appends-kept _ _ _ s (h.put (k.works still)) (k.put still) }
+
+  -- the text of an answer, which is written out
+  pub printed : (text : List ℕ) (r : Result (Unit {0}) Failure) → a.failed ≡ false → Adds contents a b text → Finishes contents b c r → Prints (output_of contents a) (output_of contents c) text tt r
+  printed text (Ok done) works h k = (refl, rw (works, k.0) refl, k.1, Appends-kept _ _ _ text (h.put (k.2.works k.0)) (k.2.put k.0))
+  printed text (Err failure) works h k = rw works k
+
+  -- that of something that is so
+  pub printed_of : {A : Type 0} (Is : A → Type 0) (text : A → List ℕ) (found : A) (r : Result (Unit {0}) Failure) → a.failed ≡ false → Is found → Adds contents a b (text found) → Finishes contents b c r
+      → PrintsOf (output_of contents a) (output_of contents c) Is text tt r
+  printed_of Is text found (Ok done) works is h k = (found, is, printed (text found) (Ok done) works h k)
+  printed_of Is text found (Err failure) works is h k = rw works k

@@ -1,5 +1,7 @@
 -- Texts of lists, element by element.
-use Rattle.dw_command.proofs.Words.{◌≡◌, ◌∙◌, ℕ, zero, suc, ◌+◌, ◌<◌, ◌≤◌, List, [], ◌∷◌, ◌++◌, length, map, take, get_or, Option, sym, ap, arith, AllZip, Appends, Appends-nil, Appends-trans, append_assoc, append-nil, total, lines}
+use Rattle.dw_command.proofs.Words.{◌≡◌, ◌∙◌, ℕ, zero, suc, ◌+◌, ◌<◌, ◌≤◌, List, [], ◌∷◌, ◌++◌, length, map, take, get_or, Option, sym, ap, arith, AllZip, append_assoc, append-nil, total, lines, Adds}
+use Rattle.dw_command.proofs.Puts.{nothing, on}
+use Rattle.dw_command.specs.declared.listing.Listing.{Listing}
 
 -- one element more
 pub lines_more : {A : Type 0} (text : A → List ℕ) (xs : List A) (i : ℕ) (d : A) → i < length xs → lines text (take (i + 1) xs) ≡ lines text (take i xs) ++ text (get_or xs i d)
@@ -48,15 +50,15 @@ total_more count (x ∷ xs) (suc i) d h =
 
 -- ---- the text that is left
 
--- where a text is put from here, all of it is put from there
-abbrev pub Leads : Option (List ℕ) → List ℕ → Option (List ℕ) → List ℕ → Type 0
-Leads from all here left = (to : Option (List ℕ)) → Appends here to left → Appends from to all
+module _ {W : Type 0} (contents : W → Option (List ℕ)) (from : Listing W) (all : List ℕ) where
+  -- where a text is put from here, all of it is put from there
+  abbrev pub Leads : Listing W → List ℕ → Type 0
+  Leads here left = (to : Listing W) → Adds contents here to left → Adds contents from to all
 
--- a part of it is put
-pub leads_on : (from here next : Option (List ℕ)) (all part left : List ℕ)
-    → Leads from all here (part ++ left) → Appends here next part → Leads from all next left
-leads_on from here next all part left h put to rest = h to (Appends-trans here next to part left put rest)
+  -- a part of it is put
+  pub leads_on : (here next : Listing W) (part left : List ℕ) → Leads here (part ++ left) → Adds contents here next part → Leads next left
+  leads_on here next part left h put to rest = h to (on contents here next to part left put rest)
 
--- nothing is left
-pub leads_to : (from here : Option (List ℕ)) (all : List ℕ) → Leads from all here [] → Appends from here all
-leads_to from here all h = h here (Appends-nil here)
+  -- nothing is left
+  pub leads_to : (here : Listing W) → Leads here [] → Adds contents from here all
+  leads_to here h = h here (nothing contents here)

@@ -1,37 +1,30 @@
 //! `dwframe at`: the rules at some addresses of a section.
 
-ghost use Rattle.std.specs.Prelude.{◌≡◌, ◌<◌, ◌≤◌, ◌-◌, ◌^◌, List, MatchResult, OnOk, Some, option_map};
+ghost use Rattle.std.specs.Prelude.{◌≡◌, ◌≤◌, ◌^◌, List, false, IfErr, OnOk, Some, option_map};
 ghost use Rattle.dw_section.specs.{Meaning.AreFdes, declared.lookup.Fde.{Fde as TheFde}};
-ghost use Rattle.dw_command.specs.{Addresses.lines_in, Answers.{AtEnds, PrintsOf, Tells, TellsOf, Unprinted}};
-ghost use Rattle.dw_command.specs.{RowTexts.{At, at_text}, Texts.lines, Inner.Output.{Adds, Told, output_of}};
+ghost use Rattle.dw_command.specs.{Addresses.lines_in, Answers.{AtEnds, PrintsOf, Tells, TellsOf}};
+ghost use Rattle.dw_command.specs.{RowTexts.{At, at_text}, Texts.lines, Inner.Output.{Adds, Breaks, output_of}};
 
 use crate::address_lines::add_lines;
 use crate::failure::Failure;
 use crate::files::{Load, STDIN};
 use crate::input::{load_file, load_text};
-use crate::listing::{Listing, OutputFault};
+use crate::listing::Listing;
 use crate::row_text::{put_fde, put_none, put_row};
 use dw_cfa::{Row, RowRoom};
 use dw_num::Target;
 use dw_section::{Fde, Table, check};
 use dw_words::Lookup;
-use std::alloc::Global;
+use std::alloc::{AllocError, Global};
 use std::io::Write;
 
 // Puts the FDE that covers an address, and the rules there.
-fn put_found<W: Write>(
-    out: &mut Listing<W>,
-    address: u64,
-    fde: &Fde,
-    row: &Row<'_>,
-) -> Result<(), OutputFault>
-    requires room { out.old.failures < 2 ^ 64 - 1 }
+fn put_found<W: Write>(out: &mut Listing<W>, address: u64, fde: &Fde, row: &Row<'_>)
     requires in_space { fde.now.end ≤ 2 ^ 64 }
-    ensures told { Told out.old.failures out.new.failures result }
-    ensures put { OnOk result (Adds W.contents out.old out.new (at_text (address, Some (fde.now, row.now)))) }
+    ensures { Adds W.contents out.old out.new (at_text (address, Some (fde.now, row.now))) }
 {
-    put_fde(out, fde)?;
-    put_row(out, u128::from(address), row)
+    put_fde(out, fde);
+    put_row(out, u128::from(address), row);
 }
 
 // Puts what the section says of an address.
@@ -40,16 +33,16 @@ fn put_at<'a, W: Write>(
     table: &Table<'a>,
     rows: &mut RowRoom<'a>,
     address: u64,
-) -> Result<(), Failure<'static>>
-    requires room { out.old.failures < 2 ^ 64 - 1 }
-    ensures told { MatchResult result (λ _. out.new.failures ≡ out.old.failures) (Unprinted out.old.failures out.new.failures) }
+) -> Result<(), AllocError>
     ensures put { (fs : List TheFde) → AreFdes table.now.target table.now.bytes fs → OnOk result ((found : At) × TellsOf table.now.target table.now.bytes fs address found × Adds W.contents out.old out.new (at_text found)) }
 {
     table.accepted();
     let Some(fde) = table.look_up(address, rows)? else {
-        return Ok(put_none(out, address)?);
+        put_none(out, address);
+        return Ok(());
     };
-    Ok(put_found(out, address, &fde, rows.row())?)
+    put_found(out, address, &fde, rows.row());
+    Ok(())
 }
 
 // Puts what the section says of each address.
@@ -59,13 +52,13 @@ fn put_each<'a, W: Write>(
     rows: &mut RowRoom<'a>,
     addresses: &[u64],
 ) -> Result<(), Failure<'static>>
-    requires room { out.old.failures < 2 ^ 64 - 1 }
-    ensures told { MatchResult result (λ _. out.new.failures ≡ out.old.failures) (Unprinted out.old.failures out.new.failures) }
+    ensures told { IfErr result (Breaks out.new) }
     ensures put { OnOk result ((found : List At) × Tells table.now.target table.now.bytes addresses.now found × Adds W.contents out.old out.new (lines at_text found)) }
 {
     table.accepted();
     for address in addresses {
         put_at(out, table, rows, *address)?;
+        out.check()?;
     }
     Ok(())
 }
@@ -76,11 +69,11 @@ fn put_all<'a, W: Write>(
     rows: &mut RowRoom<'a>,
     addresses: &[u64],
 ) -> Result<(), Failure<'static>>
-    requires room { out.old.failures < 2 ^ 64 - 1 }
+    requires works { out.old.failed ≡ false }
     ensures { PrintsOf (output_of W.contents out.old) (output_of W.contents out.new) (Tells table.now.target table.now.bytes addresses.now) (lines at_text) tt result }
 {
     put_each(out, table, rows, addresses)?;
-    Ok(out.finish()?)
+    out.finish()
 }
 
 // The path of the lines that are read where the words name no address.
@@ -102,7 +95,7 @@ pub fn run_at<'a, L: Load, W: Write>(
     files: &mut L,
     out: &mut Listing<W>,
 ) -> Result<(), Failure<'a>>
-    requires room { out.old.failures < 2 ^ 64 - 1 }
+    requires works { out.old.failed ≡ false }
     ensures { AtEnds (L.gives files.old) (output_of W.contents out.old) (output_of W.contents out.new) target lookup.entry result }
 {
     let Lookup {

@@ -1,6 +1,6 @@
 //! The whole command, over the words, files and outputs that it is given.
 
-ghost use Rattle.std.specs.{Prelude.{◌≡◌, ℕ, ◌<◌, ◌≤◌, ◌-◌, ◌^◌, Result, IfOk, map, string_bytes}, Result.result_map_both};
+ghost use Rattle.std.specs.{Prelude.{◌≡◌, ℕ, ◌≤◌, Result, IfOk, false, map, string_bytes}, Result.result_map_both};
 ghost use Rattle.dw_command.specs.{Answers.{Ends, PrintsText, TaskEnds, exit_of}, Engine.Runs};
 ghost use Rattle.dw_command.specs.{declared.failure.Failure.{Failure as TheFailure}, Inner.Output.output_of};
 
@@ -38,7 +38,7 @@ fn run_job<'a, L: Load, W: Write>(
     files: &mut L,
     out: &mut Listing<W>,
 ) -> Result<u8, Failure<'a>>
-    requires room { out.old.failures < 2 ^ 64 - 1 }
+    requires works { out.old.failed ≡ false }
     ensures ends { TaskEnds (L.gives files.old) (output_of W.contents out.old) (output_of W.contents out.new) job.entry.target job.entry.task result }
     ensures most { IfOk result (λ status. status ≤ 1) }
 {
@@ -63,11 +63,11 @@ fn put_help<W: Write>(
     text: clap::Error,
     out: &mut Listing<W>,
 ) -> Result<u8, Failure<'static>>
-    requires room { out.old.failures < 2 ^ 64 - 1 }
+    requires works { out.old.failed ≡ false }
     ensures { PrintsText (output_of W.contents out.old) (output_of W.contents out.new) 0 result }
 {
     let text = format!(in alloc; "{text}")?;
-    out.long_text(text.as_bytes())?;
+    out.long_text(text.as_bytes());
     out.finish()?;
     Ok(0)
 }
@@ -78,7 +78,7 @@ fn run<'a, L: Load, W: Write>(
     files: &mut L,
     out: &mut Listing<W>,
 ) -> Result<u8, Failure<'a>>
-    requires room { out.old.failures < 2 ^ 64 - 1 }
+    requires works { out.old.failed ≡ false }
     ensures ends { Ends (L.gives files.old) (output_of W.contents out.old) (output_of W.contents out.new) (map string_bytes words.entry.now) result }
     ensures most { IfOk result (λ status. status ≤ 1) }
 {
@@ -96,7 +96,7 @@ fn tell<E: Write>(failure: &Failure<'_>, err: &mut E) {
     };
 }
 
-// The exit status of a run over a listing, which counts the output's failures: that the output failed is answered only where one came.
+// The exit status of a run over a listing, which tells whether its output failed.
 fn run_over<L: Load, W: Write, E: Write>(
     alloc: Global,
     words: &[String],
@@ -104,7 +104,7 @@ fn run_over<L: Load, W: Write, E: Write>(
     out: &mut Listing<W>,
     err: &mut E,
 ) -> u8
-    requires room { out.old.failures < 2 ^ 64 - 1 }
+    requires works { out.old.failed ≡ false }
     // It is the status of an answer to these words, over these files. The output failed where it says so, and not where there is an answer.
     ensures ends { (answer : Result ℕ TheFailure) × Ends (L.gives files.old) (output_of W.contents out.old) (output_of W.contents out.new) (map string_bytes words.now) answer × (result ≡ exit_of answer) }
     ensures most { result ≤ 5 }

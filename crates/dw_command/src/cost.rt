@@ -1,22 +1,20 @@
 //! `dwframe cost`: what a section costs beside its normal form.
 
-ghost use Rattle.std.specs.Prelude.{◌≡◌, ◌<◌, ◌≤◌, ◌-◌, ◌^◌, ◌++◌, List, codes, length, map, min, IfOk, OnOk};
+ghost use Rattle.std.specs.Prelude.{◌≡◌, ◌≤◌, ◌-◌, ◌^◌, ◌++◌, List, codes, false, length, map, min, IfOk};
 ghost use Rattle.dw_section.specs.Meaning.{RowStarts, total};
 ghost use Rattle.dw_canon.specs.Members.{AreMembers, Member};
 ghost use Rattle.dw_command.specs.Answers.{ChangeCount, Costs, OverFile, Prints, change_count, costs_text};
-ghost use Rattle.dw_command.specs.{Texts.cost_text, Inner.Output.{Adds, Told, output_of}};
+ghost use Rattle.dw_command.specs.{Texts.cost_text, Inner.Output.{Adds, output_of}};
 
 use crate::failure::Failure;
-use crate::files::Load;
-use crate::listing::{Listing, OutputFault};
+use crate::files::{LIMIT, Load};
+use crate::input::load_file;
+use crate::listing::Listing;
 use dw_normal::normal_length;
 use dw_num::Target;
 use dw_section::{Changes, FdeRef, Table, check};
 use std::alloc::{AllocError, Global};
 use std::io::Write;
-
-// The most bytes that a section has.
-const CAP: u64 = 2_147_483_647;
 
 // How many changes are still to come, or 2^64 - 1 where there are more.
 fn count_changes(changes: &mut Changes<'_>) -> Result<u64, AllocError>
@@ -53,24 +51,16 @@ fn count_all(table: &Table<'_>, starts: u64) -> Result<u64, AllocError>
     count_each(table, &mut table.no_changes())
 }
 
-fn put_pair<W: Write>(
-    out: &mut Listing<W>,
-    name: &[u8],
-    source: u64,
-    normal: u64,
-) -> Result<(), OutputFault>
-    requires room { out.old.failures < 2 ^ 64 - 1 }
+fn put_pair<W: Write>(out: &mut Listing<W>, name: &[u8], source: u64, normal: u64)
     requires short { length name.now ≤ 16 }
-    ensures told { Told out.old.failures out.new.failures result }
-    ensures put { OnOk result (Adds W.contents out.old out.new (cost_text name.now source normal)) }
+    ensures { Adds W.contents out.old out.new (cost_text name.now source normal) }
 {
-    out.make_room()?;
+    out.make_room();
     out.text(name);
     out.decimal(source);
     out.text(b" ");
     out.decimal(normal);
     out.text(b"\n");
-    Ok(())
 }
 
 // The lines on a section of so many bytes, whose normal form has `len` bytes.
@@ -81,12 +71,12 @@ fn put_costs<W: Write>(
     starts: u64,
     changes: u64,
 ) -> Result<(), Failure<'static>>
-    requires room { out.old.failures < 2 ^ 64 - 1 }
+    requires works { out.old.failed ≡ false }
     ensures { Prints (output_of W.contents out.old) (output_of W.contents out.new) (cost_text (codes "bytes ") bytes len ++ cost_text (codes "rowstarts ") starts changes) tt result }
 {
-    put_pair(out, b"bytes ", bytes, len)?;
-    put_pair(out, b"rowstarts ", starts, changes)?;
-    Ok(out.finish()?)
+    put_pair(out, b"bytes ", bytes, len);
+    put_pair(out, b"rowstarts ", starts, changes);
+    out.finish()
 }
 
 /// Prints how many bytes the section in a file and its normal form have, and how many rows their programs start.
@@ -97,14 +87,12 @@ pub fn run_cost<'a, L: Load, W: Write>(
     files: &mut L,
     out: &mut Listing<W>,
 ) -> Result<(), Failure<'a>>
-    requires room { out.old.failures < 2 ^ 64 - 1 }
+    requires works { out.old.failed ≡ false }
     ensures { OverFile (L.gives files.old) (output_of W.contents out.old) (output_of W.contents out.new) path.now (Costs target) (λ s cost. Prints (output_of W.contents out.old) (output_of W.contents out.new) (costs_text (length s) cost) tt) result }
 {
-    let bytes = files
-        .load(path)
-        .map_err(|error| Failure::from_load(path, error))?;
+    let bytes = load_file(files, path)?;
     let bytes = bytes.as_slice();
-    let len = normal_length(alloc, bytes, target, CAP)?;
+    let len = normal_length(alloc, bytes, target, LIMIT)?;
     let table = check(alloc, bytes, target)?;
     let starts = table.row_starts();
     let changes = count_all(&table, starts)?;

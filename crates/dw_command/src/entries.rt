@@ -1,11 +1,12 @@
 //! `dwframe entries`: a line for each entry of a section.
 
-ghost use Rattle.std.specs.Prelude.{◌≡◌, length, OnOk, ◌<◌, ◌-◌, ◌^◌};
-ghost use Rattle.dw_command.specs.{Answers.{Cuts, OverFile, Prints}, Texts.{entry_text, form_text, kind_text, lines}, Inner.Output.{Adds, Told, output_of}};
+ghost use Rattle.std.specs.Prelude.{◌≡◌, length, false};
+ghost use Rattle.dw_command.specs.{Answers.{Cuts, OverFile, Prints}, Texts.{entry_text, form_text, kind_text, lines}, Inner.Output.{Adds, output_of}};
 
 use crate::failure::Failure;
 use crate::files::Load;
-use crate::listing::{Listing, OutputFault};
+use crate::input::load_file;
+use crate::listing::Listing;
 use dw_num::{Form, Target};
 use dw_section::{Entry, Kind, entries};
 use std::alloc::Global;
@@ -31,29 +32,27 @@ fn form_text(form: Form) -> &'static [u8]
     }
 }
 
-fn put_entry<W: Write>(out: &mut Listing<W>, entry: &Entry) -> Result<(), OutputFault>
-    requires room { out.old.failures < 2 ^ 64 - 1 }
-    ensures told { Told out.old.failures out.new.failures result }
-    ensures put { OnOk result (Adds W.contents out.old out.new (entry_text entry.now)) }
+fn put_entry<W: Write>(out: &mut Listing<W>, entry: &Entry)
+    ensures { Adds W.contents out.old out.new (entry_text entry.now) }
 {
-    out.make_room()?;
+    out.make_room();
     out.text(b"0x");
     out.hex(entry.at);
     out.text(kind_text(entry.kind));
     out.text(form_text(entry.form));
     out.decimal(entry.length);
     out.text(b"\n");
-    Ok(())
 }
 
 fn put_entries<W: Write>(out: &mut Listing<W>, list: &[Entry]) -> Result<(), Failure<'static>>
-    requires room { out.old.failures < 2 ^ 64 - 1 }
+    requires works { out.old.failed ≡ false }
     ensures { Prints (output_of W.contents out.old) (output_of W.contents out.new) (lines entry_text list.now) tt result }
 {
     for entry in list {
-        put_entry(out, entry)?;
+        put_entry(out, entry);
+        out.check()?;
     }
-    Ok(out.finish()?)
+    out.finish()
 }
 
 /// Prints the entries of the section in a file. Nothing is printed where the section is refused.
@@ -64,12 +63,10 @@ pub fn run_entries<'a, L: Load, W: Write>(
     files: &mut L,
     out: &mut Listing<W>,
 ) -> Result<(), Failure<'a>>
-    requires room { out.old.failures < 2 ^ 64 - 1 }
+    requires works { out.old.failed ≡ false }
     ensures { OverFile (L.gives files.old) (output_of W.contents out.old) (output_of W.contents out.new) path.now (Cuts target) (λ _ es. Prints (output_of W.contents out.old) (output_of W.contents out.new) (lines entry_text es) tt) result }
 {
-    let bytes = files
-        .load(path)
-        .map_err(|error| Failure::from_load(path, error))?;
-    let list = entries(alloc, bytes.as_slice(), target)?;
+    let bytes = load_file(files, path)?;
+    let list = entries(alloc, &bytes, target)?;
     put_entries(out, &list)
 }

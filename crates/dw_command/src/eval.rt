@@ -1,6 +1,6 @@
 //! `dwframe eval`: the value of an expression.
 
-ghost use Rattle.std.specs.Prelude.{◌<◌, ◌-◌, ◌^◌};
+ghost use Rattle.std.specs.Prelude.{◌≡◌, false};
 ghost use Rattle.dw_command.specs.{Answers.{EvalEnds, Prints, Values}, Texts.value_text, Inner.Output.output_of};
 
 use crate::failure::Failure;
@@ -16,14 +16,14 @@ use std::alloc::Global;
 use std::io::Write;
 
 fn put_value<W: Write>(out: &mut Listing<W>, value: u64) -> Result<(), Failure<'static>>
-    requires room { out.old.failures < 2 ^ 64 - 1 }
+    requires works { out.old.failed ≡ false }
     ensures { Prints (output_of W.contents out.old) (output_of W.contents out.new) (value_text value) tt result }
 {
-    out.make_room()?;
+    out.make_room();
     out.text(b"0x");
     out.hex(value);
     out.text(b"\n");
-    Ok(out.finish()?)
+    out.finish()
 }
 
 // The value over a dump's registers and memory, without a frame base, a CFA or an object.
@@ -54,7 +54,7 @@ pub fn run_eval<'a, L: Load, W: Write>(
     files: &mut L,
     out: &mut Listing<W>,
 ) -> Result<(), Failure<'a>>
-    requires room { out.old.failures < 2 ^ 64 - 1 }
+    requires works { out.old.failed ≡ false }
     ensures { EvalEnds (L.gives files.old) (output_of W.contents out.old) (output_of W.contents out.new) target evaluation.now result }
 {
     let text = load_text(alloc, files, evaluation.dump)?;

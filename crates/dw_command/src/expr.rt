@@ -1,58 +1,49 @@
 //! `dwframe expr`: the operations of a block, and its least spelling.
 
-ghost use Rattle.std.specs.Prelude.{◌++◌, ◌<◌, ◌-◌, ◌^◌, codes, decimal, OnOk};
+ghost use Rattle.std.specs.Prelude.{◌≡◌, ◌++◌, codes, decimal, false};
 ghost use Rattle.dw_command.specs.{Answers.{OverBlock, Prints}, OpTexts.op_text};
-ghost use Rattle.dw_command.specs.{Texts.{block_text, least_text, line_end, numbered}, Inner.Output.{Adds, Told, output_of}};
+ghost use Rattle.dw_command.specs.{Texts.{block_text, least_text, line_end, numbered}, Inner.Output.{Adds, output_of}};
 
 use crate::failure::Failure;
-use crate::listing::{Listing, OutputFault};
+use crate::listing::Listing;
 use crate::texts::{put_hex, put_op};
 use dw_num::Target;
 use dw_op::{EncodeError, Op, OpList, Profile, decode, encode};
 use std::alloc::Global;
 use std::io::Write;
 
-fn put_line<W: Write>(out: &mut Listing<W>, index: usize, op: &Op<'_>) -> Result<(), OutputFault>
-    requires room { out.old.failures < 2 ^ 64 - 1 }
-    ensures told { Told out.old.failures out.new.failures result }
-    ensures put { OnOk result (Adds W.contents out.old out.new (decimal index ++ codes " " ++ op_text op.now ++ line_end)) }
+fn put_line<W: Write>(out: &mut Listing<W>, index: usize, op: &Op<'_>)
+    ensures { Adds W.contents out.old out.new (decimal index ++ codes " " ++ op_text op.now ++ line_end) }
 {
-    out.make_room()?;
+    out.make_room();
     out.decimal(index as u64);
     out.text(b" ");
-    put_op(out, op)?;
-    out.make_room()?;
+    put_op(out, op);
+    out.make_room();
     out.text(b"\n");
-    Ok(())
 }
 
 // The least spelling, behind a space where it has bytes.
-fn put_least<W: Write>(out: &mut Listing<W>, least: &[u8]) -> Result<(), OutputFault>
-    requires room { out.old.failures < 2 ^ 64 - 1 }
-    ensures told { Told out.old.failures out.new.failures result }
-    ensures put { OnOk result (Adds W.contents out.old out.new (least_text least.now)) }
+fn put_least<W: Write>(out: &mut Listing<W>, least: &[u8])
+    ensures { Adds W.contents out.old out.new (least_text least.now) }
 {
-    out.make_room()?;
+    out.make_room();
     if least.is_empty() {
         out.text(b"least\n");
-        return Ok(());
+        return;
     }
     out.text(b"least ");
-    put_hex(out, least)?;
-    out.make_room()?;
+    put_hex(out, least);
+    out.make_room();
     out.text(b"\n");
-    Ok(())
 }
 
-fn put_lines<W: Write>(out: &mut Listing<W>, ops: &[Op<'_>]) -> Result<(), OutputFault>
-    requires room { out.old.failures < 2 ^ 64 - 1 }
-    ensures told { Told out.old.failures out.new.failures result }
-    ensures put { OnOk result (Adds W.contents out.old out.new (numbered 0 ops.now)) }
+fn put_lines<W: Write>(out: &mut Listing<W>, ops: &[Op<'_>])
+    ensures { Adds W.contents out.old out.new (numbered 0 ops.now) }
 {
     for (index, op) in ops.iter().enumerate() {
-        put_line(out, index, op)?;
+        put_line(out, index, op);
     }
-    Ok(())
 }
 
 fn put_expression<W: Write>(
@@ -60,12 +51,12 @@ fn put_expression<W: Write>(
     list: &OpList<'_>,
     least: &[u8],
 ) -> Result<(), Failure<'static>>
-    requires room { out.old.failures < 2 ^ 64 - 1 }
+    requires works { out.old.failed ≡ false }
     ensures { Prints (output_of W.contents out.old) (output_of W.contents out.new) (block_text list.now.ops least.now) tt result }
 {
-    put_lines(out, list.ops())?;
-    put_least(out, least)?;
-    Ok(out.finish()?)
+    put_lines(out, list.ops());
+    put_least(out, least);
+    out.finish()
 }
 
 /// Prints a line for each operation of a block, and its least spelling. Nothing is printed where the block is
@@ -77,7 +68,7 @@ pub fn run_expr<'a, W: Write>(
     block: &[u8],
     out: &mut Listing<W>,
 ) -> Result<(), Failure<'a>>
-    requires room { out.old.failures < 2 ^ 64 - 1 }
+    requires works { out.old.failed ≡ false }
     ensures { OverBlock (output_of W.contents out.old) (output_of W.contents out.new) target profile block.now result }
 {
     let list = decode(alloc, block, target, profile)?;

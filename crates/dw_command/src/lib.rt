@@ -3,7 +3,7 @@
 //! `engine` (`command.rt`) is the whole command; `dwframe` runs it over the real ones. `plan`, which stands in `dw_words`, is what it
 //! makes of the words before any file is read; then read the file of a subcommand. `specs/Engine.antt` says what a run does to its
 //! output, and `specs/Answers.antt` what each subcommand answers and prints.
-#![tactic(auto)]
+#![tactic(auto, using(crate::proofs::Puts::on, crate::proofs::Puts::kept_on, crate::proofs::Puts::on_kept, crate::proofs::Puts::printed))]
 
 mod address_lines;
 mod at;

@@ -1,10 +1,10 @@
 //! A text of many lines on its way to an output.
 
 ghost use Rattle.std.specs.Prelude.{◌≡◌, ◌+◌, ◌++◌, ◌-◌, ◌*◌, ◌/◌, ◌%◌, ◌^◌, ◌<◌, ◌≤◌, ℕ, List, [], ◌∷◌, length, take};
-ghost use Rattle.std.specs.Prelude.{codes, false, decimal, unsigned_abs, if◌then◌else◌, IfErr, IfOk, OnErr, OnOk, ◌⊎◌};
-ghost use Rattle.std.specs.{Fmt.digits, Int.{is_negative, to_be_bytes, w64}, Int.Bits.{bit_and, bit_or}, Io.KnownBytes.{Appends, Keeps}};
-ghost use Rattle.dw_command.specs.declared.{failure.Failure.TheVariants.CannotWrite, listing.TheConstants.{PIECE, ROOM}};
-ghost use Rattle.dw_command.specs.Inner.{Hex.last_digits, Output.{Adds, Told, put_so_far}};
+ghost use Rattle.std.specs.Prelude.{codes, false, true, decimal, MatchResult, unsigned_abs, if◌then◌else◌, IfErr, IfOk, OnErr, OnOk, ◌⊎◌};
+ghost use Rattle.std.specs.{Fmt.{digits, digit_glyph}, Int.{is_negative}, Io.KnownBytes.{Appends, Keeps}};
+ghost use Rattle.dw_command.specs.declared.listing.TheConstants.{PIECE, ROOM};
+ghost use Rattle.dw_command.specs.Inner.Output.{Adds, Breaks, Fills, Finishes, Stays, failures_of, put_so_far};
 
 use crate::failure::Failure;
 use dw_normal::{Sink, SinkFault};
@@ -29,57 +29,23 @@ const PAIRS: &[u8; 200] = b"00010203040506070809\
 80818283848586878889\
 90919293949596979899";
 
-/// The output failed.
-#[derive(Clone, Copy, Debug, PartialEq, Eq)]
-pub struct OutputFault;
-
-impl From<OutputFault> for Failure<'_> {
-    ghost from_gives = { λ _ e. e ≡ CannotWrite };
-
-    fn from(_fault: OutputFault) -> Self {
-        Failure::CannotWrite
-    }
-}
-
-// The halves of each block of a number, apart by as many zeros.
-#[inline(always)]
-fn spread(digits: u64, bits: u32, mask: u64) -> u64
-    requires { bits < 64 }
-    ensures { result ≡ bit_and (bit_or digits (digits * 2 ^ bits % 2 ^ 64)) mask }
-{
-    (digits | digits << bits) & mask
-}
-
-// A one in each byte above nine.
-#[inline(always)]
-fn letters(digits: u64) -> u64
-    ensures { result ≡ bit_and ((digits + 0x0606060606060606) % 2 ^ 64 / 16) 0x0101010101010101 }
-{
-    (digits.wrapping_add(0x0606_0606_0606_0606) >> 4) & 0x0101_0101_0101_0101
-}
-
-// Each byte as a digit, where a letter is one.
-#[inline(always)]
-fn spelled(digits: u64, letters: u64) -> [u8; 8]
-    ensures { result ≡ to_be_bytes w64 (((digits + 0x3030303030303030) % 2 ^ 64 + letters * 39 % 2 ^ 64) % 2 ^ 64) }
-{
-    let to_letters = u64::from(b'a' - b'9' - 1);
-    digits
-        .wrapping_add(0x3030_3030_3030_3030)
-        .wrapping_add(letters.wrapping_mul(to_letters))
-        .to_be_bytes()
-}
-
-// Eight hexadecimal digits, of all bytes at once: first the bits are spread, four to a byte, and then a byte above nine
-// goes on at the letters.
-fn hex_digits(number: u32) -> [u8; 8]
-    ensures { result ≡ last_digits 8 number }
-{
-    let digits = spread(u64::from(number), 16, 0x0000_ffff_0000_ffff);
-    let digits = spread(digits, 8, 0x00ff_00ff_00ff_00ff);
-    let digits = spread(digits, 4, 0x0f0f_0f0f_0f0f_0f0f);
-    spelled(digits, letters(digits))
-}
+// The bytes in two hexadecimal digits.
+const HEX_PAIRS: &[u8; 512] = b"000102030405060708090a0b0c0d0e0f\
+101112131415161718191a1b1c1d1e1f\
+202122232425262728292a2b2c2d2e2f\
+303132333435363738393a3b3c3d3e3f\
+404142434445464748494a4b4c4d4e4f\
+505152535455565758595a5b5c5d5e5f\
+606162636465666768696a6b6c6d6e6f\
+707172737475767778797a7b7c7d7e7f\
+808182838485868788898a8b8c8d8e8f\
+909192939495969798999a9b9c9d9e9f\
+a0a1a2a3a4a5a6a7a8a9aaabacadaeaf\
+b0b1b2b3b4b5b6b7b8b9babbbcbdbebf\
+c0c1c2c3c4c5c6c7c8c9cacbcccdcecf\
+d0d1d2d3d4d5d6d7d8d9dadbdcdddedf\
+e0e1e2e3e4e5e6e7e8e9eaebecedeeef\
+f0f1f2f3f4f5f6f7f8f9fafbfcfdfeff";
 
 // A loop over a text that is known becomes a store or two; `copy_from_slice` asks first whether both overlap.
 #[inline(always)]
@@ -126,14 +92,24 @@ fn write_front<W: Write>(out: &mut W, bytes: &[u8]) -> usize
     done
 }
 
+// How many bytes stand behind the first one that is not zero.
+#[inline(always)]
+fn bytes_behind(number: u64) -> u32
+    ensures few { result ≤ 7 }
+    ensures below { number / 2 ^ (8 * result) < 256 }
+    ensures some { (result ≡ 0) ⊎ (1 ≤ number / 2 ^ (8 * result)) }
+{
+    7 - (number.leading_zeros() / 8).min(7)
+}
+
 /// A text of many lines, which the output gets in long parts, since a write costs more than a line's bytes. What is put
-/// goes into room that `make_room` made before.
+/// goes into room that `make_room` made before. An output that failed gets no more.
 #[derive(Drop)]
 pub struct Listing<W: Write> {
     out: W,
     room: [u8; ROOM],
     len: usize,
-    failures: u64,
+    failed: bool,
 }
 
 impl<W: Write> Listing<W> {
@@ -141,13 +117,13 @@ impl<W: Write> Listing<W> {
     pub fn new(out: W) -> Listing<W>
         ensures out { result.out ≡ out }
         ensures empty { result.len ≡ 0 }
-        ensures failures { result.failures ≡ 0 }
+        ensures works { result.failed ≡ false }
     {
         Listing {
             out,
             room: [0; ROOM],
             len: 0,
-            failures: 0,
+            failed: false,
         }
     }
 
@@ -161,72 +137,68 @@ impl<W: Write> Listing<W> {
 
     // Gives the output what is left, and keeps of it what the output does not take.
     #[inline(never)]
-    fn write_out(&mut self) -> Result<(), OutputFault>
-        requires room { self.old.failures < 2 ^ 64 - 1 }
-        ensures told { Told self.old.failures self.new.failures result }
-        ensures empty { OnOk result (self.new.len ≡ 0) }
+    fn write_out(&mut self)
+        ensures works { self.new.failed ≡ false → self.old.failed ≡ false }
+        ensures empty { self.new.failed ≡ false → self.new.len ≡ 0 }
         ensures put { Keeps (put_so_far (W.contents self.old.out) self.old.len self.old.room) (put_so_far (W.contents self.new.out) self.new.len self.new.room) }
-        ensures held { OnErr result ((gone : List ℕ) × (take self.old.len self.old.room ≡ gone ++ take self.new.len self.new.room)) }
+        ensures held { (gone : List ℕ) × (take self.old.len self.old.room ≡ gone ++ take self.new.len self.new.room) }
+        // An output that failed gets no more.
+        ensures stopped { self.old.failed ≡ true → self.new ≡ self.old }
     {
+        if self.failed {
+            return;
+        }
         // No more than all, which no clause says between two calls.
         let len = self.len.min(ROOM);
         let done = write_front(&mut self.out, &self.room[..len]);
-        if done < len {
-            self.room.copy_within(done..len, 0);
-            self.len = len - done;
-            self.failures += 1;
-            return Err(OutputFault);
-        }
-        self.len = 0;
-        Ok(())
+        self.room.copy_within(done..len, 0);
+        self.len = len - done;
+        self.failed = done < len;
     }
 
     /// Makes room for 128 bytes.
     #[inline(always)]
-    pub fn make_room(&mut self) -> Result<(), OutputFault>
-        requires room { self.old.failures < 2 ^ 64 - 1 }
-        ensures told { Told self.old.failures self.new.failures result }
-        ensures made { OnOk result (self.new.len + PIECE ≤ ROOM) }
-        // What was put stays.
-        ensures put { Keeps (put_so_far (W.contents self.old.out) self.old.len self.old.room) (put_so_far (W.contents self.new.out) self.new.len self.new.room) }
-        // The room is as it was, or empty.
-        ensures room { OnOk result ((self.new.len ≡ self.old.len) × (self.new.room ≡ self.old.room) ⊎ (self.new.len ≡ 0)) }
-        // Where the output fails, the room is full, and what the output did not take stays.
-        ensures full { OnErr result (ROOM < self.old.len + PIECE) }
-        ensures held { OnErr result ((gone : List ℕ) × (take self.old.len self.old.room ≡ gone ++ take self.new.len self.new.room)) }
+    pub fn make_room(&mut self)
+        ensures made { self.new.len + PIECE ≤ ROOM }
+        ensures stays { Stays W.contents self.old self.new }
+        // Where there is room, nothing changes.
+        ensures same { self.old.len + PIECE ≤ ROOM → self.new ≡ self.old }
     {
         if self.len > ROOM - PIECE {
-            return self.write_out();
+            self.write_out();
+            self.len = 0;
+        }
+    }
+
+    /// Whether the output failed.
+    pub fn check(&self) -> Result<(), Failure<'static>>
+        ensures { MatchResult result (λ _. self.now.failed ≡ false) (Breaks self.now) }
+    {
+        if self.failed {
+            return Err(Failure::CannotWrite);
         }
         Ok(())
     }
 
     /// Writes out what is left, and flushes the output.
-    pub fn finish(&mut self) -> Result<(), OutputFault>
-        requires room { self.old.failures < 2 ^ 64 - 1 }
-        ensures told { Told self.old.failures self.new.failures result }
-        ensures empty { OnOk result (self.new.len ≡ 0) }
+    pub fn finish(&mut self) -> Result<(), Failure<'static>>
+        ensures ends { Finishes W.contents self.old self.new result }
         // What was put stays: the output gets what is left, or as much of it as it takes.
         ensures put { Keeps (put_so_far (W.contents self.old.out) self.old.len self.old.room) (put_so_far (W.contents self.new.out) self.new.len self.new.room) }
-        ensures held { OnErr result ((gone : List ℕ) × (take self.old.len self.old.room ≡ gone ++ take self.new.len self.new.room)) }
     {
-        self.write_out()?;
-        if self.out.flush().is_err() {
-            self.failures += 1;
-            return Err(OutputFault);
-        }
-        Ok(())
+        self.write_out();
+        self.check()?;
+        self.failed = self.out.flush().is_err();
+        self.check()
     }
 
     /// These bytes, at most as many as are left of the room that `make_room` made.
-    #[tactic(auto, using(crate::proofs::Puts::in_room))]
+    #[tactic(auto, using(crate::proofs::Puts::in_room, crate::proofs::Puts::filled))]
     #[inline(always)]
     pub fn text(&mut self, text: &[u8])
         requires { self.old.len + length text.now ≤ ROOM }
         ensures len { self.new.len ≡ self.old.len + length text.now }
-        ensures told { self.new.failures ≡ self.old.failures }
-        ensures put { take self.new.len self.new.room ≡ take self.old.len self.old.room ++ text.now }
-        ensures out { self.new.out ≡ self.old.out }
+        ensures fills { Fills self.old self.new (text.now) }
         ensures adds { Adds W.contents self.old self.new (text.now) }
     {
         let end = self.len + text.len();
@@ -238,9 +210,7 @@ impl<W: Write> Listing<W> {
     fn block(&mut self, bytes: &[u8])
         requires { self.old.len + length bytes.now ≤ ROOM }
         ensures len { self.new.len ≡ self.old.len + length bytes.now }
-        ensures told { self.new.failures ≡ self.old.failures }
-        ensures put { take self.new.len self.new.room ≡ take self.old.len self.old.room ++ bytes.now }
-        ensures out { self.new.out ≡ self.old.out }
+        ensures fills { Fills self.old self.new (bytes.now) }
     {
         let end = self.len + bytes.len();
         self.room[self.len..end].copy_from_slice(bytes);
@@ -252,22 +222,18 @@ impl<W: Write> Listing<W> {
         requires room { self.old.len + 2 ≤ ROOM }
         requires below { number < 100 }
         ensures len { self.new.len ≡ self.old.len + 2 }
-        ensures told { self.new.failures ≡ self.old.failures }
-        ensures put { take self.new.len self.new.room ≡ take self.old.len self.old.room ++ (48 + number / 10) ∷ (48 + number % 10) ∷ [] }
-        ensures out { self.new.out ≡ self.old.out }
+        ensures fills { Fills self.old self.new ((48 + number / 10) ∷ (48 + number % 10) ∷ []) }
     {
         self.text(&[PAIRS[2 * number], PAIRS[2 * number + 1]]);
     }
 
     /// A number in decimal digits. Takes up to 40 bytes of room, which must be left.
-    #[tactic(auto, using(crate::proofs::Puts::in_room))]
+    #[tactic(auto, using(crate::proofs::Puts::in_room, crate::proofs::Puts::filled))]
     #[inline(always)]
     pub fn decimal(&mut self, number: u64)
         requires { self.old.len + 40 ≤ ROOM }
         ensures len { self.new.len ≤ self.old.len + 40 }
-        ensures told { self.new.failures ≡ self.old.failures }
-        ensures put { take self.new.len self.new.room ≡ take self.old.len self.old.room ++ decimal number }
-        ensures out { self.new.out ≡ self.old.out }
+        ensures fills { Fills self.old self.new (decimal number) }
         ensures adds { Adds W.contents self.old self.new (decimal number) }
     {
         if number < 10 {
@@ -286,23 +252,19 @@ impl<W: Write> Listing<W> {
     fn long_decimal(&mut self, number: u64)
         requires { self.old.len + 40 ≤ ROOM }
         ensures len { self.new.len ≤ self.old.len + 40 }
-        ensures told { self.new.failures ≡ self.old.failures }
-        ensures put { take self.new.len self.new.room ≡ take self.old.len self.old.room ++ decimal number }
-        ensures out { self.new.out ≡ self.old.out }
+        ensures fills { Fills self.old self.new (decimal number) }
     {
         let mut digits = Buffer::new();
         self.text(digits.format(number).as_bytes());
     }
 
     /// An offset with its sign. Takes up to 41 bytes of room, which must be left.
-    #[tactic(auto, using(crate::proofs::Puts::in_room))]
+    #[tactic(auto, using(crate::proofs::Puts::in_room, crate::proofs::Puts::filled))]
     #[inline(always)]
     pub fn offset(&mut self, offset: i64)
         requires { self.old.len + 41 ≤ ROOM }
         ensures len { self.new.len ≤ self.old.len + 41 }
-        ensures told { self.new.failures ≡ self.old.failures }
-        ensures put { take self.new.len self.new.room ≡ take self.old.len self.old.room ++ (if is_negative offset then codes "-" else codes "+") ++ decimal (unsigned_abs offset) }
-        ensures out { self.new.out ≡ self.old.out }
+        ensures fills { Fills self.old self.new ((if is_negative offset then codes "-" else codes "+") ++ decimal (unsigned_abs offset)) }
         ensures adds { Adds W.contents self.old self.new ((if is_negative offset then codes "-" else codes "+") ++ decimal (unsigned_abs offset)) }
     {
         self.text(if offset < 0 { b"-" } else { b"+" });
@@ -310,48 +272,52 @@ impl<W: Write> Listing<W> {
     }
 
     #[inline(always)]
-    fn hex_without_zeros(&mut self, number: u32)
-        requires { self.old.len + 8 ≤ ROOM }
-        ensures len { self.new.len ≤ self.old.len + 8 }
-        ensures told { self.new.failures ≡ self.old.failures }
-        ensures put { take self.new.len self.new.room ≡ take self.old.len self.old.room ++ digits 16 false number }
-        ensures out { self.new.out ≡ self.old.out }
+    fn hex_pair(&mut self, byte: u8)
+        requires { self.old.len + 2 ≤ ROOM }
+        ensures len { self.new.len ≡ self.old.len + 2 }
+        ensures fills { Fills self.old self.new (digit_glyph false (byte / 16) ∷ digit_glyph false (byte % 16) ∷ []) }
     {
-        let zeros = (number.leading_zeros() / 4).min(7);
-        self.text(&hex_digits(number << (4 * zeros)));
-        self.len -= zeros as usize;
+        let at = 2 * byte as usize;
+        self.text(&[HEX_PAIRS[at], HEX_PAIRS[at + 1]]);
+    }
+
+    #[inline(always)]
+    fn hex_byte(&mut self, byte: u8)
+        requires { self.old.len + 2 ≤ ROOM }
+        ensures len { self.new.len ≤ self.old.len + 2 }
+        ensures fills { Fills self.old self.new (digits 16 false byte) }
+    {
+        if byte < 16 {
+            self.text(&[HEX_PAIRS[2 * byte as usize + 1]]);
+        } else {
+            self.hex_pair(byte);
+        }
     }
 
     /// A number in hexadecimal digits, without leading zeros. Takes up to 16 bytes of room, which must be left.
-    #[tactic(auto, using(crate::proofs::Puts::in_room))]
+    #[tactic(auto, using(crate::proofs::Puts::in_room, crate::proofs::Puts::filled))]
     pub fn hex(&mut self, number: u64)
         requires { self.old.len + 16 ≤ ROOM }
         ensures len { self.new.len ≤ self.old.len + 16 }
-        ensures told { self.new.failures ≡ self.old.failures }
-        ensures put { take self.new.len self.new.room ≡ take self.old.len self.old.room ++ digits 16 false number }
-        ensures out { self.new.out ≡ self.old.out }
+        ensures fills { Fills self.old self.new (digits 16 false number) }
         ensures adds { Adds W.contents self.old self.new (digits 16 false number) }
     {
-        let high = (number >> 32) as u32;
-        let low = (number % 0x1_0000_0000) as u32;
-        if high > 0 {
-            self.hex_without_zeros(high);
-            self.text(&hex_digits(low));
-        } else {
-            self.hex_without_zeros(low);
+        let mut left = bytes_behind(number);
+        self.hex_byte((number >> (8 * left)) as u8);
+        'bytes: while left > 0 {
+            left -= 1;
+            self.hex_pair(((number >> (8 * left)) % 256) as u8);
         }
     }
 
     /// An address or the end of a range, of up to 2 ^ 64, in hexadecimal digits, without leading zeros. Takes up to 17 bytes of
     /// room, which must be left.
-    #[tactic(auto, using(crate::proofs::Puts::in_room))]
+    #[tactic(auto, using(crate::proofs::Puts::in_room, crate::proofs::Puts::filled))]
     #[inline(always)]
     pub fn address(&mut self, address: u128)
         requires { self.old.len + 17 ≤ ROOM }
         ensures len { self.new.len ≤ self.old.len + 17 }
-        ensures told { self.new.failures ≡ self.old.failures }
-        ensures put { address ≤ 2 ^ 64 → take self.new.len self.new.room ≡ take self.old.len self.old.room ++ digits 16 false address }
-        ensures out { self.new.out ≡ self.old.out }
+        ensures fills { address ≤ 2 ^ 64 → Fills self.old self.new (digits 16 false address) }
         ensures adds { address ≤ 2 ^ 64 → Adds W.contents self.old self.new (digits 16 false address) }
     {
         match u64::try_from(address) {
@@ -365,22 +331,23 @@ impl<W: Write> Listing<W> {
 impl<W: Write> Sink for Listing<W> {
     ghost taken = { λ listing. put_so_far (W.contents listing.out) listing.len listing.room };
 
-    ghost failures = { λ listing. listing.failures };
+    ghost failures = { λ listing. failures_of listing.failed };
 
     fn put(&mut self, bytes: &[u8]) -> Result<usize, SinkFault>
         requires some { 0 < length bytes.now }
-        requires room { self.old.failures < 2 ^ 64 - 1 }
+        requires room { failures_of self.old.failed < 2 ^ 64 - 1 }
         // It is put behind what was put before.
-        ensures took { IfOk result (λ n. (1 ≤ n) × (n ≤ length bytes.now) × (self.new.failures ≡ self.old.failures) × Appends (put_so_far (W.contents self.old.out) self.old.len self.old.room) (put_so_far (W.contents self.new.out) self.new.len self.new.room) (take n bytes.now)) }
-        ensures fault { IfErr result (λ _. (self.old.failures < self.new.failures) × Keeps (put_so_far (W.contents self.old.out) self.old.len self.old.room) (put_so_far (W.contents self.new.out) self.new.len self.new.room)) }
+        ensures took { IfOk result (λ n. (1 ≤ n) × (n ≤ length bytes.now) × (failures_of self.new.failed ≡ failures_of self.old.failed) × Appends (put_so_far (W.contents self.old.out) self.old.len self.old.room) (put_so_far (W.contents self.new.out) self.new.len self.new.room) (take n bytes.now)) }
+        ensures fault { IfErr result (λ _. (failures_of self.old.failed < failures_of self.new.failed) × Keeps (put_so_far (W.contents self.old.out) self.old.len self.old.room) (put_so_far (W.contents self.new.out) self.new.len self.new.room)) }
         ensures fits { OnOk result (self.new.len ≤ ROOM) }
-        // What the room holds no longer is the front of what was put.
-        ensures room { IfOk result (λ n. (gone : List ℕ) × (take self.old.len self.old.room ++ take n bytes.now ≡ gone ++ take self.new.len self.new.room)) }
         // Where the output fails, the room is full, and what the output did not take stays.
         ensures full { OnErr result (ROOM < self.old.len + PIECE) }
         ensures held { IfErr result (λ _. (gone : List ℕ) × (take self.old.len self.old.room ≡ gone ++ take self.new.len self.new.room)) }
     {
-        if self.make_room().is_err() {
+        if self.len > ROOM - PIECE {
+            self.write_out();
+        }
+        if self.failed {
             return Err(SinkFault);
         }
         let part = &bytes[..bytes.len().min(PIECE)];
@@ -391,23 +358,16 @@ impl<W: Write> Sink for Listing<W> {
 
 impl<W: Write> Listing<W> {
     /// Bytes of any number.
-    pub fn long_text(&mut self, text: &[u8]) -> Result<(), OutputFault>
-        requires room { self.old.failures < 2 ^ 64 - 1 }
-        ensures told { Told self.old.failures self.new.failures result }
-        // The text is put behind what was put before.
-        ensures put { OnOk result (Appends (put_so_far (W.contents self.old.out) self.old.len self.old.room) (put_so_far (W.contents self.new.out) self.new.len self.new.room) text.now) }
-        ensures fits { OnOk result (self.old.len ≤ ROOM → self.new.len ≤ ROOM) }
-        // Where the output fails, a front of the text was put. What the output did not take stays.
-        ensures front { OnErr result ((n : ℕ) × (n ≤ length text.now) × Appends (put_so_far (W.contents self.old.out) self.old.len self.old.room) (put_so_far (W.contents self.new.out) self.new.len self.new.room) (take n text.now)) }
-        ensures held { OnErr result ((n : ℕ) × (gone : List ℕ) × (n ≤ length text.now) × (take self.old.len self.old.room ++ take n text.now ≡ gone ++ take self.new.len self.new.room)) }
+    pub fn long_text(&mut self, text: &[u8])
+        ensures adds { Adds W.contents self.old self.new (text.now) }
+        ensures fits { self.old.len ≤ ROOM → self.new.len ≤ ROOM }
     {
         let mut done = 0;
         'pieces: while done < text.len() {
-            match self.put(&text[done..]) {
-                Ok(n) => done += n,
-                Err(_) => return Err(OutputFault),
-            }
+            self.make_room();
+            let end = text.len().min(done + PIECE);
+            self.block(&text[done..end]);
+            done = end;
         }
-        Ok(())
     }
 }

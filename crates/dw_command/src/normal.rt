@@ -1,6 +1,6 @@
 //! `dwframe normal`: the normal form of a section.
 
-ghost use Rattle.std.specs.Prelude.{[], ◌<◌, ◌-◌, ◌^◌};
+ghost use Rattle.std.specs.Prelude.{◌≡◌, false};
 ghost use Rattle.dw_command.specs.{Answers.{Normalises, OverFile, Prints}, Inner.Output.output_of};
 
 use crate::failure::Failure;
@@ -13,13 +13,6 @@ use dw_words::Writing;
 use std::alloc::Global;
 use std::io::Write;
 
-fn finish<W: Write>(out: &mut Listing<W>) -> Result<(), Failure<'static>>
-    requires room { out.old.failures < 2 ^ 64 - 1 }
-    ensures { Prints (output_of W.contents out.old) (output_of W.contents out.new) [] tt result }
-{
-    Ok(out.finish()?)
-}
-
 /// Writes the normal form of the section in a file. Nothing is written where the section is refused.
 pub fn run_normal<'a, L: Load, W: Write>(
     alloc: Global,
@@ -28,10 +21,10 @@ pub fn run_normal<'a, L: Load, W: Write>(
     files: &mut L,
     out: &mut Listing<W>,
 ) -> Result<(), Failure<'a>>
-    requires room { out.old.failures < 2 ^ 64 - 1 }
+    requires works { out.old.failed ≡ false }
     ensures { OverFile (L.gives files.old) (output_of W.contents out.old) (output_of W.contents out.new) writing.now.path.now (Normalises target writing.now.cap) (λ _ n. Prints (output_of W.contents out.old) (output_of W.contents out.new) n tt) result }
 {
     let bytes = load_file(files, writing.path)?;
     let _ = normalise_to(alloc, &bytes, target, writing.cap, out)?;
-    finish(out)
+    out.finish()
 }

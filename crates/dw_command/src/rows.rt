@@ -1,13 +1,14 @@
 //! `dwframe rows`: the rules at each address of a section.
 
-ghost use Rattle.std.specs.{Prelude.{◌≡◌, ℕ, ◌<◌, ◌≤◌, ◌-◌, ◌^◌, List, MatchResult, OnOk}, List.AllByRecursion};
+ghost use Rattle.std.specs.{Prelude.{◌≡◌, ℕ, ◌≤◌, ◌^◌, List, false, IfErr, OnOk}, List.AllByRecursion};
 ghost use Rattle.dw_cfa.specs.Rows.{Rules};
 ghost use Rattle.dw_canon.specs.Members.{AreMembers, Member};
-ghost use Rattle.dw_command.specs.Answers.{OverFile, Prints, ListsFdes, Unprinted};
-ghost use Rattle.dw_command.specs.{RowTexts.{member_text, row_text}, Texts.lines, Inner.Output.{Adds, output_of}};
+ghost use Rattle.dw_command.specs.Answers.{OverFile, Prints, ListsFdes};
+ghost use Rattle.dw_command.specs.{RowTexts.{member_text, row_text}, Texts.lines, Inner.Output.{Adds, Breaks, output_of}};
 
 use crate::failure::Failure;
 use crate::files::Load;
+use crate::input::load_file;
 use crate::listing::Listing;
 use crate::row_text::{put_fde, put_row};
 use dw_num::Target;
@@ -20,9 +21,8 @@ fn put_changes<W: Write>(
     out: &mut Listing<W>,
     changes: &mut Changes<'_>,
 ) -> Result<(), Failure<'static>>
-    requires room { out.old.failures < 2 ^ 64 - 1 }
     requires in_space { AllByRecursion (λ (change : ℕ × Rules). change.0 ≤ 2 ^ 64) changes.old.to_come }
-    ensures told { MatchResult result (λ _. out.new.failures ≡ out.old.failures) (Unprinted out.old.failures out.new.failures) }
+    ensures told { IfErr result (Breaks out.new) }
     ensures put { OnOk result (Adds W.contents out.old out.new (lines row_text changes.old.to_come)) }
     ensures section { changes.new.section ≡ changes.old.section }
 {
@@ -30,7 +30,8 @@ fn put_changes<W: Write>(
         let Some(row) = changes.row() else {
             unreachable!();
         };
-        put_row(out, address, row)?;
+        put_row(out, address, row);
+        out.check()?;
     }
     Ok(())
 }
@@ -41,15 +42,14 @@ fn put_fdes<'a, W: Write>(
     table: &Table<'a>,
     changes: &mut Changes<'a>,
 ) -> Result<(), Failure<'static>>
-    requires room { out.old.failures < 2 ^ 64 - 1 }
     requires section { changes.old.section ≡ table.now }
-    ensures told { MatchResult result (λ _. out.new.failures ≡ out.old.failures) (Unprinted out.old.failures out.new.failures) }
+    ensures told { IfErr result (Breaks out.new) }
     ensures put { OnOk result ((ms : List Member) → AreMembers table.now.target table.now.bytes ms → Adds W.contents out.old out.new (lines member_text ms)) }
 {
     table.accepted();
     for place in 0..table.fde_count() {
         let fde = FdeRef { place };
-        put_fde(out, &table.fde(fde))?;
+        put_fde(out, &table.fde(fde));
         table.go_on(changes, fde);
         put_changes(out, changes)?;
     }
@@ -57,12 +57,12 @@ fn put_fdes<'a, W: Write>(
 }
 
 fn put_table<W: Write>(out: &mut Listing<W>, table: &Table<'_>) -> Result<(), Failure<'static>>
-    requires room { out.old.failures < 2 ^ 64 - 1 }
+    requires works { out.old.failed ≡ false }
     ensures { (ms : List Member) → AreMembers table.now.target table.now.bytes ms →
         Prints (output_of W.contents out.old) (output_of W.contents out.new) (lines member_text ms) tt result }
 {
     put_fdes(out, table, &mut table.no_changes())?;
-    Ok(out.finish()?)
+    out.finish()
 }
 
 /// Prints the rows of the section in a file: a line for each nonempty FDE by begin, and under it one for each address
@@ -74,12 +74,10 @@ pub fn run_rows<'a, L: Load, W: Write>(
     files: &mut L,
     out: &mut Listing<W>,
 ) -> Result<(), Failure<'a>>
-    requires room { out.old.failures < 2 ^ 64 - 1 }
+    requires works { out.old.failed ≡ false }
     ensures { OverFile (L.gives files.old) (output_of W.contents out.old) (output_of W.contents out.new) path.now (ListsFdes target) (λ _ ms. Prints (output_of W.contents out.old) (output_of W.contents out.new) (lines member_text ms) tt) result }
 {
-    let bytes = files
-        .load(path)
-        .map_err(|error| Failure::from_load(path, error))?;
+    let bytes = load_file(files, path)?;
     let table = check(alloc, bytes.as_slice(), target)?;
     table.accepted();
     put_table(out, &table)

@@ -1,6 +1,6 @@
 //! `dwframe same`: whether two sections say the same.
 
-ghost use Rattle.std.specs.Prelude.{◌<◌, ◌≤◌, ◌-◌, ◌^◌, if◌then◌else◌, IfOk};
+ghost use Rattle.std.specs.Prelude.{◌≡◌, ◌≤◌, false, if◌then◌else◌, IfOk};
 ghost use Rattle.dw_command.specs.{Answers.{Prints, SameEnds}, Texts.sameness_text, Inner.Output.output_of};
 
 use crate::failure::Failure;
@@ -14,10 +14,10 @@ use std::io::Write;
 
 // Puts the answer, and answers the exit status.
 fn put_verdict<W: Write>(out: &mut Listing<W>, is_same: bool) -> Result<u8, Failure<'static>>
-    requires room { out.old.failures < 2 ^ 64 - 1 }
+    requires works { out.old.failed ≡ false }
     ensures { Prints (output_of W.contents out.old) (output_of W.contents out.new) (sameness_text is_same) (if is_same then 0 else 1) result }
 {
-    out.make_room()?;
+    out.make_room();
     if is_same {
         out.text(b"same\n");
         out.finish()?;
@@ -38,7 +38,7 @@ pub fn run_same<'a, L: Load, W: Write>(
     files: &mut L,
     out: &mut Listing<W>,
 ) -> Result<u8, Failure<'a>>
-    requires room { out.old.failures < 2 ^ 64 - 1 }
+    requires works { out.old.failed ≡ false }
     ensures ends { SameEnds (L.gives files.old) (output_of W.contents out.old) (output_of W.contents out.new) target path.now other.now result }
     ensures most { IfOk result (λ status. status ≤ 1) }
 {

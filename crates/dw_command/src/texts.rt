@@ -1,10 +1,10 @@
 //! How operations are printed: DWARF 5, 7.7.1, with the names in lower case.
 
-ghost use Rattle.std.specs.{Prelude.{◌≡◌, ◌++◌, ◌-◌, ◌^◌, ◌<◌, ◌≤◌, codes, false, length, OnOk}, Fmt.digits};
+ghost use Rattle.std.specs.{Prelude.{◌≡◌, ◌++◌, ◌≤◌, codes, false, length}, Fmt.digits};
 ghost use Rattle.hex.specs.Hex.{encode_lower};
-ghost use Rattle.dw_command.specs.{OpTexts.{bytes_text, number_text, op_name, op_text, operands_text, signed_text}, Inner.Output.{Adds, Told}};
+ghost use Rattle.dw_command.specs.{OpTexts.{bytes_text, number_text, op_name, op_text, operands_text, signed_text}, Inner.Output.Adds};
 
-use crate::listing::{Listing, OutputFault};
+use crate::listing::Listing;
 use dw_op::Op;
 use std::io::Write;
 
@@ -60,107 +60,87 @@ fn name_of(op: &Op<'_>) -> &'static str
 }
 
 // A number behind a space.
-fn put_number<W: Write>(listing: &mut Listing<W>, number: u64) -> Result<(), OutputFault>
-    requires room { listing.old.failures < 2 ^ 64 - 1 }
-    ensures told { Told listing.old.failures listing.new.failures result }
-    ensures put { OnOk result (Adds W.contents listing.old listing.new (number_text number)) }
+fn put_number<W: Write>(listing: &mut Listing<W>, number: u64)
+    ensures { Adds W.contents listing.old listing.new (number_text number) }
 {
-    listing.make_room()?;
+    listing.make_room();
     listing.text(b" ");
     listing.decimal(number);
-    Ok(())
 }
 
 // A signed number behind a space.
-fn put_signed<W: Write>(listing: &mut Listing<W>, number: i64) -> Result<(), OutputFault>
-    requires room { listing.old.failures < 2 ^ 64 - 1 }
-    ensures told { Told listing.old.failures listing.new.failures result }
-    ensures put { OnOk result (Adds W.contents listing.old listing.new (signed_text number)) }
+fn put_signed<W: Write>(listing: &mut Listing<W>, number: i64)
+    ensures { Adds W.contents listing.old listing.new (signed_text number) }
 {
-    listing.make_room()?;
+    listing.make_room();
     listing.text(if number < 0 { b" -" } else { b" " });
     listing.decimal(number.unsigned_abs());
-    Ok(())
 }
 
 // An address behind a space.
-fn put_address<W: Write>(listing: &mut Listing<W>, address: u64) -> Result<(), OutputFault>
-    requires room { listing.old.failures < 2 ^ 64 - 1 }
-    ensures told { Told listing.old.failures listing.new.failures result }
-    ensures put { OnOk result (Adds W.contents listing.old listing.new (codes " 0x" ++ digits 16 false address)) }
+fn put_address<W: Write>(listing: &mut Listing<W>, address: u64)
+    ensures { Adds W.contents listing.old listing.new (codes " 0x" ++ digits 16 false address) }
 {
-    listing.make_room()?;
+    listing.make_room();
     listing.text(b" 0x");
     listing.hex(address);
-    Ok(())
 }
 
 /// Puts bytes as pairs of hexadecimal digits in lower case.
-pub fn put_hex<W: Write>(listing: &mut Listing<W>, bytes: &[u8]) -> Result<(), OutputFault>
-    requires room { listing.old.failures < 2 ^ 64 - 1 }
-    ensures told { Told listing.old.failures listing.new.failures result }
-    ensures put { OnOk result (Adds W.contents listing.old listing.new (encode_lower bytes.now)) }
+pub fn put_hex<W: Write>(listing: &mut Listing<W>, bytes: &[u8])
+    ensures { Adds W.contents listing.old listing.new (encode_lower bytes.now) }
 {
     for byte in bytes {
-        listing.make_room()?;
+        listing.make_room();
         let mut pair = [0; 2];
         let _ = hex::encode_to_slice([*byte], &mut pair);
         listing.text(&pair);
     }
-    Ok(())
 }
 
 // Bytes behind a space, or a dash for none.
-fn put_bytes<W: Write>(listing: &mut Listing<W>, bytes: &[u8]) -> Result<(), OutputFault>
-    requires room { listing.old.failures < 2 ^ 64 - 1 }
-    ensures told { Told listing.old.failures listing.new.failures result }
-    ensures put { OnOk result (Adds W.contents listing.old listing.new (bytes_text bytes.now)) }
+fn put_bytes<W: Write>(listing: &mut Listing<W>, bytes: &[u8])
+    ensures { Adds W.contents listing.old listing.new (bytes_text bytes.now) }
 {
-    listing.make_room()?;
+    listing.make_room();
     if bytes.is_empty() {
         listing.text(b" -");
-        return Ok(());
+        return;
     }
     listing.text(b" ");
-    put_hex(listing, bytes)
+    put_hex(listing, bytes);
 }
 
-fn put_operands<W: Write>(listing: &mut Listing<W>, op: &Op<'_>) -> Result<(), OutputFault>
-    requires room { listing.old.failures < 2 ^ 64 - 1 }
-    ensures told { Told listing.old.failures listing.new.failures result }
-    ensures put { OnOk result (Adds W.contents listing.old listing.new (operands_text op.now)) }
+fn put_operands<W: Write>(listing: &mut Listing<W>, op: &Op<'_>)
+    ensures { Adds W.contents listing.old listing.new (operands_text op.now) }
 {
     match *op {
         Op::Addr(address) => put_address(listing, address),
-        Op::Const(value) => put_number(listing, value),
-        Op::Pick(entry) => put_number(listing, u64::from(entry)),
-        Op::PlusUconst(number) => put_number(listing, number),
-        Op::Bra(index) => put_number(listing, index as u64),
-        Op::Skip(index) => put_number(listing, index as u64),
+        Op::Const(number) | Op::PlusUconst(number) | Op::Piece(number) => {
+            put_number(listing, number);
+        }
+        Op::Pick(number) | Op::DerefSize(number) => put_number(listing, u64::from(number)),
+        Op::Bra(index) | Op::Skip(index) => put_number(listing, index as u64),
         Op::Reg(register) => put_number(listing, u64::from(register)),
         Op::Breg(register, number) => {
-            put_number(listing, u64::from(register))?;
-            put_signed(listing, number)
+            put_number(listing, u64::from(register));
+            put_signed(listing, number);
         }
         Op::Fbreg(number) => put_signed(listing, number),
-        Op::Piece(len) => put_number(listing, len),
-        Op::DerefSize(len) => put_number(listing, u64::from(len)),
         Op::BitPiece(size, offset) => {
-            put_number(listing, size)?;
-            put_number(listing, offset)
+            put_number(listing, size);
+            put_number(listing, offset);
         }
         Op::Implicit(bytes) => put_bytes(listing, bytes),
-        _ => Ok(()),
+        _ => {}
     }
 }
 
 /// Puts an operation: its name and its operands, decimal but for an address. Branches name operations.
-pub fn put_op<W: Write>(listing: &mut Listing<W>, op: &Op<'_>) -> Result<(), OutputFault>
-    requires room { listing.old.failures < 2 ^ 64 - 1 }
-    ensures told { Told listing.old.failures listing.new.failures result }
-    ensures put { OnOk result (Adds W.contents listing.old listing.new (op_text op.now)) }
+pub fn put_op<W: Write>(listing: &mut Listing<W>, op: &Op<'_>)
+    ensures { Adds W.contents listing.old listing.new (op_text op.now) }
 {
-    listing.make_room()?;
+    listing.make_room();
     listing.text(name_of(op).as_bytes());
-    put_operands(listing, op)
+    put_operands(listing, op);
 }

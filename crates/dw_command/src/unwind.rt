@@ -1,12 +1,12 @@
 //! `dwframe unwind`: the caller's frame of a machine that stopped.
 
-ghost use Rattle.std.specs.Prelude.{OnOk, ◌<◌, ◌-◌, ◌^◌};
-ghost use Rattle.dw_command.specs.{Answers.{Frames, Prints, UnwindEnds}, Texts.{frame_text, lines, register_text}, Inner.Output.{Adds, Told, output_of}};
+ghost use Rattle.std.specs.Prelude.{◌≡◌, false};
+ghost use Rattle.dw_command.specs.{Answers.{Frames, Prints, UnwindEnds}, Texts.{frame_text, lines, register_text}, Inner.Output.{Adds, output_of}};
 
 use crate::failure::Failure;
 use crate::files::Load;
 use crate::input::{load_dump, load_file};
-use crate::listing::{Listing, OutputFault};
+use crate::listing::Listing;
 use dw_num::Target;
 use dw_section::{Table, check};
 use dw_unwind::{Dump, Frame, FrameRoom, unwind};
@@ -14,16 +14,10 @@ use dw_words::Unwinding;
 use std::alloc::Global;
 use std::io::Write;
 
-fn put_value<W: Write>(
-    out: &mut Listing<W>,
-    register: u16,
-    value: Option<u64>,
-) -> Result<(), OutputFault>
-    requires room { out.old.failures < 2 ^ 64 - 1 }
-    ensures told { Told out.old.failures out.new.failures result }
-    ensures put { OnOk result (Adds W.contents out.old out.new (register_text (register, value))) }
+fn put_value<W: Write>(out: &mut Listing<W>, register: u16, value: Option<u64>)
+    ensures { Adds W.contents out.old out.new (register_text (register, value)) }
 {
-    out.make_room()?;
+    out.make_room();
     out.text(b"r");
     out.decimal(u64::from(register));
     match value {
@@ -34,35 +28,28 @@ fn put_value<W: Write>(
         None => out.text(b" undefined"),
     }
     out.text(b"\n");
-    Ok(())
 }
 
-fn put_registers<W: Write>(
-    out: &mut Listing<W>,
-    values: &[(u16, Option<u64>)],
-) -> Result<(), OutputFault>
-    requires room { out.old.failures < 2 ^ 64 - 1 }
-    ensures told { Told out.old.failures out.new.failures result }
-    ensures put { OnOk result (Adds W.contents out.old out.new (lines register_text values.now)) }
+fn put_registers<W: Write>(out: &mut Listing<W>, values: &[(u16, Option<u64>)])
+    ensures { Adds W.contents out.old out.new (lines register_text values.now) }
 {
     for (register, value) in values {
-        put_value(out, *register, *value)?;
+        put_value(out, *register, *value);
     }
-    Ok(())
 }
 
 fn put_frame<W: Write>(out: &mut Listing<W>, frame: &Frame<'_>) -> Result<(), Failure<'static>>
-    requires room { out.old.failures < 2 ^ 64 - 1 }
+    requires works { out.old.failed ≡ false }
     ensures { Prints (output_of W.contents out.old) (output_of W.contents out.new) (frame_text frame.now) tt result }
 {
-    out.make_room()?;
+    out.make_room();
     out.text(b"cfa 0x");
     out.hex(frame.cfa);
     out.text(b"\nra r");
     out.decimal(u64::from(frame.return_register));
     out.text(b"\n");
-    put_registers(out, frame.registers.values())?;
-    Ok(out.finish()?)
+    put_registers(out, frame.registers.values());
+    out.finish()
 }
 
 fn frame_of<'a, 'r>(
@@ -98,7 +85,7 @@ pub fn run_unwind<'a, L: Load, W: Write>(
     files: &mut L,
     out: &mut Listing<W>,
 ) -> Result<(), Failure<'a>>
-    requires room { out.old.failures < 2 ^ 64 - 1 }
+    requires works { out.old.failed ≡ false }
     ensures { UnwindEnds (L.gives files.old) (output_of W.contents out.old) (output_of W.contents out.new) target unwinding.now result }
 {
     let bytes = load_file(files, unwinding.path)?;

@@ -1,19 +1,40 @@
 -- A listing as an output, and what its calls say of that.
-use Rattle.std.specs.{Prelude.{◌≡◌, ℕ, ◌<◌, List, Option, take, Result, MatchResult}, Io.KnownBytes.{Appends, append_known}}
-use Rattle.dw_command.specs.{Output.Output, declared.listing.Listing.Listing}
-
--- a fault is answered exactly where the count of failures grew
-abbrev pub Told : {A E : Type 0} → ℕ → ℕ → Result A E → Type 0
-Told old new result = MatchResult result (λ _. new ≡ old) (λ _. old < new)
+use Rattle.std.specs.{Prelude.{◌≡◌, ℕ, Bool, false, if◌then◌else◌, List, ◌++◌, Option, take, Result, Ok, Err}, Io.KnownBytes.{Appends, Keeps, append_known}}
+use Rattle.dw_command.specs.{Answers.Unprinted, Output.Output, declared.failure.Failure.Failure, declared.listing.Listing.Listing}
 
 -- what was put so far, where it is known: what the output holds, and behind it what is left in the room
 abbrev pub put_so_far : Option (List ℕ) → ℕ → List ℕ → Option (List ℕ)
 put_so_far held len room = append_known held (take len room)
 
+-- how often an output failed, by whether it did; one that failed is written to no more, so its count is at its end
+abbrev pub failures_of : Bool → ℕ
+failures_of failed = if failed then 18446744073709551615 else 0
+
 -- a listing as an output, by what its writer holds
 abbrev pub output_of : {W : Type 0} → (W → Option (List ℕ)) → Listing W → Output
-output_of contents l = record { put = put_so_far (contents l.out) l.len l.room; left = l.len; failures = l.failures }
+output_of contents l = record { put = put_so_far (contents l.out) l.len l.room; left = l.len; failures = failures_of l.failed }
 
--- a text is put behind what was put before
-abbrev pub Adds : {W : Type 0} → (W → Option (List ℕ)) → Listing W → Listing W → List ℕ → Type 0
-Adds contents old new text = Appends (put_so_far (contents old.out) old.len old.room) (put_so_far (contents new.out) new.len new.room) text
+-- an answer is not printed to this listing: its output failed, or memory ran out
+abbrev pub Breaks : {W : Type 0} → Listing W → Failure → Type 0
+Breaks l failure = Unprinted 0 (failures_of l.failed) failure
+
+-- a text is put into the room
+pub record Fills {W : Type 0} (old new : Listing W) (text : List ℕ) : Type 0 where
+  pub works : new.failed ≡ old.failed
+  pub out : new.out ≡ old.out
+  pub put : take new.len new.room ≡ take old.len old.room ++ text
+
+-- unless the output failed by now, it had not failed before, and a text is put behind what was put then
+pub record Adds {W : Type 0} (contents : W → Option (List ℕ)) (old new : Listing W) (text : List ℕ) : Type 0 where
+  pub works : new.failed ≡ false → old.failed ≡ false
+  pub put : new.failed ≡ false → Appends (put_so_far (contents old.out) old.len old.room) (put_so_far (contents new.out) new.len new.room) text
+
+-- and what was put stays
+pub record Stays {W : Type 0} (contents : W → Option (List ℕ)) (old new : Listing W) : Type 0 where
+  pub works : new.failed ≡ false → old.failed ≡ false
+  pub put : new.failed ≡ false → Keeps (put_so_far (contents old.out) old.len old.room) (put_so_far (contents new.out) new.len new.room)
+
+-- what was put is written out, and the output works, or an answer is not printed
+abbrev pub Finishes : {A W : Type 0} → (W → Option (List ℕ)) → Listing W → Listing W → Result A Failure → Type 0
+Finishes contents old new (Ok a) = (new.failed ≡ false) × (new.len ≡ 0) × Stays contents old new
+Finishes contents old new (Err failure) = Breaks new failure

@@ -1,5 +1,5 @@
-use Rattle.dw_command.proofs.{Words.Appends-trans, Puts.on_ok}
+use Rattle.dw_command.proofs.Puts.{on}
 use Rattle.dw_command.proofs.at.put_found.Goals as goal
 
-pub returns-clause-put : goal.returns-clause-put
-returns-clause-put g c = on_ok c.put_row.result (rw c.from.ensures at c.put_row.ensures.put) (λ put. Appends-trans _ _ _ _ _ c.in_ok-put_fde.ensures.put put)
+pub returns : goal.returns
+returns g c = on g.W.Write.contents _ _ _ _ _ c.put_fde.ensures (rw c.from.ensures at c.put_row.ensures)

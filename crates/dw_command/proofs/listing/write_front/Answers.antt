@@ -1,5 +1,9 @@
-use Rattle.dw_command.proofs.{Words.{◌-◌, List, ℕ, length, take, drop, ap, arith, subst, length-drop, take_rest, Appends, Appends-trans}, Pieces.piece_more}
+use Rattle.dw_command.proofs.Words.{◌≡◌, ◌∙◌, ◌+◌, ◌-◌, ◌++◌, List, ℕ, length, take, drop, ap, arith, subst, sym, length-drop, take-add, take_rest, Appends, Appends-trans}
 use Rattle.dw_command.proofs.listing.write_front.Goals as goal
+
+-- one piece more of a text
+piece_more : (done n : ℕ) (text : List ℕ) → take done text ++ take n (take (length text - done) (drop done text)) ≡ take (done + n) text
+piece_more done n text = ap (λ (l : List ℕ). take done text ++ take n l) (take_rest text done) ∙ sym (take-add done n text)
 
 pub writes-preserved : goal.writes-preserved
 writes-preserved g c =

@@ -1,4 +1,4 @@
-use Rattle.dw_command.proofs.{Words.{inl, err_from_is_err_and, output_of}, Endings.{finished, lent, unwritten}}
+use Rattle.dw_command.proofs.{Words.{inl, err_from_is_err_and, output_of, Adds}, Endings.{lent, unwritten}, Puts.printed}
 use Rattle.dw_command.proofs.normal.run_normal.Goals as goal
 
 pub returns-in_err-normalise_to : goal.returns-in_err-normalise_to
@@ -13,6 +13,6 @@ pub returns : goal.returns
 returns g c =
     let s = c.deref.result.now in
     let loads = lent (g.L.Load.gives c.args.files.now) c.args.writing.now.path.now _ s c.deref.ensures.value c.in_ok-bytes.ensures.loads in
-    let writes = c.in_ok-normalise_to.ensures.writes in
-    let n = writes.1 in
-    inl (s, loads, inl (n.0, (n.1, n.2), finished (output_of g.W.Write.contents c.args.out.now) (output_of g.W.Write.contents c.normalise_to.new.sink) (output_of g.W.Write.contents c.finish.new.out) n.0 _ writes.0 n.4 c.finish.ensures))
+    let n = c.in_ok-normalise_to.ensures.writes.1 in
+    let adds : Adds g.W.Write.contents c.args.out.now c.normalise_to.new.sink n.0 = record { works = λ _. c.requires.works; put = λ _. n.4 } in
+    inl (s, loads, inl (n.0, (n.1, n.2), printed g.W.Write.contents _ _ _ _ c.finish.result c.requires.works adds c.finish.ensures.ends))

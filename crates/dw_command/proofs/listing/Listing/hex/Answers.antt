@@ -1,17 +1,21 @@
-use Rattle.dw_command.proofs.{Words.{◌≡◌, ◌∙◌, ◌++◌, ◌+◌, ◌*◌, ◌^◌, ◌/◌, ◌%◌, List, ℕ, false, ap, ap₂, arith, take, digits, append_assoc, last_digits}, Digits.behind, Puts.in_room}
+use Rattle.std.proofs.lemmas.Nat.{shr_le}
+use Rattle.dw_command.proofs.{Words.{◌≡◌, ◌∙◌, ◌++◌, ◌-◌, ◌*◌, ◌/◌, ◌%◌, ◌^◌, ◌<◌, ◌≤◌, ◌∷◌, [], List, ℕ, false, inl, inr, ap, arith, refl, sym, subst, digits, digit_glyph, Fills}, Digits.{byte_more, byte_of}, Puts.filled}
 use Rattle.dw_command.proofs.listing.Listing.hex.Goals as goal
 
-pub returns-then-high-gt0-clause-put : goal.returns-then-high-gt0-clause-put
-returns-then-high-gt0-clause-put g c =
+pub bytes-preserved : goal.bytes-preserved
+bytes-preserved g c =
+    let h = c.bytes.invariant in
     let n = c.args.number in
-    let high = n / 4294967296 in
-    let low = n % 4294967296 in
-    let before = take c.args.self.now.len c.args.self.now.room in
-    let fits = c.ranges.number.fits in
-    let is : high * 2 ^ 32 + low ≡ n = omega arith in
-    c.text.ensures.put ∙ ap₂ (λ (xs ys : List ℕ). xs ++ ys) c.hex_without_zeros.ensures.put c.hex_digits.ensures
-    ∙ append_assoc before (digits 16 false high) (last_digits 8 low)
-    ∙ ap (λ (xs : List ℕ). before ++ xs) (behind high low c.if-high-gt0.true (omega (arith, fits)) (omega arith) ∙ ap (digits 16 false) is)
-
-pub returns-then-high-gt0-clause-adds : goal.returns-then-high-gt0-clause-adds
-returns-then-high-gt0-clause-adds g c = in_room g.W.Write.contents _ _ _ _ _ _ _ (c.text.ensures.out ∙ c.hex_without_zeros.ensures.out) (returns-then-high-gt0-clause-put g c)
+    let left = c.bytes.left in
+    let some_left = c.bytes-test.true in
+    let m = n / 2 ^ (8 * (left - 1)) in
+    let two : List ℕ = digit_glyph false (m % 256 / 16) ∷ digit_glyph false (m % 256 % 16) ∷ [] in
+    let rest : m / 256 ≡ n / 2 ^ (8 * left) = byte_of n left some_left in
+    let some : 1 ≤ n / 2 ^ (8 * left) = elim h.2 [ inl none ↦ absurd (omega (arith, none, some_left)) | inr is ↦ is ] in
+    let more = byte_more m (m % 256) (omega (arith, rest, some)) (omega (arith, shr_le n (8 * (left - 1)), c.ranges.number.fits)) refl in (
+      omega (arith, h.0),
+      omega (arith, h.1, c.hex_pair.ensures.len, some_left),
+      inr (omega (arith, rest, some)),
+      subst (λ (l : List ℕ). Fills c.args.self.now c.hex_pair.new.self l) (ap (λ (k : ℕ). digits 16 false k ++ two) (sym rest) ∙ sym more)
+          (filled _ _ _ _ two h.3 c.hex_pair.ensures.fills),
+    )
