@@ -9,7 +9,7 @@ pub loop-address-preserved : goal.loop-address-preserved
 loop-address-preserved g c =
     let table = c.args.table.now in λ fs are.
     let before = c.loop-address.invariant fs are in
-    let one = c.in_ok-put_at.ensures fs are in (
+    let one = c.in_ok-put_at.ensures.put fs are in (
       before.0 ++ one.0 ∷ [],
       zip_more (TellsOf table.target table.bytes fs) c.args.addresses.now before.0 c.loop-address.address-index 0 one.0 c.loop-address-test.true before.1 one.1,
       subst (λ (t : List ℕ). Adds g.W.Write.contents c.args.out.now c.put_at.new.out t) (sym (lines_push at_text before.0 one.0)) (on g.W.Write.contents _ _ _ _ _ before.2 one.2),
