@@ -1,6 +1,7 @@
 //! Instructions that most programs have. They are applied in line while their operands are read.
 
-ghost use Rattle.dw_cfa.specs.Inner.{ByOpcode.{advance_at, def_cfa_at, def_cfa_offset_at, def_cfa_offset_sf_at, offset_at}, Turns.{IsWithinLimit, Taken}};
+ghost use Rattle.dw_num.specs.{Fixed.IsWidth};
+ghost use Rattle.dw_cfa.specs.Inner.{ByOpcode.{advance_at, def_cfa_offset_at, def_cfa_offset_sf_at, offset_at}, Turns.{IsWithinLimit, Taken}};
 
 use crate::instr::Factors;
 use crate::keep::Keep;
@@ -9,47 +10,26 @@ use crate::opcode::{distance, factored, plain, signed};
 use crate::rule::RegRule;
 use dw_num::{Cursor, Refusal};
 
-/// Moves the location on by a delta of one byte, which is still to be factored.
+/// Moves the location on by a delta of so many bytes, which is still to be factored.
 #[tactic(auto, unfolding(crate::specs::Inner::ByOpcode::advance_at))]
 #[inline(always)]
-pub(crate) fn run_advance<'a, K: Keep<'a>>(
+pub(crate) fn run_fixed_advance<'a, K: Keep<'a>>(
     cursor: &mut Cursor<'a>,
     factors: Factors,
     keep: &mut K,
     at: u64,
+    width: usize,
     fault: &mut Refusal,
 ) -> End
-    requires { IsWithinLimit (K.machine keep.old) }
-    ensures { Taken K.takes (advance_at factors 1 cursor.old) at keep.old result fault.new cursor.new keep.new }
+    requires location { IsWithinLimit (K.machine keep.old) }
+    requires width { IsWidth width }
+    ensures { Taken K.takes (advance_at factors width cursor.old) at keep.old result fault.new cursor.new keep.new }
 {
-    let delta = match cursor.byte() {
+    let delta = match cursor.fixed(width) {
         Ok(delta) => delta,
         Err(refusal) => return refused(refusal, fault),
     };
-    keep.advance(distance(u64::from(delta), factors), at, fault)
-}
-
-/// The CFA is a register plus an offset.
-#[tactic(auto, unfolding(crate::specs::Inner::ByOpcode::def_cfa_at))]
-#[inline(always)]
-pub(crate) fn run_def_cfa<'a, K: Keep<'a>>(
-    cursor: &mut Cursor<'a>,
-    keep: &mut K,
-    at: u64,
-    fault: &mut Refusal,
-) -> End
-    requires { IsWithinLimit (K.machine keep.old) }
-    ensures { Taken K.takes (def_cfa_at at cursor.old) at keep.old result fault.new cursor.new keep.new }
-{
-    let register = match cursor.register() {
-        Ok(register) => register,
-        Err(refusal) => return refused(refusal, fault),
-    };
-    let offset = match plain(cursor, at) {
-        Ok(offset) => offset,
-        Err(refusal) => return refused(refusal, fault),
-    };
-    keep.def_cfa(register, offset, at, fault)
+    keep.advance(distance(delta, factors), at, fault)
 }
 
 /// The CFA is the same register plus another offset.
