@@ -28,40 +28,24 @@ pub(crate) trait Keep<'a> {
         ensures { takes self.old instr.entry at result fault.new self.new };
 
     /// Takes one that does nothing (6.4.2.5).
-    #[inline(always)]
     fn nop(&mut self, at: u64, fault: &mut Refusal) -> End
         requires { IsWithinLimit (machine self.old) }
-        ensures { takes self.old Nop at result fault.new self.new }
-    {
-        self.take(Instr::Nop, at, fault)
-    }
+        ensures { takes self.old Nop at result fault.new self.new };
 
     /// Takes one that moves the location on.
-    #[inline(always)]
     fn advance(&mut self, distance: u128, at: u64, fault: &mut Refusal) -> End
         requires { IsWithinLimit (machine self.old) }
-        ensures { takes self.old (Advance distance) at result fault.new self.new }
-    {
-        self.take(Instr::Advance(distance), at, fault)
-    }
+        ensures { takes self.old (Advance distance) at result fault.new self.new };
 
     /// Takes one by which the CFA is the same register plus another offset.
-    #[inline(always)]
     fn def_cfa_offset(&mut self, offset: i64, at: u64, fault: &mut Refusal) -> End
         requires { IsWithinLimit (machine self.old) }
-        ensures { takes self.old (DefCfaOffset offset) at result fault.new self.new }
-    {
-        self.take(Instr::DefCfaOffset(offset), at, fault)
-    }
+        ensures { takes self.old (DefCfaOffset offset) at result fault.new self.new };
 
     /// Takes one that gives a register a rule.
-    #[inline(always)]
     fn set(&mut self, register: u16, rule: RegRule<'a>, at: u64, fault: &mut Refusal) -> End
         requires { IsWithinLimit (machine self.old) }
-        ensures { takes self.old (Set register rule.entry) at result fault.new self.new }
-    {
-        self.take(Instr::Set(register, rule), at, fault)
-    }
+        ensures { takes self.old (Set register rule.entry) at result fault.new self.new };
 
     /// Whether the location is above an address.
     fn is_above(&self, address: u64) -> bool
@@ -198,7 +182,7 @@ impl<'a> Keep<'a> for Row<'a> {
     fn take(&mut self, instr: Instr<'a>, at: u64, fault: &mut Refusal) -> End {
         match instr {
             Instr::Nop => End::On,
-            Instr::Set(register, rule) => match self.set(register, rule) {
+            Instr::Set(register, rule) => match Row::set(self, register, rule) {
                 Ok(()) => End::On,
                 Err(_) => End::OutOfMemory,
             },
@@ -215,6 +199,26 @@ impl<'a> Keep<'a> for Row<'a> {
                 None => refuse(Code::CfaNotRegister, at, fault),
             },
         }
+    }
+
+    #[inline(always)]
+    fn nop(&mut self, at: u64, fault: &mut Refusal) -> End {
+        self.take(Instr::Nop, at, fault)
+    }
+
+    #[inline(always)]
+    fn advance(&mut self, distance: u128, at: u64, fault: &mut Refusal) -> End {
+        self.take(Instr::Advance(distance), at, fault)
+    }
+
+    #[inline(always)]
+    fn def_cfa_offset(&mut self, offset: i64, at: u64, fault: &mut Refusal) -> End {
+        self.take(Instr::DefCfaOffset(offset), at, fault)
+    }
+
+    #[inline(always)]
+    fn set(&mut self, register: u16, rule: RegRule<'a>, at: u64, fault: &mut Refusal) -> End {
+        self.take(Instr::Set(register, rule), at, fault)
     }
 
     fn is_above(&self, _address: u64) -> bool {

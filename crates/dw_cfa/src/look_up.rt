@@ -173,6 +173,26 @@ impl<'a> Keep<'a> for LookUp<'a> {
     }
 
     #[inline(always)]
+    fn nop(&mut self, at: u64, fault: &mut Refusal) -> End {
+        self.take(Instr::Nop, at, fault)
+    }
+
+    #[inline(always)]
+    fn advance(&mut self, distance: u128, at: u64, fault: &mut Refusal) -> End {
+        self.take(Instr::Advance(distance), at, fault)
+    }
+
+    #[inline(always)]
+    fn def_cfa_offset(&mut self, offset: i64, at: u64, fault: &mut Refusal) -> End {
+        self.take(Instr::DefCfaOffset(offset), at, fault)
+    }
+
+    #[inline(always)]
+    fn set(&mut self, register: u16, rule: RegRule<'a>, at: u64, fault: &mut Refusal) -> End {
+        self.take(Instr::Set(register, rule), at, fault)
+    }
+
+    #[inline(always)]
     fn is_above(&self, address: u64) -> bool {
         self.location > address
     }
