@@ -51,6 +51,21 @@ impl<'a> Keep<'a> for Noted<'a> {
     }
 
     #[inline(always)]
+    fn restore(&mut self, register: u16, at: u64, fault: &mut Refusal) -> End {
+        self.take(Instr::Restore(register), at, fault)
+    }
+
+    #[inline(always)]
+    fn remember(&mut self, at: u64, fault: &mut Refusal) -> End {
+        self.take(Instr::RememberState, at, fault)
+    }
+
+    #[inline(always)]
+    fn recall(&mut self, at: u64, fault: &mut Refusal) -> End {
+        self.take(Instr::RestoreState, at, fault)
+    }
+
+    #[inline(always)]
     fn is_above(&self, _address: u64) -> bool {
         false
     }

@@ -2,7 +2,7 @@
 
 ghost use Rattle.std.specs.Prelude.{◌≡◌, ℕ, ◌≤◌, MatchOption, None, Some, false, nat_lt, true};
 ghost use Rattle.dw_num.specs.declared.refusal.{Code.TheVariants.CfaNotRegister, Refusal.{Refusal}};
-ghost use Rattle.dw_cfa.specs.{Column.cfa_change, declared.instr.{Instr.Instr, Instr.TheVariants.{Advance, DefCfaOffset, Nop, Set, SetLoc}}, declared.machine.End.End};
+ghost use Rattle.dw_cfa.specs.{Column.cfa_change, declared.instr.{Instr.Instr, Instr.TheVariants.{Advance, DefCfaOffset, Nop, RememberState, Restore, RestoreState, Set, SetLoc}}, declared.machine.End.End};
 ghost use Rattle.dw_cfa.specs.{declared.machine.Machine.Machine, Inner.Machine.half_fault, Inner.Steps.InLimit, Inner.Turns.{Did, IsWithinLimit, cie_machine}};
 
 use crate::instr::Instr;
@@ -46,6 +46,21 @@ pub(crate) trait Keep<'a> {
     fn set(&mut self, register: u16, rule: RegRule<'a>, at: u64, fault: &mut Refusal) -> End
         requires { IsWithinLimit (machine self.old) }
         ensures { takes self.old (Set register rule.entry) at result fault.new self.new };
+
+    /// Takes one that gives a register the rule that it has in the initial row.
+    fn restore(&mut self, register: u16, at: u64, fault: &mut Refusal) -> End
+        requires { IsWithinLimit (machine self.old) }
+        ensures { takes self.old (Restore register) at result fault.new self.new };
+
+    /// Takes one that remembers the row (6.4.2.4).
+    fn remember(&mut self, at: u64, fault: &mut Refusal) -> End
+        requires { IsWithinLimit (machine self.old) }
+        ensures { takes self.old RememberState at result fault.new self.new };
+
+    /// Takes one that goes back to the row that was remembered last (6.4.2.4).
+    fn recall(&mut self, at: u64, fault: &mut Refusal) -> End
+        requires { IsWithinLimit (machine self.old) }
+        ensures { takes self.old RestoreState at result fault.new self.new };
 
     /// Whether the location is above an address.
     fn is_above(&self, address: u64) -> bool
@@ -105,24 +120,9 @@ impl<'a> Keep<'a> for Machine<'a> {
             Instr::SetLoc(address) => self.go(address, at, fault),
             Instr::Advance(distance) => self.advance(distance, at, fault),
             Instr::Set(register, rule) => self.set(register, rule, at, fault),
-            Instr::Restore(register) => match self.states.set_as(&self.initial, register) {
-                Ok(()) => End::On,
-                Err(_) => End::OutOfMemory,
-            },
-            Instr::RememberState => {
-                if self.states.depth() >= MOST_REMEMBERED {
-                    return refuse(Code::StateStackFull, at, fault);
-                }
-                match self.states.remember() {
-                    Ok(()) => End::On,
-                    Err(_) => End::OutOfMemory,
-                }
-            }
-            Instr::RestoreState => match self.states.restore() {
-                Ok(true) => End::On,
-                Ok(false) => refuse(Code::EmptyStateStack, at, fault),
-                Err(_) => End::OutOfMemory,
-            },
+            Instr::Restore(register) => self.restore(register, at, fault),
+            Instr::RememberState => self.remember(at, fault),
+            Instr::RestoreState => self.recall(at, fault),
             definition => match cfa_behind(definition, self.states.row().cfa_rule()) {
                 Some(rule) => {
                     self.states.set_cfa(rule);
@@ -162,6 +162,34 @@ impl<'a> Keep<'a> for Machine<'a> {
     fn set(&mut self, register: u16, rule: RegRule<'a>, _at: u64, _fault: &mut Refusal) -> End {
         match self.states.set(register, rule) {
             Ok(()) => End::On,
+            Err(_) => End::OutOfMemory,
+        }
+    }
+
+    #[inline(always)]
+    fn restore(&mut self, register: u16, _at: u64, _fault: &mut Refusal) -> End {
+        match self.states.set_as(&self.initial, register) {
+            Ok(()) => End::On,
+            Err(_) => End::OutOfMemory,
+        }
+    }
+
+    #[inline(always)]
+    fn remember(&mut self, at: u64, fault: &mut Refusal) -> End {
+        if self.states.depth() >= MOST_REMEMBERED {
+            return refuse(Code::StateStackFull, at, fault);
+        }
+        match self.states.remember() {
+            Ok(()) => End::On,
+            Err(_) => End::OutOfMemory,
+        }
+    }
+
+    #[inline(always)]
+    fn recall(&mut self, at: u64, fault: &mut Refusal) -> End {
+        match self.states.restore() {
+            Ok(true) => End::On,
+            Ok(false) => refuse(Code::EmptyStateStack, at, fault),
             Err(_) => End::OutOfMemory,
         }
     }
@@ -219,6 +247,21 @@ impl<'a> Keep<'a> for Row<'a> {
     #[inline(always)]
     fn set(&mut self, register: u16, rule: RegRule<'a>, at: u64, fault: &mut Refusal) -> End {
         self.take(Instr::Set(register, rule), at, fault)
+    }
+
+    #[inline(always)]
+    fn restore(&mut self, register: u16, at: u64, fault: &mut Refusal) -> End {
+        self.take(Instr::Restore(register), at, fault)
+    }
+
+    #[inline(always)]
+    fn remember(&mut self, at: u64, fault: &mut Refusal) -> End {
+        self.take(Instr::RememberState, at, fault)
+    }
+
+    #[inline(always)]
+    fn recall(&mut self, at: u64, fault: &mut Refusal) -> End {
+        self.take(Instr::RestoreState, at, fault)
     }
 
     fn is_above(&self, _address: u64) -> bool {

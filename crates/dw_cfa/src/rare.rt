@@ -49,10 +49,7 @@ fn read_rare<'a>(
     match opcode {
         Opcode::SetLoc => Ok(Instr::SetLoc(cursor.address()?)),
         Opcode::AdvanceLoc4 => Ok(Instr::Advance(distance(cursor.fixed(4)?, factors))),
-        Opcode::Restore(register) => Ok(Instr::Restore(register)),
         Opcode::RestoreExtended => Ok(Instr::Restore(cursor.register()?)),
-        Opcode::RememberState => Ok(Instr::RememberState),
-        Opcode::RestoreState => Ok(Instr::RestoreState),
         Opcode::DefCfa => {
             let register = cursor.register()?;
             let offset = plain(cursor, at)?;

@@ -38,6 +38,9 @@ fn apply<'a, K: Keep<'a>>(
         Opcode::DefCfaOffset => run_def_cfa_offset(cursor, keep, at, fault),
         Opcode::DefCfaOffsetSf => run_def_cfa_offset_sf(cursor, factors, keep, at, fault),
         Opcode::Offset(register) => run_offset(cursor, factors, keep, at, register, fault),
+        Opcode::Restore(register) => keep.restore(register, at, fault),
+        Opcode::RememberState => keep.remember(at, fault),
+        Opcode::RestoreState => keep.recall(at, fault),
         _ => apply_rare(opcode, cursor, factors, keep, at, fault),
     }
 }

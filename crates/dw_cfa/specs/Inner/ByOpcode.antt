@@ -101,10 +101,7 @@ set_at f at opcode i = register_at i >>= then_rule f at opcode
 unfoldable pub rare_at : Factors → ℕ → Opcode → Input → Read Instr
 rare_at f at opcodes.SetLoc i = set_loc_at i
 rare_at f at opcodes.AdvanceLoc4 i = advance_at f 4 i
-rare_at f at (opcodes.Restore r) i = Ok (Restore r, i)
 rare_at f at opcodes.RestoreExtended i = restore_at i
-rare_at f at opcodes.RememberState i = Ok (RememberState, i)
-rare_at f at opcodes.RestoreState i = Ok (RestoreState, i)
 rare_at f at opcodes.DefCfa i = def_cfa_at at i
 rare_at f at opcodes.DefCfaSf i = def_cfa_sf_at f at i
 rare_at f at opcodes.DefCfaRegister i = def_cfa_register_at i
@@ -120,4 +117,7 @@ operands_at f at opcodes.AdvanceLoc2 i = advance_at f 2 i
 operands_at f at opcodes.DefCfaOffset i = def_cfa_offset_at at i
 operands_at f at opcodes.DefCfaOffsetSf i = def_cfa_offset_sf_at f at i
 operands_at f at (opcodes.Offset r) i = offset_at f at r i
+operands_at f at (opcodes.Restore r) i = Ok (Restore r, i)
+operands_at f at opcodes.RememberState i = Ok (RememberState, i)
+operands_at f at opcodes.RestoreState i = Ok (RestoreState, i)
 operands_at f at opcode i = rare_at f at opcode i
