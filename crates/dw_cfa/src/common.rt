@@ -1,12 +1,12 @@
 //! Instructions that most programs have. They are applied in line while their operands are read.
 
 ghost use Rattle.dw_num.specs.{Fixed.IsWidth};
-ghost use Rattle.dw_cfa.specs.Inner.{ByOpcode.{advance_at, def_cfa_at, def_cfa_offset_at, def_cfa_offset_sf_at, offset_at, set_at}, Turns.{IsWithinLimit, Taken}};
+ghost use Rattle.dw_cfa.specs.Inner.{ByOpcode.{advance_at, def_cfa_offset_at, def_cfa_offset_sf_at, offset_at}, Turns.{IsWithinLimit, Taken}};
 
-use crate::instr::{Factors, Instr};
+use crate::instr::Factors;
 use crate::keep::Keep;
 use crate::machine::{End, refused};
-use crate::opcode::{Opcode, distance, factored, plain, signed};
+use crate::opcode::{distance, factored, plain, signed};
 use crate::rule::RegRule;
 use dw_num::{Cursor, Refusal};
 
@@ -29,30 +29,7 @@ pub(crate) fn run_fixed_advance<'a, K: Keep<'a>>(
         Ok(delta) => delta,
         Err(refusal) => return refused(refusal, fault),
     };
-    keep.take(Instr::Advance(distance(delta, factors)), at, fault)
-}
-
-/// The CFA is a register plus an offset.
-#[tactic(auto, unfolding(crate::specs::Inner::ByOpcode::def_cfa_at))]
-#[inline(always)]
-pub(crate) fn run_def_cfa<'a, K: Keep<'a>>(
-    cursor: &mut Cursor<'a>,
-    keep: &mut K,
-    at: u64,
-    fault: &mut Refusal,
-) -> End
-    requires { IsWithinLimit (K.machine keep.old) }
-    ensures { Taken K.takes (def_cfa_at at cursor.old) at keep.old result fault.new cursor.new keep.new }
-{
-    let register = match cursor.register() {
-        Ok(register) => register,
-        Err(refusal) => return refused(refusal, fault),
-    };
-    let offset = match plain(cursor, at) {
-        Ok(offset) => offset,
-        Err(refusal) => return refused(refusal, fault),
-    };
-    keep.take(Instr::DefCfa { register, offset }, at, fault)
+    keep.advance(distance(delta, factors), at, fault)
 }
 
 /// The CFA is the same register plus another offset.
@@ -71,7 +48,7 @@ pub(crate) fn run_def_cfa_offset<'a, K: Keep<'a>>(
         Ok(offset) => offset,
         Err(refusal) => return refused(refusal, fault),
     };
-    keep.take(Instr::DefCfaOffset(offset), at, fault)
+    keep.def_cfa_offset(offset, at, fault)
 }
 
 /// The same with an offset that is signed and factored.
@@ -91,7 +68,7 @@ pub(crate) fn run_def_cfa_offset_sf<'a, K: Keep<'a>>(
         Ok(offset) => offset,
         Err(refusal) => return refused(refusal, fault),
     };
-    keep.take(Instr::DefCfaOffset(offset), at, fault)
+    keep.def_cfa_offset(offset, at, fault)
 }
 
 /// A register is saved at the CFA plus an offset, which is factored.
@@ -112,53 +89,5 @@ pub(crate) fn run_offset<'a, K: Keep<'a>>(
         Ok(offset) => offset,
         Err(refusal) => return refused(refusal, fault),
     };
-    keep.take(Instr::Set(register, RegRule::Offset(offset)), at, fault)
-}
-
-/// The same with the register behind the opcode.
-#[tactic(auto, unfolding(crate::specs::Inner::ByOpcode::set_at, crate::specs::Inner::ByOpcode::rule_at))]
-#[inline(always)]
-pub(crate) fn run_offset_extended<'a, K: Keep<'a>>(
-    cursor: &mut Cursor<'a>,
-    factors: Factors,
-    keep: &mut K,
-    at: u64,
-    fault: &mut Refusal,
-) -> End
-    requires { IsWithinLimit (K.machine keep.old) }
-    ensures { Taken K.takes (set_at factors at Opcode.OffsetExtended cursor.old) at keep.old result fault.new cursor.new keep.new }
-{
-    let register = match cursor.register() {
-        Ok(register) => register,
-        Err(refusal) => return refused(refusal, fault),
-    };
-    let offset = match factored(cursor, factors, at) {
-        Ok(offset) => offset,
-        Err(refusal) => return refused(refusal, fault),
-    };
-    keep.take(Instr::Set(register, RegRule::Offset(offset)), at, fault)
-}
-
-/// The same with an offset that is signed.
-#[tactic(auto, unfolding(crate::specs::Inner::ByOpcode::set_at, crate::specs::Inner::ByOpcode::rule_at))]
-#[inline(always)]
-pub(crate) fn run_offset_extended_sf<'a, K: Keep<'a>>(
-    cursor: &mut Cursor<'a>,
-    factors: Factors,
-    keep: &mut K,
-    at: u64,
-    fault: &mut Refusal,
-) -> End
-    requires { IsWithinLimit (K.machine keep.old) }
-    ensures { Taken K.takes (set_at factors at Opcode.OffsetExtendedSf cursor.old) at keep.old result fault.new cursor.new keep.new }
-{
-    let register = match cursor.register() {
-        Ok(register) => register,
-        Err(refusal) => return refused(refusal, fault),
-    };
-    let offset = match signed(cursor, factors, at) {
-        Ok(offset) => offset,
-        Err(refusal) => return refused(refusal, fault),
-    };
-    keep.take(Instr::Set(register, RegRule::Offset(offset)), at, fault)
+    keep.set(register, RegRule::Offset(offset), at, fault)
 }

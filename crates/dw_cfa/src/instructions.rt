@@ -8,6 +8,7 @@ ghost use Rattle.dw_cfa.specs.{declared.{instr.Instr.Instr, machine.End.End}, In
 use crate::instr::{Factors, Instr};
 use crate::keep::Keep;
 use crate::machine::End;
+use crate::rule::RegRule;
 use crate::turn::execute;
 use dw_num::{Code, Cursor, Program, Refusal, Target, are_bytes};
 use std::marker::Model;
@@ -27,6 +28,41 @@ impl<'a> Keep<'a> for Noted<'a> {
     fn take(&mut self, instr: Instr<'a>, _at: u64, _fault: &mut Refusal) -> End {
         self.instr = instr;
         End::On
+    }
+
+    #[inline(always)]
+    fn nop(&mut self, at: u64, fault: &mut Refusal) -> End {
+        self.take(Instr::Nop, at, fault)
+    }
+
+    #[inline(always)]
+    fn advance(&mut self, distance: u128, at: u64, fault: &mut Refusal) -> End {
+        self.take(Instr::Advance(distance), at, fault)
+    }
+
+    #[inline(always)]
+    fn def_cfa_offset(&mut self, offset: i64, at: u64, fault: &mut Refusal) -> End {
+        self.take(Instr::DefCfaOffset(offset), at, fault)
+    }
+
+    #[inline(always)]
+    fn set(&mut self, register: u16, rule: RegRule<'a>, at: u64, fault: &mut Refusal) -> End {
+        self.take(Instr::Set(register, rule), at, fault)
+    }
+
+    #[inline(always)]
+    fn restore(&mut self, register: u16, at: u64, fault: &mut Refusal) -> End {
+        self.take(Instr::Restore(register), at, fault)
+    }
+
+    #[inline(always)]
+    fn remember(&mut self, at: u64, fault: &mut Refusal) -> End {
+        self.take(Instr::RememberState, at, fault)
+    }
+
+    #[inline(always)]
+    fn recall(&mut self, at: u64, fault: &mut Refusal) -> End {
+        self.take(Instr::RestoreState, at, fault)
     }
 
     #[inline(always)]

@@ -2,13 +2,13 @@
 
 ghost use Rattle.std.specs.Prelude.{◌≡◌, ℕ, ◌≤◌, MatchOption, None, Some, false, nat_lt, true};
 ghost use Rattle.dw_num.specs.declared.refusal.{Code.TheVariants.CfaNotRegister, Refusal.{Refusal}};
-ghost use Rattle.dw_cfa.specs.{Column.cfa_change, declared.instr.{Instr.Instr, Instr.TheVariants.{Advance, SetLoc}}, declared.machine.End.End};
+ghost use Rattle.dw_cfa.specs.{Column.cfa_change, declared.instr.{Instr.Instr, Instr.TheVariants.{Advance, DefCfaOffset, Nop, RememberState, Restore, RestoreState, Set, SetLoc}}, declared.machine.End.End};
 ghost use Rattle.dw_cfa.specs.{declared.machine.Machine.Machine, Inner.Machine.half_fault, Inner.Steps.InLimit, Inner.Turns.{Did, IsWithinLimit, cie_machine}};
 
 use crate::instr::Instr;
 use crate::machine::{End, Machine, refuse};
 use crate::row::Row;
-use crate::rule::CfaRule;
+use crate::rule::{CfaRule, RegRule};
 use dw_num::{Code, Refusal};
 
 // How many states can be remembered at once.
@@ -26,6 +26,41 @@ pub(crate) trait Keep<'a> {
         requires within { IsWithinLimit (machine self.old) }
         requires limit { InLimit (machine self.old).limit instr }
         ensures { takes self.old instr.entry at result fault.new self.new };
+
+    /// Takes one that does nothing (6.4.2.5).
+    fn nop(&mut self, at: u64, fault: &mut Refusal) -> End
+        requires { IsWithinLimit (machine self.old) }
+        ensures { takes self.old Nop at result fault.new self.new };
+
+    /// Takes one that moves the location on.
+    fn advance(&mut self, distance: u128, at: u64, fault: &mut Refusal) -> End
+        requires { IsWithinLimit (machine self.old) }
+        ensures { takes self.old (Advance distance) at result fault.new self.new };
+
+    /// Takes one by which the CFA is the same register plus another offset.
+    fn def_cfa_offset(&mut self, offset: i64, at: u64, fault: &mut Refusal) -> End
+        requires { IsWithinLimit (machine self.old) }
+        ensures { takes self.old (DefCfaOffset offset) at result fault.new self.new };
+
+    /// Takes one that gives a register a rule.
+    fn set(&mut self, register: u16, rule: RegRule<'a>, at: u64, fault: &mut Refusal) -> End
+        requires { IsWithinLimit (machine self.old) }
+        ensures { takes self.old (Set register rule.entry) at result fault.new self.new };
+
+    /// Takes one that gives a register the rule that it has in the initial row.
+    fn restore(&mut self, register: u16, at: u64, fault: &mut Refusal) -> End
+        requires { IsWithinLimit (machine self.old) }
+        ensures { takes self.old (Restore register) at result fault.new self.new };
+
+    /// Takes one that remembers the row (6.4.2.4).
+    fn remember(&mut self, at: u64, fault: &mut Refusal) -> End
+        requires { IsWithinLimit (machine self.old) }
+        ensures { takes self.old RememberState at result fault.new self.new };
+
+    /// Takes one that goes back to the row that was remembered last (6.4.2.4).
+    fn recall(&mut self, at: u64, fault: &mut Refusal) -> End
+        requires { IsWithinLimit (machine self.old) }
+        ensures { takes self.old RestoreState at result fault.new self.new };
 
     /// Whether the location is above an address.
     fn is_above(&self, address: u64) -> bool
@@ -58,19 +93,6 @@ pub(crate) fn cfa_behind<'a>(instr: Instr<'a>, cfa: &CfaRule<'a>) -> Option<CfaR
 }
 
 impl<'a> Machine<'a> {
-    // Moves the location on.
-    #[inline(always)]
-    fn advance(&mut self, distance: u128, at: u64, fault: &mut Refusal) -> End
-        requires { IsWithinLimit self.old }
-        ensures { Did false (Advance distance) at self.old result fault.new self.new }
-    {
-        if distance > self.limit - self.location {
-            return refuse(Code::LocationTooLarge, at, fault);
-        }
-        self.location += distance;
-        End::Moved
-    }
-
     // Moves the location to an address that is not below it.
     #[inline(always)]
     fn go(&mut self, address: u64, at: u64, fault: &mut Refusal) -> End
@@ -97,28 +119,10 @@ impl<'a> Keep<'a> for Machine<'a> {
             Instr::Nop => End::On,
             Instr::SetLoc(address) => self.go(address, at, fault),
             Instr::Advance(distance) => self.advance(distance, at, fault),
-            Instr::Set(register, rule) => match self.states.set(register, rule) {
-                Ok(()) => End::On,
-                Err(_) => End::OutOfMemory,
-            },
-            Instr::Restore(register) => match self.states.set_as(&self.initial, register) {
-                Ok(()) => End::On,
-                Err(_) => End::OutOfMemory,
-            },
-            Instr::RememberState => {
-                if self.states.depth() >= MOST_REMEMBERED {
-                    return refuse(Code::StateStackFull, at, fault);
-                }
-                match self.states.remember() {
-                    Ok(()) => End::On,
-                    Err(_) => End::OutOfMemory,
-                }
-            }
-            Instr::RestoreState => match self.states.restore() {
-                Ok(true) => End::On,
-                Ok(false) => refuse(Code::EmptyStateStack, at, fault),
-                Err(_) => End::OutOfMemory,
-            },
+            Instr::Set(register, rule) => self.set(register, rule, at, fault),
+            Instr::Restore(register) => self.restore(register, at, fault),
+            Instr::RememberState => self.remember(at, fault),
+            Instr::RestoreState => self.recall(at, fault),
             definition => match cfa_behind(definition, self.states.row().cfa_rule()) {
                 Some(rule) => {
                     self.states.set_cfa(rule);
@@ -126,6 +130,67 @@ impl<'a> Keep<'a> for Machine<'a> {
                 }
                 None => refuse(Code::CfaNotRegister, at, fault),
             },
+        }
+    }
+
+    // What most programs have is taken in line.
+    #[inline(always)]
+    fn nop(&mut self, _at: u64, _fault: &mut Refusal) -> End {
+        End::On
+    }
+
+    #[inline(always)]
+    fn advance(&mut self, distance: u128, at: u64, fault: &mut Refusal) -> End {
+        if distance > self.limit - self.location {
+            return refuse(Code::LocationTooLarge, at, fault);
+        }
+        self.location += distance;
+        End::Moved
+    }
+
+    #[inline(always)]
+    fn def_cfa_offset(&mut self, offset: i64, at: u64, fault: &mut Refusal) -> End {
+        let CfaRule::Register { register, .. } = self.states.row().cfa_rule() else {
+            return refuse(Code::CfaNotRegister, at, fault);
+        };
+        let register = *register;
+        self.states.set_cfa(CfaRule::Register { register, offset });
+        End::On
+    }
+
+    #[inline(always)]
+    fn set(&mut self, register: u16, rule: RegRule<'a>, _at: u64, _fault: &mut Refusal) -> End {
+        match self.states.set(register, rule) {
+            Ok(()) => End::On,
+            Err(_) => End::OutOfMemory,
+        }
+    }
+
+    #[inline(always)]
+    fn restore(&mut self, register: u16, _at: u64, _fault: &mut Refusal) -> End {
+        match self.states.set_as(&self.initial, register) {
+            Ok(()) => End::On,
+            Err(_) => End::OutOfMemory,
+        }
+    }
+
+    #[inline(always)]
+    fn remember(&mut self, at: u64, fault: &mut Refusal) -> End {
+        if self.states.depth() >= MOST_REMEMBERED {
+            return refuse(Code::StateStackFull, at, fault);
+        }
+        match self.states.remember() {
+            Ok(()) => End::On,
+            Err(_) => End::OutOfMemory,
+        }
+    }
+
+    #[inline(always)]
+    fn recall(&mut self, at: u64, fault: &mut Refusal) -> End {
+        match self.states.restore() {
+            Ok(true) => End::On,
+            Ok(false) => refuse(Code::EmptyStateStack, at, fault),
+            Err(_) => End::OutOfMemory,
         }
     }
 
@@ -145,7 +210,7 @@ impl<'a> Keep<'a> for Row<'a> {
     fn take(&mut self, instr: Instr<'a>, at: u64, fault: &mut Refusal) -> End {
         match instr {
             Instr::Nop => End::On,
-            Instr::Set(register, rule) => match self.set(register, rule) {
+            Instr::Set(register, rule) => match Row::set(self, register, rule) {
                 Ok(()) => End::On,
                 Err(_) => End::OutOfMemory,
             },
@@ -162,6 +227,41 @@ impl<'a> Keep<'a> for Row<'a> {
                 None => refuse(Code::CfaNotRegister, at, fault),
             },
         }
+    }
+
+    #[inline(always)]
+    fn nop(&mut self, at: u64, fault: &mut Refusal) -> End {
+        self.take(Instr::Nop, at, fault)
+    }
+
+    #[inline(always)]
+    fn advance(&mut self, distance: u128, at: u64, fault: &mut Refusal) -> End {
+        self.take(Instr::Advance(distance), at, fault)
+    }
+
+    #[inline(always)]
+    fn def_cfa_offset(&mut self, offset: i64, at: u64, fault: &mut Refusal) -> End {
+        self.take(Instr::DefCfaOffset(offset), at, fault)
+    }
+
+    #[inline(always)]
+    fn set(&mut self, register: u16, rule: RegRule<'a>, at: u64, fault: &mut Refusal) -> End {
+        self.take(Instr::Set(register, rule), at, fault)
+    }
+
+    #[inline(always)]
+    fn restore(&mut self, register: u16, at: u64, fault: &mut Refusal) -> End {
+        self.take(Instr::Restore(register), at, fault)
+    }
+
+    #[inline(always)]
+    fn remember(&mut self, at: u64, fault: &mut Refusal) -> End {
+        self.take(Instr::RememberState, at, fault)
+    }
+
+    #[inline(always)]
+    fn recall(&mut self, at: u64, fault: &mut Refusal) -> End {
+        self.take(Instr::RestoreState, at, fault)
     }
 
     fn is_above(&self, _address: u64) -> bool {

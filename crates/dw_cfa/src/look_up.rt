@@ -92,38 +92,6 @@ impl<'a> LookUp<'a> {
     }
 }
 
-impl<'a> LookUp<'a> {
-    // Remembers the row. One with registers in a tree is not copied: thousands of states could be remembered of one with thousands
-    // of registers.
-    #[inline(never)]
-    fn remember(&mut self, at: u64, fault: &mut Refusal) -> End
-        requires { IsWithinLimit (⟦<LookUp<'a> as Keep<'a>>⟧.machine self.old) }
-        ensures { ⟦<LookUp<'a> as Keep<'a>>⟧.takes self.old RememberState at result fault.new self.new }
-    {
-        if self.remembers || self.row.is_wide() || self.kept.become_copy(&self.row).is_err() {
-            return End::OutOfMemory;
-        }
-        self.remembers = true;
-        End::On
-    }
-
-    // Goes back to the row that is remembered.
-    #[inline(never)]
-    fn recall(&mut self, at: u64, fault: &mut Refusal) -> End
-        requires { IsWithinLimit (⟦<LookUp<'a> as Keep<'a>>⟧.machine self.old) }
-        ensures { ⟦<LookUp<'a> as Keep<'a>>⟧.takes self.old RestoreState at result fault.new self.new }
-    {
-        if !self.remembers {
-            return refuse(Code::EmptyStateStack, at, fault);
-        }
-        if self.row.become_copy(&self.kept).is_err() {
-            return End::OutOfMemory;
-        }
-        self.remembers = false;
-        End::On
-    }
-}
-
 impl<'a> Keep<'a> for LookUp<'a> {
     ghost machine = { λ k. look_up_at k.initial.value (address_limit k.size) k.row (kept_if k.remembers k.kept) k.location };
 
@@ -170,6 +138,53 @@ impl<'a> Keep<'a> for LookUp<'a> {
                 None => refuse(Code::CfaNotRegister, at, fault),
             },
         }
+    }
+
+    #[inline(always)]
+    fn nop(&mut self, at: u64, fault: &mut Refusal) -> End {
+        self.take(Instr::Nop, at, fault)
+    }
+
+    #[inline(always)]
+    fn advance(&mut self, distance: u128, at: u64, fault: &mut Refusal) -> End {
+        self.take(Instr::Advance(distance), at, fault)
+    }
+
+    #[inline(always)]
+    fn def_cfa_offset(&mut self, offset: i64, at: u64, fault: &mut Refusal) -> End {
+        self.take(Instr::DefCfaOffset(offset), at, fault)
+    }
+
+    #[inline(always)]
+    fn set(&mut self, register: u16, rule: RegRule<'a>, at: u64, fault: &mut Refusal) -> End {
+        self.take(Instr::Set(register, rule), at, fault)
+    }
+
+    #[inline(always)]
+    fn restore(&mut self, register: u16, at: u64, fault: &mut Refusal) -> End {
+        self.take(Instr::Restore(register), at, fault)
+    }
+
+    // A row with registers in a tree is not copied: thousands of states could be remembered of one with thousands of registers.
+    #[inline(never)]
+    fn remember(&mut self, _at: u64, _fault: &mut Refusal) -> End {
+        if self.remembers || self.row.is_wide() || self.kept.become_copy(&self.row).is_err() {
+            return End::OutOfMemory;
+        }
+        self.remembers = true;
+        End::On
+    }
+
+    #[inline(never)]
+    fn recall(&mut self, at: u64, fault: &mut Refusal) -> End {
+        if !self.remembers {
+            return refuse(Code::EmptyStateStack, at, fault);
+        }
+        if self.row.become_copy(&self.kept).is_err() {
+            return End::OutOfMemory;
+        }
+        self.remembers = false;
+        End::On
     }
 
     #[inline(always)]

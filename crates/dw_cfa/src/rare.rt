@@ -7,7 +7,7 @@ ghost use Rattle.dw_cfa.specs.Inner.{ByOpcode.{rare_at, rule_at}, Steps.InLimit,
 use crate::instr::{Factors, Instr};
 use crate::keep::Keep;
 use crate::machine::{End, refused};
-use crate::opcode::{Opcode, block, distance, factored, signed};
+use crate::opcode::{Opcode, block, distance, factored, plain, signed};
 use crate::rule::RegRule;
 use dw_num::{Cursor, Refusal};
 
@@ -35,8 +35,8 @@ fn rule_behind<'a>(
 }
 
 // Reads the operands of one. An address is one of the target's.
-#[tactic(auto, unfolding(crate::specs::Inner::ByOpcode::rare_at, crate::specs::Inner::ByOpcode::set_loc_at, crate::specs::Inner::ByOpcode::advance_at, crate::specs::Inner::ByOpcode::restore_at, crate::specs::Inner::ByOpcode::def_cfa_sf_at, crate::specs::Inner::ByOpcode::def_cfa_register_at, crate::specs::Inner::ByOpcode::def_cfa_expression_at, crate::specs::Inner::ByOpcode::set_at))]
-#[inline(never)]
+#[tactic(auto, unfolding(crate::specs::Inner::ByOpcode::rare_at, crate::specs::Inner::ByOpcode::set_loc_at, crate::specs::Inner::ByOpcode::advance_at, crate::specs::Inner::ByOpcode::restore_at, crate::specs::Inner::ByOpcode::def_cfa_at, crate::specs::Inner::ByOpcode::def_cfa_sf_at, crate::specs::Inner::ByOpcode::def_cfa_register_at, crate::specs::Inner::ByOpcode::def_cfa_expression_at, crate::specs::Inner::ByOpcode::set_at))]
+#[inline(always)]
 fn read_rare<'a>(
     opcode: Opcode,
     cursor: &mut Cursor<'a>,
@@ -50,6 +50,11 @@ fn read_rare<'a>(
         Opcode::SetLoc => Ok(Instr::SetLoc(cursor.address()?)),
         Opcode::AdvanceLoc4 => Ok(Instr::Advance(distance(cursor.fixed(4)?, factors))),
         Opcode::RestoreExtended => Ok(Instr::Restore(cursor.register()?)),
+        Opcode::DefCfa => {
+            let register = cursor.register()?;
+            let offset = plain(cursor, at)?;
+            Ok(Instr::DefCfa { register, offset })
+        }
         Opcode::DefCfaSf => {
             let register = cursor.register()?;
             let offset = signed(cursor, factors, at)?;
@@ -65,9 +70,28 @@ fn read_rare<'a>(
     }
 }
 
-/// Reads the operands of one, and applies it. They are read from a copy of the cursor: what is lent to a function out of line lies
-/// in memory, and the loop's cursor would too.
+// Reads the operands of one, and applies it.
 #[tactic(auto, using(crate::proofs::Turns::in_greater_limit))]
+#[inline(never)]
+fn run_rare<'a, K: Keep<'a>>(
+    opcode: Opcode,
+    cursor: &mut Cursor<'a>,
+    factors: Factors,
+    keep: &mut K,
+    at: u64,
+    fault: &mut Refusal,
+) -> End
+    requires location { IsWithinLimit (K.machine keep.old) }
+    requires limit { address_limit cursor.old.target.size ≤ (K.machine keep.old).limit }
+    ensures { Taken K.takes (rare_at factors at opcode cursor.old) at keep.old result fault.new cursor.new keep.new }
+{
+    match read_rare(opcode, cursor, factors, at) {
+        Ok(instr) => keep.take(instr, at, fault),
+        Err(refusal) => refused(refusal, fault),
+    }
+}
+
+/// The same with a copy of the cursor: what is lent to a function out of line lies in memory, and the loop's cursor would too.
 #[inline(always)]
 pub(crate) fn apply_rare<'a, K: Keep<'a>>(
     opcode: Opcode,
@@ -82,12 +106,9 @@ pub(crate) fn apply_rare<'a, K: Keep<'a>>(
     ensures { Taken K.takes (rare_at factors at opcode cursor.old) at keep.old result fault.new cursor.new keep.new }
 {
     let mut own = copied(cursor);
-    let instr = match read_rare(opcode, &mut own, factors, at) {
-        Ok(instr) => instr,
-        Err(refusal) => return refused(refusal, fault),
-    };
+    let end = run_rare(opcode, &mut own, factors, keep, at, fault);
     *cursor = own;
-    keep.take(instr, at, fault)
+    end
 }
 
 /// Another cursor at the same place.

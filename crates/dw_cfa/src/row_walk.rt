@@ -147,10 +147,7 @@ impl<'a> RowWalk<'a> {
         if !enter(&mut self.progress, leading, fde, machine, &mut self.kept)? {
             return Ok(None);
         }
-        let mut cursor = copied(fde);
-        let next = next_row(&mut self.progress, &mut cursor, leading.factors, machine);
-        *fde = cursor;
-        match next {
+        match next_row(&mut self.progress, fde, leading.factors, machine) {
             Ok(start) => Ok(start),
             Err(error) => Err(fail(&mut self.progress, &mut self.machine, error)),
         }

@@ -5,11 +5,8 @@ ghost use Rattle.std.specs.Prelude.{◌<◌, ◌≤◌, length, false};
 ghost use Rattle.dw_num.specs.Target.{address_limit};
 ghost use Rattle.dw_cfa.specs.Inner.{ByOpcode.operands_at, FrontInstr.instr_at, Runs.RunsSo, Turns.{Does, IsWithinLimit, Stays, Taken, Turned}};
 
-use crate::common::{
-    run_def_cfa, run_def_cfa_offset, run_def_cfa_offset_sf, run_fixed_advance, run_offset,
-    run_offset_extended, run_offset_extended_sf,
-};
-use crate::instr::{Factors, Instr};
+use crate::common::{run_def_cfa_offset, run_def_cfa_offset_sf, run_fixed_advance, run_offset};
+use crate::instr::Factors;
 use crate::keep::Keep;
 use crate::machine::{End, refuse, refused};
 use crate::opcode::{Opcode, distance, known_opcode};
@@ -32,22 +29,18 @@ fn apply<'a, K: Keep<'a>>(
     ensures { Taken K.takes (operands_at factors at opcode cursor.old) at keep.old result fault.new cursor.new keep.new }
 {
     match opcode {
-        Opcode::Nop => keep.take(Instr::Nop, at, fault),
+        Opcode::Nop => keep.nop(at, fault),
         Opcode::AdvanceLoc(delta) => {
-            let distance = distance(u64::from(delta), factors);
-            keep.take(Instr::Advance(distance), at, fault)
+            keep.advance(distance(u64::from(delta), factors), at, fault)
         }
         Opcode::AdvanceLoc1 => run_fixed_advance(cursor, factors, keep, at, 1, fault),
         Opcode::AdvanceLoc2 => run_fixed_advance(cursor, factors, keep, at, 2, fault),
-        Opcode::DefCfa => run_def_cfa(cursor, keep, at, fault),
         Opcode::DefCfaOffset => run_def_cfa_offset(cursor, keep, at, fault),
         Opcode::DefCfaOffsetSf => run_def_cfa_offset_sf(cursor, factors, keep, at, fault),
         Opcode::Offset(register) => run_offset(cursor, factors, keep, at, register, fault),
-        Opcode::OffsetExtended => run_offset_extended(cursor, factors, keep, at, fault),
-        Opcode::OffsetExtendedSf => run_offset_extended_sf(cursor, factors, keep, at, fault),
-        Opcode::Restore(register) => keep.take(Instr::Restore(register), at, fault),
-        Opcode::RememberState => keep.take(Instr::RememberState, at, fault),
-        Opcode::RestoreState => keep.take(Instr::RestoreState, at, fault),
+        Opcode::Restore(register) => keep.restore(register, at, fault),
+        Opcode::RememberState => keep.remember(at, fault),
+        Opcode::RestoreState => keep.recall(at, fault),
         _ => apply_rare(opcode, cursor, factors, keep, at, fault),
     }
 }
