@@ -22,7 +22,7 @@ BUDGET = {
     "dw_cfa": (4610, 5337),
     "dw_section": (2976, 5540),
     "dw_canon": (53, 3324),
-    "dw_normal": (2444, 2755),
+    "dw_normal": (2897, 3009),
     "dw_unwind": (1658, 2304),
     "dw_words": (950, 1004),
     "dw_command": (2217, 1712),

@@ -16,6 +16,8 @@ mod Reports
 mod FaultPlaces
 mod Placed
 mod Alike
+mod CiePairs
+mod TwinRows
 mod Joined
 mod Filled
 mod Sited

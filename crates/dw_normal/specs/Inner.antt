@@ -12,3 +12,4 @@ pub mod Puts
 pub mod Places
 pub mod Listed
 pub mod Answers
+pub mod Twins

@@ -13,7 +13,7 @@ use crate::program::{push_difference, push_first, push_later};
 use byteorder::{BigEndian, ByteOrder, LittleEndian};
 use dw_cfa::Row;
 use dw_num::{Order, Size, Target, put_fixed};
-use std::alloc::AllocError;
+use std::alloc::{AllocError, Global};
 
 /// How long so many bytes are with their nops. With the width in each case there is no division.
 #[inline(always)]
@@ -66,6 +66,7 @@ fn begin_entry(out: &mut Vec<u8>, order: Order) -> Result<(), AllocError>
 
 /// Makes a buffer a CIE with an initial row, with room for its length.
 pub(crate) fn fill_cie<'a>(
+    alloc: Global,
     out: &mut Vec<u8>,
     register: u16,
     initial: &Row<'a>,
@@ -74,16 +75,16 @@ pub(crate) fn fill_cie<'a>(
     requires { AllByRecursion (InstrFits target) (cie_instrs initial.now) }
     ensures { OnOk result (out.new.items ≡ fixed_bytes target.order 4 0 ++ contents target (cie_with target (register, initial.now))) }
 {
-    let blank = Row::blank(*out.allocator());
+    let blank = Row::blank(alloc);
     begin_entry(out, target.order)?;
     push_cie_fields(out, register, target)?;
     push_difference(out, &blank, &blank, initial, &Differences::Rows, target)?;
     push_nops(out, target.size)
 }
 
-/// Writes a number of four bytes at the front of a slice.
+// Writes a number of four bytes at the front of a slice.
 #[inline(always)]
-pub(crate) fn write_four(bytes: &mut [u8], order: Order, number: u64)
+fn write_four(bytes: &mut [u8], order: Order, number: u64)
     requires room { 4 ≤ length bytes.old }
     requires fits { number < 2 ^ 32 }
     ensures { bytes.new ≡ fixed_bytes order 4 number ++ drop 4 bytes.old }
@@ -106,7 +107,35 @@ fn write_eight(bytes: &mut [u8], order: Order, number: u64)
     }
 }
 
-// Makes a buffer room for the length of an FDE, and what stands before its program.
+// Room for a length, the place of a CIE, and two addresses of four bytes.
+#[inline(always)]
+fn narrow_fields(order: Order, cie_at: u64, begin: u64, range: u64) -> [u8; 16]
+    requires cie_at { cie_at < 2 ^ 32 }
+    requires begin { begin < 2 ^ 32 }
+    requires range { range < 2 ^ 32 }
+    ensures { result ≡ fixed_bytes order 4 0 ++ (fixed_bytes order 4 cie_at ++ (fixed_bytes order 4 begin ++ fixed_bytes order 4 range)) }
+{
+    let mut fields = [0; 16];
+    write_four(&mut fields[4..], order, cie_at);
+    write_four(&mut fields[8..], order, begin);
+    write_four(&mut fields[12..], order, range);
+    fields
+}
+
+// Room for a length, the place of a CIE, and two addresses of eight bytes.
+#[inline(always)]
+fn wide_fields(order: Order, cie_at: u64, begin: u64, range: u64) -> [u8; 24]
+    requires { cie_at < 2 ^ 32 }
+    ensures { result ≡ fixed_bytes order 4 0 ++ (fixed_bytes order 4 cie_at ++ (fixed_bytes order 8 begin ++ fixed_bytes order 8 range)) }
+{
+    let mut fields = [0; 24];
+    write_four(&mut fields[4..], order, cie_at);
+    write_eight(&mut fields[8..], order, begin);
+    write_eight(&mut fields[16..], order, range);
+    fields
+}
+
+// Makes a buffer room for the length of an FDE, and what stands before its program, at once.
 #[inline(always)]
 fn begin_fde_entry(
     out: &mut Vec<u8>,
@@ -120,20 +149,10 @@ fn begin_fde_entry(
     requires range { range < address_limit target.size }
     ensures { OnOk result (out.new.items ≡ fixed_bytes target.order 4 0 ++ fde_field_bytes target cie_at begin range) }
 {
-    let mut fields = [0; 24];
-    write_four(&mut fields[4..], target.order, cie_at);
     out.clear();
     match target.size {
-        Size::Four => {
-            write_four(&mut fields[8..], target.order, begin);
-            write_four(&mut fields[12..], target.order, range);
-            out.extend_from_slice(&fields[..16])
-        }
-        Size::Eight => {
-            write_eight(&mut fields[8..], target.order, begin);
-            write_eight(&mut fields[16..], target.order, range);
-            out.extend_from_slice(&fields)
-        }
+        Size::Four => out.extend_from_slice(&narrow_fields(target.order, cie_at, begin, range)),
+        Size::Eight => out.extend_from_slice(&wide_fields(target.order, cie_at, begin, range)),
     }
 }
 
@@ -151,7 +170,7 @@ pub(crate) fn fill_fde(
     requires range { begun.old.fde.end < begun.old.fde.begin + address_limit target.size }
     ensures contents { (ms : List Member) (m : Member) → IsBegun ms m begun.old → OnOk result (out.new.items ≡ fixed_bytes target.order 4 0 ++ contents target (fde cie_at m.begin (m.end - m.begin) (fde_instrs (initial_of ms m.register) m) (program_bytes target (fde_instrs (initial_of ms m.register) m)))) }
     ensures section { begun.new.changes.section ≡ begun.old.changes.section }
-    ensures kept { (begun.new.ready ≡ begun.old.ready) × (begun.new.fde ≡ begun.old.fde) × (begun.new.shared ≡ begun.old.shared) × (begun.new.apart ≡ begun.old.apart) }
+    ensures kept { (begun.new.fde ≡ begun.old.fde) × (begun.new.shared ≡ begun.old.shared) × (begun.new.apart ≡ begun.old.apart) }
 {
     let (listed, shared) = (begun.fde, begun.shared);
     let begin = u128::from(listed.begin);

@@ -6,7 +6,7 @@ ghost use Rattle.dw_cfa.specs.Inner.Agreement.{agreed};
 ghost use Rattle.dw_section.specs.{Changes.kept_by, Opening.{CieLeaves, OpensBehind}, declared.opening.CieRow.{CieRow as TheRow}};
 ghost use Rattle.dw_canon.specs.Inner.Canon.{canon};
 ghost use Rattle.dw_normal.specs.Inner.{ChangeWalk.{BehindFirst, IsShown, ShownBehind, shown_row}, Groups.{HasJoined, joined_by, with_member, initial_rows}};
-ghost use Rattle.dw_normal.specs.Inner.{Known.{Agree, HoldsAt, Notes}, Listed.{AreInitial, IsListed, OfFde, OfMember, OfMembers}};
+ghost use Rattle.dw_normal.specs.Inner.{Known.{Agree, HoldsAt, Notes}, Listed.{IsListed, OfFde, OfMember, OfMembers}};
 
 use crate::bound::add_share;
 use crate::known::Known;
@@ -76,6 +76,20 @@ fn share_behind<'a>(
     changes.narrow_further(shared)
 }
 
+// The row of a group that begins with an FDE, whose row at its begin is shown.
+fn first_shared<'a>(changes: &mut Changes<'a>) -> Result<Row<'a>, AllocError>
+    requires shown { IsShown changes.old }
+    ensures row { (first : Rules) → changes.old.shown ≡ Some first → IfOk result (λ row. row ≡ kept_by first changes.old.to_come) }
+    ensures section { changes.new.section ≡ changes.old.section }
+{
+    let Some(first) = changes.row() else {
+        unreachable!();
+    };
+    let mut row = first.copied()?;
+    changes.narrow(&mut row)?;
+    Ok(row)
+}
+
 // Begins the group of a return address register with an FDE, whose row at its begin is shown. Apart from `add_fde`, since a row is
 // large and few FDEs begin a group.
 #[inline(never)]
@@ -88,11 +102,7 @@ fn begin_group<'a>(
     ensures rows { (first : Rules) → changes.old.shown ≡ Some first → OnOk result (rows.new.entries ≡ insert_entry nat_cmp rows.old.entries register (kept_by first changes.old.to_come)) }
     ensures section { changes.new.section ≡ changes.old.section }
 {
-    let Some(first) = changes.row() else {
-        unreachable!();
-    };
-    let mut row = first.copied()?;
-    changes.narrow(&mut row)?;
+    let row = first_shared(changes)?;
     rows.insert(register, row)?;
     Ok(())
 }
@@ -218,28 +228,19 @@ fn gather<'a>(
     Ok(total.is_some())
 }
 
-/// A checked table with the initial row of each return address register, and whether the lengths of the programs alone show that
-/// its normal form is within a cap.
-#[derive(Drop)]
-pub(crate) struct Ready<'a> {
-    pub(crate) table: Table<'a>,
-    pub(crate) rows: BTreeMap<u16, Row<'a>>,
-    pub(crate) short: bool,
-}
-
-/// Finds the initial rows of a table in one pass over its FDEs.
-pub(crate) fn make_ready<'a>(
+/// The initial row of each return address register, in one pass over the FDEs, and whether the lengths of the programs alone show
+/// that the normal form is within a cap.
+pub(crate) fn initial_rows<'a>(
     alloc: Global,
-    table: Table<'a>,
+    table: &Table<'a>,
     cap: u64,
-) -> Result<Ready<'a>, AllocError>
+) -> Result<(BTreeMap<u16, Row<'a>>, bool), AllocError>
     requires cap { cap ≤ 2147483647 }
-    ensures table { IfOk result (λ ready. ready.table ≡ table.entry) }
-    ensures rows { IfOk result (λ ready. AreInitial table.entry ready.rows.entries) }
-    ensures short { IfOk result (λ ready. IsTrue ready.short → OfMembers table.entry (λ ms. length (canon table.entry.target ms) ≤ cap)) }
+    ensures rows { OfMembers table.now (λ ms. IfOk result (λ found. found.0.entries ≡ initial_rows ms)) }
+    ensures short { OfMembers table.now (λ ms. IfOk result (λ found. IsTrue found.1 → length (canon table.now.target ms) ≤ cap)) }
 {
     let mut rows = BTreeMap::new(alloc);
     let mut known = Known::none(alloc);
-    let short = gather(&mut rows, &mut table.no_changes(), &mut known, &table, cap)?;
-    Ok(Ready { table, rows, short })
+    let short = gather(&mut rows, &mut table.no_changes(), &mut known, table, cap)?;
+    Ok((rows, short))
 }

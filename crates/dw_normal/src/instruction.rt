@@ -1,11 +1,11 @@
 //! Instructions as the normal form spells them.
 
-ghost use Rattle.std.specs.{Prelude.{◌≡◌, ◌∷◌, ◌+◌, ◌++◌, ◌<◌, ◌≤◌, neg_ℤ, unsigned_abs, if◌then◌else◌, OnOk}, Int.is_positive};
-ghost use Rattle.dw_num.specs.{Shortest.{shortest_uleb, shortest_sleb}, Target.address_limit};
+ghost use Rattle.std.specs.{Prelude.{◌≡◌, ◌∷◌, ◌++◌, ◌<◌, ◌≤◌, neg_ℤ, unsigned_abs, if◌then◌else◌, OnOk}, Int.is_positive};
+ghost use Rattle.dw_num.specs.Shortest.{shortest_uleb, shortest_sleb};
 ghost use Rattle.dw_cfa.specs.{InstrSpells.IsOffset, Rows.rule};
-ghost use Rattle.dw_cfa.specs.declared.instr.Instr.TheVariants.{DefCfa, DefCfaRegister, DefCfaOffset, DefCfaExpression};
+ghost use Rattle.dw_cfa.specs.declared.instr.Instr.TheVariants.{SetLoc, DefCfa, DefCfaRegister, DefCfaOffset, DefCfaExpression};
 ghost use Rattle.dw_section.specs.Fits.{HasBlock, RuleFits};
-ghost use Rattle.dw_canon.specs.{Difference.move, Spelling.packed};
+ghost use Rattle.dw_canon.specs.Spelling.{advance_bytes, packed};
 ghost use Rattle.dw_canon.specs.Inner.{Fits.InstrFits, Spelling.{expression_bytes, rule_bytes, instr_bytes}};
 
 use crate::opcode::{
@@ -15,7 +15,7 @@ use crate::opcode::{
     VAL_OFFSET, VAL_OFFSET_SF,
 };
 use dw_cfa::{RegRule, Row};
-use dw_num::{Target, put_fixed, put_sleb, put_uleb};
+use dw_num::{Order, Target, put_fixed, put_sleb, put_uleb};
 use dw_op::ExprRef;
 use std::alloc::AllocError;
 
@@ -82,15 +82,12 @@ pub(crate) fn push_packed(
     push_uleb(out, u64::from(register))
 }
 
-// Appends what moves the location far. Apart from `push_move`, whose advances are mostly short.
+// Apart from `push_advance`, whose advances are mostly short.
 #[inline(never)]
-#[tactic(auto, unfolding(dw_canon::specs::Spelling::instr_bytes))]
-fn push_far_move(out: &mut Vec<u8>, from: u128, to: u128, target: Target) -> Result<(), AllocError>
-    requires far { from + 64 ≤ to }
-    requires in_space { to < address_limit target.size }
-    ensures { OnOk result (out.new.items ≡ out.old.items ++ instr_bytes target (move from to)) }
+fn push_long_advance(out: &mut Vec<u8>, order: Order, delta: u32) -> Result<(), AllocError>
+    requires { 64 ≤ delta }
+    ensures { OnOk result (out.new.items ≡ out.old.items ++ advance_bytes order delta) }
 {
-    let delta = to - from;
     if delta < 256 {
         out.reserve(2)?;
         out.push_reserved(ADVANCE_LOC1);
@@ -99,35 +96,42 @@ fn push_far_move(out: &mut Vec<u8>, from: u128, to: u128, target: Target) -> Res
     }
     if delta < 65536 {
         out.push(ADVANCE_LOC2)?;
-        return put_fixed(out, target.order, 2, delta as u64);
+        return put_fixed(out, order, 2, u64::from(delta));
     }
-    if delta < 4294967296 {
-        out.push(ADVANCE_LOC4)?;
-        return put_fixed(out, target.order, 4, delta as u64);
-    }
-    out.push(SET_LOC)?;
-    let width = usize::from(target.size.byte_count());
-    put_fixed(out, target.order, width, to as u64)
+    out.push(ADVANCE_LOC4)?;
+    put_fixed(out, order, 4, u64::from(delta))
 }
 
-/// Appends what moves the location, mostly by a few bytes.
+/// Appends the shortest advance.
 #[inline(always)]
-#[tactic(auto, unfolding(dw_canon::specs::Spelling::instr_bytes))]
-pub(crate) fn push_move(
-    out: &mut Vec<u8>,
-    from: u128,
-    to: u128,
-    target: Target,
-) -> Result<(), AllocError>
-    requires rises { from < to }
-    requires in_space { to < address_limit target.size }
-    ensures { OnOk result (out.new.items ≡ out.old.items ++ instr_bytes target (move from to)) }
+pub(crate) fn push_advance(out: &mut Vec<u8>, order: Order, delta: u32) -> Result<(), AllocError>
+    ensures { OnOk result (out.new.items ≡ out.old.items ++ advance_bytes order delta) }
 {
-    if to - from < 64 {
-        out.push(ADVANCE_LOC + (to - from) as u8)?;
+    if delta < 64 {
+        out.push(ADVANCE_LOC + delta as u8)?;
         return Ok(());
     }
-    push_far_move(out, from, to, target)
+    push_long_advance(out, order, delta)
+}
+
+/// Appends what moves the location to an address.
+#[inline(never)]
+#[tactic(auto, unfolding(dw_canon::specs::Spelling::instr_bytes))]
+pub(crate) fn push_set_loc(
+    out: &mut Vec<u8>,
+    address: u64,
+    target: Target,
+) -> Result<(), AllocError>
+    requires { InstrFits target (SetLoc address) }
+    ensures { OnOk result (out.new.items ≡ out.old.items ++ instr_bytes target (SetLoc address)) }
+{
+    out.push(SET_LOC)?;
+    put_fixed(
+        out,
+        target.order,
+        usize::from(target.size.byte_count()),
+        address,
+    )
 }
 
 // Appends an expression behind its length.

@@ -1,9 +1,11 @@
 //! Programs of the normal form, appended.
 
-ghost use Rattle.std.specs.{Prelude.{◌≡◌, ◌++◌, OnOk}, List.AllByRecursion};
+ghost use Rattle.std.specs.{Prelude.{◌≡◌, ◌++◌, ◌<◌, OnOk}, List.AllByRecursion};
+ghost use Rattle.dw_num.specs.Target.{address_limit};
 ghost use Rattle.dw_cfa.specs.Rows.{rule};
 ghost use Rattle.dw_cfa.specs.Inner.Agreement.{same_cfa, same_rule};
 ghost use Rattle.dw_section.specs.Fits.{RuleFits};
+ghost use Rattle.dw_canon.specs.Difference.{move};
 ghost use Rattle.dw_canon.specs.Inner.{Difference.{difference, cfa_difference, rule_to}, Fits.InstrFits, Spelling.{instr_bytes, program_bytes, rule_bytes}};
 ghost use Rattle.dw_normal.specs.Inner.{Apart.StandsApart, ChangeWalk.{HasBefore, IsShown, Stand, later_bytes, row_or_blank, shown_row}};
 ghost use Rattle.dw_normal.specs.Inner.{Differences.Tells, RegisterWalk.rules_from};
@@ -11,8 +13,8 @@ ghost use Rattle.dw_normal.specs.Inner.{Differences.Tells, RegisterWalk.rules_fr
 use crate::apart::Apart;
 use crate::differences::Differences;
 use crate::instruction::{
-    push_cfa_expression, push_cfa_offset, push_cfa_register, push_def_cfa, push_move, push_offset,
-    push_packed, push_rule,
+    push_advance, push_cfa_expression, push_cfa_offset, push_cfa_register, push_def_cfa,
+    push_offset, push_packed, push_rule, push_set_loc,
 };
 use crate::opcode::{RESTORE, RESTORE_EXTENDED};
 use dw_cfa::{CfaRule, Row};
@@ -182,6 +184,39 @@ pub(crate) fn push_difference<'a>(
 {
     push_cfa(out, before, after, target)?;
     push_rules(out, shared, before, after, differences, target)
+}
+
+// Appends what moves the location far.
+#[inline(never)]
+#[tactic(auto, unfolding(dw_canon::specs::Spelling::instr_bytes))]
+fn push_far_move(out: &mut Vec<u8>, from: u128, to: u128, target: Target) -> Result<(), AllocError>
+    requires rises { from < to }
+    requires in_space { to < address_limit target.size }
+    ensures { OnOk result (out.new.items ≡ out.old.items ++ instr_bytes target (move from to)) }
+{
+    if to - from < 4294967296 {
+        return push_advance(out, target.order, (to - from) as u32);
+    }
+    push_set_loc(out, to as u64, target)
+}
+
+/// Appends what moves the location, mostly by a few bytes.
+#[inline(always)]
+#[tactic(auto, unfolding(dw_canon::specs::Spelling::instr_bytes))]
+pub(crate) fn push_move(
+    out: &mut Vec<u8>,
+    from: u128,
+    to: u128,
+    target: Target,
+) -> Result<(), AllocError>
+    requires rises { from < to }
+    requires in_space { to < address_limit target.size }
+    ensures { OnOk result (out.new.items ≡ out.old.items ++ instr_bytes target (move from to)) }
+{
+    if to - from < 64 {
+        return push_advance(out, target.order, (to - from) as u32);
+    }
+    push_far_move(out, from, to, target)
 }
 
 /// Appends what leads from an initial row to the one that is shown. Out of line: the loop over an FDE's changes is slower beside it.
