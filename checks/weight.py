@@ -17,17 +17,17 @@ import sys
 # Lines of sources, and of proofs.
 BUDGET = {
     "dw_num": (950, 1187),
-    "dw_op": (2102, 3969),
-    "dw_eval": (1519, 1117),
-    "dw_cfa": (4610, 5337),
-    "dw_section": (2976, 5540),
+    "dw_op": (2028, 3861),
+    "dw_eval": (1392, 1065),
+    "dw_cfa": (4655, 5346),
+    "dw_section": (2622, 5399),
     "dw_canon": (53, 3324),
     "dw_normal": (2897, 3009),
-    "dw_unwind": (1658, 2304),
+    "dw_unwind": (1621, 2291),
     "dw_words": (950, 1004),
-    "dw_command": (2217, 1712),
+    "dw_command": (2209, 1630),
     "dwframe": (277, 0),
-    "dw_library": (1920, 800),
+    "dw_library": (1918, 769),
 }
 COLUMNS = ["sources", "functions", "public", "specs", "inner", "proofs", "longest"]
 FUNCTION = re.compile(r'^\s*(pub(?:\([a-z]+\))? )?(?:extern "C" )?fn ', re.M)
