@@ -11,7 +11,7 @@ use crate::keep::{Keep, cfa_behind};
 use crate::machine::{End, refuse};
 use crate::near_slots::is_in;
 use crate::row::Row;
-use crate::rule::RegRule;
+use crate::rule::{CfaRule, RegRule};
 use dw_num::{Code, Refusal, Size};
 use std::alloc::Global;
 use std::snapshot::Snapshot;
@@ -108,26 +108,9 @@ impl<'a> Keep<'a> for LookUp<'a> {
                 self.location = address;
                 End::Moved
             }
-            Instr::Advance(distance) => {
-                let Some(next) = next_location(self.location, distance, self.size) else {
-                    return End::OutOfMemory;
-                };
-                self.location = next;
-                End::Moved
-            }
-            Instr::Set(register, rule) => match self.row.set(register, rule) {
-                Ok(()) => End::On,
-                Err(_) => End::OutOfMemory,
-            },
-            Instr::Restore(register) => {
-                if register >= NEAR || is_in(self.specified, register) {
-                    return End::OutOfMemory;
-                }
-                match self.row.set(register, RegRule::Unspecified) {
-                    Ok(()) => End::On,
-                    Err(_) => End::OutOfMemory,
-                }
-            }
+            Instr::Advance(distance) => self.advance(distance, at, fault),
+            Instr::Set(register, rule) => self.set(register, rule, at, fault),
+            Instr::Restore(register) => self.restore(register, at, fault),
             Instr::RememberState => self.remember(at, fault),
             Instr::RestoreState => self.recall(at, fault),
             definition => match cfa_behind(definition, self.row.cfa_rule()) {
@@ -141,28 +124,46 @@ impl<'a> Keep<'a> for LookUp<'a> {
     }
 
     #[inline(always)]
-    fn nop(&mut self, at: u64, fault: &mut Refusal) -> End {
-        self.take(Instr::Nop, at, fault)
+    fn nop(&mut self, _at: u64, _fault: &mut Refusal) -> End {
+        End::On
     }
 
     #[inline(always)]
-    fn advance(&mut self, distance: u128, at: u64, fault: &mut Refusal) -> End {
-        self.take(Instr::Advance(distance), at, fault)
+    fn advance(&mut self, distance: u128, _at: u64, _fault: &mut Refusal) -> End {
+        let Some(next) = next_location(self.location, distance, self.size) else {
+            return End::OutOfMemory;
+        };
+        self.location = next;
+        End::Moved
     }
 
     #[inline(always)]
     fn def_cfa_offset(&mut self, offset: i64, at: u64, fault: &mut Refusal) -> End {
-        self.take(Instr::DefCfaOffset(offset), at, fault)
+        let CfaRule::Register { register, .. } = self.row.cfa_rule() else {
+            return refuse(Code::CfaNotRegister, at, fault);
+        };
+        let register = *register;
+        self.row.set_cfa(CfaRule::Register { register, offset });
+        End::On
     }
 
     #[inline(always)]
-    fn set(&mut self, register: u16, rule: RegRule<'a>, at: u64, fault: &mut Refusal) -> End {
-        self.take(Instr::Set(register, rule), at, fault)
+    fn set(&mut self, register: u16, rule: RegRule<'a>, _at: u64, _fault: &mut Refusal) -> End {
+        match self.row.set(register, rule) {
+            Ok(()) => End::On,
+            Err(_) => End::OutOfMemory,
+        }
     }
 
     #[inline(always)]
-    fn restore(&mut self, register: u16, at: u64, fault: &mut Refusal) -> End {
-        self.take(Instr::Restore(register), at, fault)
+    fn restore(&mut self, register: u16, _at: u64, _fault: &mut Refusal) -> End {
+        if register >= NEAR || is_in(self.specified, register) {
+            return End::OutOfMemory;
+        }
+        match self.row.set(register, RegRule::Unspecified) {
+            Ok(()) => End::On,
+            Err(_) => End::OutOfMemory,
+        }
     }
 
     // A row with registers in a tree is not copied: thousands of states could be remembered of one with thousands of registers.
