@@ -12,5 +12,5 @@ pub returns : goal.returns
 returns g c = record {
   put = λ fs are.
       let found = rw c.in-Some.is at (c.in_ok-fde.ensures.found fs are) in
-      ((c.args.address, Some (c.in-Some.fde, c.row.result.now)), (refl, found.0, found.1, rw c.row.ensures found.2), c.put_found.ensures)
+      ((c.args.address, Some (c.in-Some.fde, c.row.result.now)), (refl, found.0, found.1, rw c.row.ensures found.2), c.put_found.ensures);
 }
