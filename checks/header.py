@@ -41,7 +41,8 @@ NUMBERED = [
     ("crates/dw_eval/src/error.rt", r"Kind::(?P<name>\w+)(?: \{ \.\. \})? => (?P<number>\d+),", "FAULT_", {}),
     ("crates/dw_library/src/index.rt", r"RegRule::(?P<name>\w+)(?:\(\w+\))? => told_rule\(number, (?P<number>\d+),", "RULE_", {}),
     ("crates/dw_library/src/index.rt", r"CfaRule::(?P<name>\w+)(?: \{[^}]*\}|\(_\))? => \((?P<number>\d+),", "CFA_", {}),
-    ("crates/dw_library/src/answer.rt", r"(?P<number>\d+) => Some\(Target \{ size, order: Order::(?P<name>\w+),", "", {}),
+    ("crates/dw_library/src/answer.rt", r"(?P<number>\d+) => Order::(?P<name>\w+),", "", {}),
+    ("crates/dw_library/src/names.rt", r"(?P<number>\d+) => Status::(?P<name>\w+),", "", {}),
     ("crates/dw_library/src/caller.rt", r"(?P<number>\d+) => Some\(Policy::(?P<name>\w+)\)", "UNSET_", {"SameValue": "Unchanged"}),
 ]
 # Bytes of a struct that have no name: the entries of an index are those of a table.

@@ -31,17 +31,17 @@ fn walked<'a>(alloc: Global, pair: Pair<'a>, walk: &mut RowWalk<'a>) -> Result<S
     Ok(format!(in alloc; "{row} {}", walk.is_kept())?)
 }
 
-// Whether a walk keeps the CIE's row before its first one, that row, the row of an address, and where that ends.
-fn walked_to<'a>(
+// Whether a walk keeps the CIE's row before its first one, that row, the second row, and where that ends.
+fn walked_on<'a>(
     alloc: Global,
     pair: Pair<'a>,
     walk: &mut RowWalk<'a>,
-    address: u64,
 ) -> Result<String, Fail> {
     go_to(walk, pair);
     let is_kept = walk.keep_initial()?;
     let initial = row_text(alloc, walk.kept())?;
-    walk.advance_to(address)?;
+    let _ = walk.advance()?;
+    let _ = walk.advance()?;
     let row = row_text(alloc, walk.row())?;
     Ok(format!(in alloc; "{is_kept} {initial}; {row} to {:?}", walk.next_start())?)
 }
@@ -50,7 +50,7 @@ fn walked_to<'a>(
 fn walked_twice(alloc: Global, pair: Pair<'_>) -> Result<String, Fail> {
     let mut walk = RowWalk::new(alloc, pair.target);
     let first = walked(alloc, pair, &mut walk)?;
-    let second = walked_to(alloc, pair, &mut walk, 0x1005)?;
+    let second = walked_on(alloc, pair, &mut walk)?;
     Ok(format!(in alloc; "{first}; {second}")?)
 }
 

@@ -4,7 +4,7 @@ use Rattle.dw_cfa.specs.Inner.RowWalk.{GoesOn}
 use Rattle.dw_cfa.specs.declared.next_row.Progress.TheVariants as progress
 use Rattle.dw_cfa.proofs.Words.{◌≡◌, ◌⊎◌, ℕ, Bool, true, false, Option, Some, None, Ok, Result, Err, refl, sym, ap, subst, ◌∙◌, inl, inr, ◌↔◌, IsTrue, MatchOption, AreBytes}
 use Rattle.dw_cfa.proofs.Words.{Factors, Input, Leading, Machine, Outcome, Progress, ReadError, Refuses, Rules, Stepping, Target, ProgramSpells, blank, fails, finished, RunsSo, initial_row, placed}
-use Rattle.dw_cfa.proofs.Words.{rows_left, program_input, kept, StandsOn, AllSpecify, AreLeft, HasInitial, RanUpTo, WalksSo, initial_of, led_of, led_row, led_rows, walk_of}
+use Rattle.dw_cfa.proofs.Words.{rows_left, program_input, kept, StandsOn, AllSpecify, AreLeft, HasInitial, WalksSo, initial_of, led_of, led_row, led_rows, walk_of}
 use Rattle.dw_cfa.proofs.{Lent.FaultLaws.initial_leaves, Lent.Given.{leaves_to, refusal_weaker, to_leaves}, Lent.RowsAt.RowsFrom, Lent.RunLaws.{left_from, run_from}, RunSteps.run_stuck}
 
 -- ---- the CIE's half
@@ -56,16 +56,6 @@ row_left l m m' bytes is same = subst (λ (r : Rules). AreLeft l (Some r)) (sym 
 -- it is kept
 pub left_kept : (l : Leading) (m : Machine) (kept : Rules) → AreBytes l.program.bytes.now → HasInitial l m → m.states.row ≡ m.initial → kept ≡ m.states.row → AreLeft l (Some kept)
 left_kept l m kept bytes is row same = subst (λ (r : Rules). AreLeft l (Some r)) (sym (same ∙ row)) (row_left l m m bytes is refl)
-
--- a walk that ran on stands as before
-pub runs_on : (a : ℕ) (p : Progress) (kept more : Bool) (l : Leading) (fde j : Input) (m m' : Machine) → p ≡ progress.Running → WalksSo p kept l fde m → RanUpTo a (rows_left l.factors fde m) l.factors j m' more → m'.initial ≡ m.initial → WalksSo progress.Running kept l j m'
-runs_on a progress.Running kept more l fde j m m' is so ran same = record {
-  stands = ran.so;
-  initial = λ t. so.initial t ∙ ap Ok (sym same);
-  keeps = subst (λ (r : Rules). AllSpecify r (rows_left l.factors j m').rows) (sym same) (ran.keeps m.initial so.keeps);
-  left = subst (λ (r : Rules). AreLeft l (Some r)) (sym same) so.left;
-}
-runs_on a p kept more l fde j m m' is so ran same = absurd cc
 
 -- behind the end of a row
 pub goes_on_stands : (l : Leading) (fde : Input) (m : Machine) (p : Progress) (old : Outcome) (start : Option ℕ) → GoesOn old l.factors fde m p (Ok start) → AreLeft l (Some m.initial) → StandsOn (led_of l) (walk_of p l fde m).outcome (initial_of p m.initial)

@@ -12,9 +12,9 @@ pub use Rattle.dw_num.specs.{Fixed.{Address, Fixed, IsWidth}, Front.{Read, addre
 pub use Rattle.dw_num.specs.{Leb.{Sleb, Uleb}, Refusals.Refuses, Target.{address_limit, byte_count}, declared.error.ReadError.ReadError, declared.error.ReadError.TheVariants.{OutOfMemory, Refused}}
 pub use Rattle.dw_num.specs.declared.refusal.{Code.Code, Code.TheVariants.{CfaNotRegister, LocationBackwards, LocationTooLarge, NotInCie, OffsetTooLarge, StateStackFull}, Refusal.Refusal}
 pub use Rattle.dw_num.specs.declared.target.{Size.Size, Size.TheVariants.{Eight, Four}, Target.Target}
-pub use Rattle.dw_num.proofs.Lent.{FixedLaws.{address_found, byte_found, fixed_at_again, fixed_found, taken_bytes}, LebLaws.{done, ok_is, register_again, register_found, uleb_again, uleb_found}, ShortNumbers.{one_byte_spells, taken_is}}
+pub use Rattle.dw_num.proofs.Lent.{FixedLaws.{address_found, byte_found, fixed_at_again, fixed_found, taken_bytes}, LebLaws.{done, ok_is, register_again, register_found, uleb_again, uleb_found}}
 pub use Rattle.dw_num.proofs.Lent.{SlebLaws.{sleb_again, sleb_found}, Stays.{Inside, Stays, address_stays, fixed_stays, register_stays, sleb_stays, stays-then, stays_in, take_stays, uleb_stays}}
-pub use Rattle.dw_num.proofs.Lent.Steps.{Again, Takes-then, address_again, again-then, bind_ok, byte_again, take_again, take_found}
+pub use Rattle.dw_num.proofs.Lent.Steps.{Again, Takes-then, address_again, again-then, bind_ok, byte_again, taken_is, take_again, take_found}
 pub use Rattle.dw_op.specs.{Expression.Expression, Faults.BlockFault, Operands.{in_range, look_up}, declared.op.Op.Op, declared.profile.Profile.TheVariants.Frame}
 unfoldable pub use Rattle.dw_op.specs.Inner.Walks.{walked_by}
 pub use Rattle.dw_op.specs.Inner.{Walk.{block_input, decode_at}, Walks.{ended, on_left}}
@@ -28,7 +28,7 @@ pub use Rattle.dw_cfa.specs.{Kept.{CieKept, FdeKept, IsRegisterRule, in_cie, is_
 pub use Rattle.dw_cfa.specs.{Location.{Counts, StaysAt, back_from, location, location_back, moves_location, onto}, Opening.{cfa_with, first_row, moves_first, row_with}, Operands.{InstrForm, Operand, OperandValue, address, advanced}}
 pub use Rattle.dw_cfa.specs.{Operands.{expression, fixed, none, offset_of, one, register, signed, two, unsigned}, RegisterSets.{AgreesBeside, Registers, has}, RowLaws.{BehindWhereFault, FirstRowIsBegin, GivesWhereKept, LastHolds}}
 pub use Rattle.dw_cfa.specs.{RowLaws.{LeavesWhereKept, NoneFalls, OneBehind, OneCount, OneHolds, OneInitial, OneRun, RefusedWhereFault, RowsWhereKept}, RowSteps.{Stepping, program_input, stepping}, RowWalk.{AllKeep, StandsOn, Walking}}
-pub use Rattle.dw_cfa.specs.{Rows.{AreSpecified, Rules, blank, is_specified, rule, rule_in}, RuleAt.{NeverFalls, last_at, left_above, or_here, rows_above}, RulesBehind.RulesBehind, Runs.{Outcome, fails, finished, row_then}}
+pub use Rattle.dw_cfa.specs.{Rows.{AreSpecified, Rules, blank, is_specified, rule, rule_in}, RuleAt.{NeverFalls, last_at, or_here}, RulesBehind.RulesBehind, Runs.{Outcome, fails, finished, row_then}}
 pub use Rattle.dw_cfa.specs.declared.{entries.Entries.Entries, execution.LocatedRow.LocatedRow, instr.Factors.Factors, instr.Instr.Instr, instr.Instr.TheVariants.{Advance, DefCfa, DefCfaExpression, DefCfaOffset, DefCfaRegister, Nop}}
 pub use Rattle.dw_cfa.specs.declared.{instr.Instr.TheVariants.{RememberState, Restore, RestoreState, Set, SetLoc}, machine.Machine.Machine, opcode.Opcode.Opcode, opening.FirstRow.TheVariants.{CfaOffset, Initial, Other}}
 pub use Rattle.dw_cfa.specs.declared.{lead.Leading.Leading, rule.CfaRule.CfaRule, rule.CfaRule.TheVariants.Unset, rule.RegRule.RegRule, rule.RegRule.TheVariants.{SameValue, Unspecified}, slot.Slot.Slot, next_row.Progress.Progress}
@@ -36,7 +36,7 @@ pub use Rattle.dw_cfa.specs.Inner.{Agreement.{agreed, is_agreed, same_cfa, same_
 pub use Rattle.dw_cfa.specs.Inner.{Entries.{LeavesAt, LeavesBelow, SameOutside, SameSlots, entries_of, far_behind, left, listed_near, near_rule, no_slot, rule_if, slot_rule}, Exact.{BehindGives, GivesRows, InitialLeaves, LeavesInitial}}
 pub use Rattle.dw_cfa.specs.Inner.{FrontInstr.{after_code, after_length, block_in, expression_of, form_at, judged, known_at, leaving, operand_at, then_operand, with_instr}, LookUp.look_up_at, Machine.{State, after, begun, changed}}
 pub use Rattle.dw_cfa.specs.Inner.{Machine.{cie_fault, empty_fault, fde_fault, half_fault, moved, popped, program_fault, written}, Among.{CopiedUpTo, SameUnlisted, in_mask, in_tree}, Kept.KeptSo}
-pub use Rattle.dw_cfa.specs.Inner.{Opening.{GivesOffset, answers_move, answers_row}, Operands.{form_of, opcode_table}, RowEquality.{cfa_tells, rows_tell, rule_tells, same_rows}}
-pub use Rattle.dw_cfa.specs.Inner.{RowSteps.gives, RowWalk.{AllSpecify, AreLeft, HasInitial, IsLed, RanUpTo, WalkKeeps, WalksSo, initial_of, led_of, led_row, led_rows, walk_of}}
+pub use Rattle.dw_cfa.specs.Inner.{Opening.{answers_move, answers_row}, Operands.{form_of, opcode_table}, RowEquality.{cfa_tells, rows_tell, rule_tells, same_rows}}
+pub use Rattle.dw_cfa.specs.Inner.{RowSteps.gives, RowWalk.{AllSpecify, AreLeft, HasInitial, IsLed, WalkKeeps, WalksSo, initial_of, led_of, led_row, led_rows, walk_of}}
 pub use Rattle.dw_cfa.specs.Inner.{Rows.{listed, put, with_cfa, with_rule}, RuleAt.{CountsFrom, FoundAt}, Runs.{Placed, Placing, RanTo, RunsSo, WroteTo, at_end, fault_or, here, initial_row, on_initial, place_of}}
 pub use Rattle.dw_cfa.specs.Inner.{Runs.{refused_at, row_if, stop_on, stop_or}, States.{BeganWith, Held, Restored, StatesSo, TakenBack, first_if, held, remembering, saved_if, shown, stacked, with_row}, Steps.{InLimit, IsAfter, state_of}}

@@ -1,6 +1,6 @@
 -- The row of an address among the rows of a run: DWARF 5, 6.4.3.
-use Rattle.std.specs.{Prelude.{ℕ, ◌≤◌, List, [], ◌∷◌, Option, Some, None, nat_le, nat_lt, if◌then◌else◌}, List.filter}
-use Rattle.dw_cfa.specs.{Rows.Rules, Runs.Outcome, declared.execution.LocatedRow.LocatedRow}
+use Rattle.std.specs.{Prelude.{ℕ, ◌≤◌, List, [], ◌∷◌, Option, Some, None, nat_le, if◌then◌else◌}}
+use Rattle.dw_cfa.specs.{Rows.Rules, declared.execution.LocatedRow.LocatedRow}
 
 abbrev pub or_here : ℕ → LocatedRow → Option Rules → Option Rules
 or_here a first (Some row) = Some row
@@ -10,14 +10,6 @@ or_here a first None = if nat_le first.location a then Some first.row else None
 abbrev pub last_at : ℕ → List LocatedRow → Option Rules
 last_at a [] = None
 last_at a (first ∷ rows) = or_here a first (last_at a rows)
-
--- those that start above a
-abbrev pub rows_above : ℕ → List LocatedRow → List LocatedRow
-rows_above a rows = filter (λ (row : LocatedRow). nat_lt a row.location) rows
-
--- what is left of a walk behind the row of a
-abbrev pub left_above : ℕ → Outcome → Outcome
-left_above a o = record { rows = rows_above a o.rows; fault = o.fault }
 
 -- locations that never fall, from `low` on
 abbrev pub NeverFalls : ℕ → List LocatedRow → Type 0

@@ -1,7 +1,7 @@
 //! Instructions that most programs have. They are applied in line while their operands are read.
 
 ghost use Rattle.dw_num.specs.{Fixed.IsWidth};
-ghost use Rattle.dw_cfa.specs.Inner.{ByOpcode.{advance_at, def_cfa_offset_at, def_cfa_offset_sf_at, offset_at}, Turns.{IsWithinLimit, Taken}};
+ghost use Rattle.dw_cfa.specs.Inner.{ByOpcode.{advance_at, def_cfa_at, def_cfa_offset_at, def_cfa_offset_sf_at, offset_at}, Turns.{IsWithinLimit, Taken}};
 
 use crate::instr::Factors;
 use crate::keep::Keep;
@@ -69,6 +69,29 @@ pub(crate) fn run_def_cfa_offset_sf<'a, K: Keep<'a>>(
         Err(refusal) => return refused(refusal, fault),
     };
     keep.def_cfa_offset(offset, at, fault)
+}
+
+/// The CFA is a register plus an offset.
+#[tactic(auto, unfolding(crate::specs::Inner::ByOpcode::def_cfa_at))]
+#[inline(always)]
+pub(crate) fn run_def_cfa<'a, K: Keep<'a>>(
+    cursor: &mut Cursor<'a>,
+    keep: &mut K,
+    at: u64,
+    fault: &mut Refusal,
+) -> End
+    requires { IsWithinLimit (K.machine keep.old) }
+    ensures { Taken K.takes (def_cfa_at at cursor.old) at keep.old result fault.new cursor.new keep.new }
+{
+    let register = match cursor.register() {
+        Ok(register) => register,
+        Err(refusal) => return refused(refusal, fault),
+    };
+    let offset = match plain(cursor, at) {
+        Ok(offset) => offset,
+        Err(refusal) => return refused(refusal, fault),
+    };
+    keep.def_cfa(register, offset, at, fault)
 }
 
 /// A register is saved at the CFA plus an offset, which is factored.

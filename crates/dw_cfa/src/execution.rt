@@ -1,8 +1,8 @@
 //! Programs that are run instruction by instruction (6.4.3).
 
-ghost use Rattle.std.specs.Prelude.{◌≡◌, ◌≤◌, Some, OnOk, IfErr, IfOk, false};
+ghost use Rattle.std.specs.Prelude.{◌≡◌, ◌≤◌, Some, OnOk, IfErr, false};
 ghost use Rattle.dw_num.specs.Refusals.{Refuses};
-ghost use Rattle.dw_cfa.specs.Inner.{RowWalk.RanUpTo, Runs.{RunsSo, StopsAbove, rows_left, stop_left}, Turns.{Does, Stays}};
+ghost use Rattle.dw_cfa.specs.{RuleAt.last_at, Inner.{Runs.{RunsSo, StopsAbove, rows_left, stop_left}, Turns.{Does, Stays}}};
 
 use crate::instr::Factors;
 use crate::keep::Keep;
@@ -21,8 +21,7 @@ pub struct LocatedRow<'a> {
     pub row: Row<'a>,
 }
 
-/// Runs a program up to the end of the last row that starts at or below an address, which the machine has then. Answers
-/// whether the program goes on behind it.
+/// Runs a program up to the end of the last row that starts at or below an address, which the machine has then.
 #[tactic(auto, using(crate::proofs::RowsTo::ends_above, crate::proofs::RunSteps::rows_end, crate::proofs::StopsTo::not_below))]
 #[inline(always)]
 pub(crate) fn run_to<'a, K: Keep<'a>>(
@@ -30,11 +29,11 @@ pub(crate) fn run_to<'a, K: Keep<'a>>(
     factors: Factors,
     keep: &mut K,
     address: u64,
-) -> Result<bool, ReadError>
+) -> Result<(), ReadError>
     requires fde { Does false K.machine K.takes }
     requires so { RunsSo (K.machine keep.old) cursor.old }
     requires start { (K.machine keep.old).location ≤ address }
-    ensures ran { IfOk result (RanUpTo address (rows_left factors cursor.old (K.machine keep.old)) factors cursor.new (K.machine keep.new)) }
+    ensures ran { OnOk result (last_at address (rows_left factors cursor.old (K.machine keep.old)).rows ≡ Some (K.machine keep.new).states.row) }
     ensures none { OnOk result (StopsAbove (rows_left factors cursor.old (K.machine keep.old)).fault (stop_left factors cursor.old (K.machine keep.old)) address) }
     ensures err { IfErr result (Refuses (λ r. ((rows_left factors cursor.old (K.machine keep.old)).fault ≡ Some r) × (stop_left factors cursor.old (K.machine keep.old) ≤ address))) }
     ensures same { Stays (K.machine keep.old) (K.machine keep.new) }
@@ -46,12 +45,12 @@ pub(crate) fn run_to<'a, K: Keep<'a>>(
             End::On => {}
             End::Moved => {
                 if keep.is_above(address) {
-                    return Ok(true);
+                    return Ok(());
                 }
             }
             End::Refused => return Err(ReadError::Refused(refusal)),
             End::OutOfMemory => return Err(ReadError::OutOfMemory),
         }
     }
-    Ok(false)
+    Ok(())
 }

@@ -41,6 +41,11 @@ impl<'a> Keep<'a> for Noted<'a> {
     }
 
     #[inline(always)]
+    fn def_cfa(&mut self, register: u16, offset: i64, at: u64, fault: &mut Refusal) -> End {
+        self.take(Instr::DefCfa { register, offset }, at, fault)
+    }
+
+    #[inline(always)]
     fn def_cfa_offset(&mut self, offset: i64, at: u64, fault: &mut Refusal) -> End {
         self.take(Instr::DefCfaOffset(offset), at, fault)
     }

@@ -2,7 +2,7 @@
 
 ghost use Rattle.std.specs.Prelude.{◌≡◌, ℕ, ◌≤◌, MatchOption, None, Some, false, nat_lt, true};
 ghost use Rattle.dw_num.specs.declared.refusal.{Code.TheVariants.CfaNotRegister, Refusal.{Refusal}};
-ghost use Rattle.dw_cfa.specs.{Column.cfa_change, declared.instr.{Instr.Instr, Instr.TheVariants.{Advance, DefCfaOffset, Nop, RememberState, Restore, RestoreState, Set, SetLoc}}, declared.machine.End.End};
+ghost use Rattle.dw_cfa.specs.{Column.cfa_change, declared.instr.{Instr.Instr, Instr.TheVariants.{Advance, DefCfa, DefCfaOffset, Nop, RememberState, Restore, RestoreState, Set, SetLoc}}, declared.machine.End.End};
 ghost use Rattle.dw_cfa.specs.{declared.machine.Machine.Machine, Inner.Machine.half_fault, Inner.Steps.InLimit, Inner.Turns.{Did, IsWithinLimit, cie_machine}};
 
 use crate::instr::Instr;
@@ -36,6 +36,11 @@ pub(crate) trait Keep<'a> {
     fn advance(&mut self, distance: u128, at: u64, fault: &mut Refusal) -> End
         requires { IsWithinLimit (machine self.old) }
         ensures { takes self.old (Advance distance) at result fault.new self.new };
+
+    /// Takes one by which the CFA is a register plus an offset.
+    fn def_cfa(&mut self, register: u16, offset: i64, at: u64, fault: &mut Refusal) -> End
+        requires { IsWithinLimit (machine self.old) }
+        ensures { takes self.old (DefCfa register offset) at result fault.new self.new };
 
     /// Takes one by which the CFA is the same register plus another offset.
     fn def_cfa_offset(&mut self, offset: i64, at: u64, fault: &mut Refusal) -> End
@@ -149,6 +154,12 @@ impl<'a> Keep<'a> for Machine<'a> {
     }
 
     #[inline(always)]
+    fn def_cfa(&mut self, register: u16, offset: i64, _at: u64, _fault: &mut Refusal) -> End {
+        self.states.set_cfa(CfaRule::Register { register, offset });
+        End::On
+    }
+
+    #[inline(always)]
     fn def_cfa_offset(&mut self, offset: i64, at: u64, fault: &mut Refusal) -> End {
         let CfaRule::Register { register, .. } = self.states.row().cfa_rule() else {
             return refuse(Code::CfaNotRegister, at, fault);
@@ -237,6 +248,11 @@ impl<'a> Keep<'a> for Row<'a> {
     #[inline(always)]
     fn advance(&mut self, distance: u128, at: u64, fault: &mut Refusal) -> End {
         self.take(Instr::Advance(distance), at, fault)
+    }
+
+    #[inline(always)]
+    fn def_cfa(&mut self, register: u16, offset: i64, at: u64, fault: &mut Refusal) -> End {
+        self.take(Instr::DefCfa { register, offset }, at, fault)
     }
 
     #[inline(always)]

@@ -138,6 +138,12 @@ impl<'a> Keep<'a> for LookUp<'a> {
     }
 
     #[inline(always)]
+    fn def_cfa(&mut self, register: u16, offset: i64, _at: u64, _fault: &mut Refusal) -> End {
+        self.row.set_cfa(CfaRule::Register { register, offset });
+        End::On
+    }
+
+    #[inline(always)]
     fn def_cfa_offset(&mut self, offset: i64, at: u64, fault: &mut Refusal) -> End {
         let CfaRule::Register { register, .. } = self.row.cfa_rule() else {
             return refuse(Code::CfaNotRegister, at, fault);

@@ -7,7 +7,7 @@ ghost use Rattle.dw_cfa.specs.Inner.{ByOpcode.{rare_at, rule_at}, Steps.InLimit,
 use crate::instr::{Factors, Instr};
 use crate::keep::Keep;
 use crate::machine::{End, refused};
-use crate::opcode::{Opcode, block, distance, factored, plain, signed};
+use crate::opcode::{Opcode, block, distance, factored, signed};
 use crate::rule::RegRule;
 use dw_num::{Cursor, Refusal};
 
@@ -35,7 +35,7 @@ fn rule_behind<'a>(
 }
 
 // Reads the operands of one. An address is one of the target's.
-#[tactic(auto, unfolding(crate::specs::Inner::ByOpcode::rare_at, crate::specs::Inner::ByOpcode::set_loc_at, crate::specs::Inner::ByOpcode::advance_at, crate::specs::Inner::ByOpcode::restore_at, crate::specs::Inner::ByOpcode::def_cfa_at, crate::specs::Inner::ByOpcode::def_cfa_sf_at, crate::specs::Inner::ByOpcode::def_cfa_register_at, crate::specs::Inner::ByOpcode::def_cfa_expression_at, crate::specs::Inner::ByOpcode::set_at))]
+#[tactic(auto, unfolding(crate::specs::Inner::ByOpcode::rare_at, crate::specs::Inner::ByOpcode::set_loc_at, crate::specs::Inner::ByOpcode::advance_at, crate::specs::Inner::ByOpcode::restore_at, crate::specs::Inner::ByOpcode::def_cfa_sf_at, crate::specs::Inner::ByOpcode::def_cfa_register_at, crate::specs::Inner::ByOpcode::def_cfa_expression_at, crate::specs::Inner::ByOpcode::set_at))]
 #[inline(always)]
 fn read_rare<'a>(
     opcode: Opcode,
@@ -50,11 +50,6 @@ fn read_rare<'a>(
         Opcode::SetLoc => Ok(Instr::SetLoc(cursor.address()?)),
         Opcode::AdvanceLoc4 => Ok(Instr::Advance(distance(cursor.fixed(4)?, factors))),
         Opcode::RestoreExtended => Ok(Instr::Restore(cursor.register()?)),
-        Opcode::DefCfa => {
-            let register = cursor.register()?;
-            let offset = plain(cursor, at)?;
-            Ok(Instr::DefCfa { register, offset })
-        }
         Opcode::DefCfaSf => {
             let register = cursor.register()?;
             let offset = signed(cursor, factors, at)?;

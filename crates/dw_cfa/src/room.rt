@@ -29,8 +29,7 @@ fn run_both<'a>(
     ensures { FoundAt address leading.now.factors (program_input leading.now.program leading.now.target) fde.old machine.old.location machine.new.states.row result }
 {
     lead(leading, machine)?;
-    let _ = run_to(fde, leading.factors, machine, address)?;
-    Ok(())
+    run_to(fde, leading.factors, machine, address)
 }
 
 // The same, by what a look-up keeps.
@@ -49,8 +48,7 @@ fn run_look_up<'a>(
 {
     run_initial(leading, &mut look.row)?;
     look.begin(begin, fde.target().size);
-    let _ = run_to(fde, leading.factors, look, address)?;
-    Ok(())
+    run_to(fde, leading.factors, look, address)
 }
 
 /// Room in which programs (`initial_instructions` of a CIE, `instructions` of an FDE, 6.4.1) are run up to the row of an address

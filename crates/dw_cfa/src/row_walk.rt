@@ -1,14 +1,13 @@
 //! Rows of one FDE after another, in room that is kept (6.4.1, 6.4.3).
 
-ghost use Rattle.std.specs.{Prelude.{◌≡◌, ◌<◌, false, None, Ok, Err, List, ◌∷◌, IfErr, IfOk, IsTrue, ◌↔◌, MatchResult, OnErr, OnOk, Some}, Bool.MatchBool};
+ghost use Rattle.std.specs.{Prelude.{◌≡◌, ◌<◌, false, None, Ok, Err, List, ◌∷◌, IfErr, IfOk, IsTrue, ◌↔◌, MatchResult, OnOk, Some}, Bool.MatchBool};
 ghost use Rattle.dw_num.specs.{Refusals.Refuses, Target.address_limit};
 ghost use Rattle.dw_cfa.specs.{Behind.LeavesTo, Coverage.Lacks, Difference.{FirstDifference, place_behind}, Gives.RunsTo};
 ghost use Rattle.dw_cfa.specs.{RowSteps.{Advances, Failed, program_input, stepping}, RowWalk.{AllKeep, CieKeeps, StandsOn, unled}, Rows.{AreSpecified, Rules, blank}};
-ghost use Rattle.dw_cfa.specs.{RuleAt.{last_at, left_above}, Runs.finished, declared.execution.LocatedRow.LocatedRow, Inner.Runs.run_rows};
+ghost use Rattle.dw_cfa.specs.{Runs.finished, declared.execution.LocatedRow.LocatedRow, Inner.Runs.run_rows};
 ghost use Rattle.dw_cfa.specs.Inner.{RowWalk.{AreLeft, HasInitial, IsLed, led_row}, States.BeganWith};
 
 use crate::coverage::lacks_rule;
-use crate::execution::run_to;
 use crate::instr::Factors;
 use crate::lead::{Leading, leads_same, ready};
 use crate::machine::Machine;
@@ -151,40 +150,6 @@ impl<'a> RowWalk<'a> {
             Ok(start) => Ok(start),
             Err(error) => Err(fail(&mut self.progress, &mut self.machine, error)),
         }
-    }
-
-    /// Goes on to the last row that starts at or below an address (6.4.3), which `row` lends then, where one of those still to
-    /// come does; otherwise it stays. Those that start above it are still to come. No row is copied. An error is a refusal of
-    /// `run` or `OutOfMemory`, and is answered from then on, until `go_to`.
-    pub fn advance_to(&mut self, address: u64) -> Result<(), ReadError>
-        requires no_error { self.old.steps.error ≡ None }
-        ensures found { (row : Rules) → last_at address self.old.steps.outcome.rows ≡ Some row → OnOk result (self.new.steps.current ≡ row) }
-        ensures stays { last_at address self.old.steps.outcome.rows ≡ None → OnOk result (self.new.steps.current ≡ self.old.steps.current) }
-        ensures behind { MatchResult result (λ _. self.new.steps.outcome ≡ left_above address self.old.steps.outcome) (λ _. self.new.steps.outcome ≡ finished) }
-        ensures err { IfErr result (Refuses (λ r. self.old.steps.outcome.fault ≡ Some r)) }
-        ensures again { MatchResult result (λ _. self.new.steps.error ≡ None) (λ e. self.new.steps.error ≡ Some e) }
-        ensures kept { self.new.kept ≡ self.old.kept }
-        ensures led { self.new.led ≡ self.old.led }
-        ensures stands { (row : Rules) → last_at address self.old.steps.outcome.rows ≡ Some row → StandsOn self.new.led self.new.steps.outcome self.new.initial }
-        ensures initial { last_at address self.old.steps.outcome.rows ≡ None → OnOk result (self.new.initial ≡ self.old.initial) }
-        ensures none { OnErr result (self.new.initial ≡ None) }
-    {
-        if self.machine.location > u128::from(address) {
-            return Ok(());
-        }
-        let (leading, fde, machine) = (&self.leading, &mut self.fde, &mut self.machine);
-        if !enter(&mut self.progress, leading, fde, machine, &mut self.kept)? {
-            return Ok(());
-        }
-        let mut cursor = copied(fde);
-        let ran = run_to(&mut cursor, leading.factors, machine, address);
-        *fde = cursor;
-        match ran {
-            Ok(true) => self.progress = Progress::Running,
-            Ok(false) => self.progress = Progress::Finished,
-            Err(error) => return Err(fail(&mut self.progress, &mut self.machine, error)),
-        }
-        Ok(())
     }
 
     // Ends with an error, which is answered from then on.

@@ -5,7 +5,7 @@ ghost use Rattle.std.specs.Prelude.{◌<◌, ◌≤◌, length, false};
 ghost use Rattle.dw_num.specs.Target.{address_limit};
 ghost use Rattle.dw_cfa.specs.Inner.{ByOpcode.operands_at, FrontInstr.instr_at, Runs.RunsSo, Turns.{Does, IsWithinLimit, Stays, Taken, Turned}};
 
-use crate::common::{run_def_cfa_offset, run_def_cfa_offset_sf, run_fixed_advance, run_offset};
+use crate::common::{run_def_cfa, run_def_cfa_offset, run_def_cfa_offset_sf, run_fixed_advance, run_offset};
 use crate::instr::Factors;
 use crate::keep::Keep;
 use crate::machine::{End, refuse, refused};
@@ -35,6 +35,7 @@ fn apply<'a, K: Keep<'a>>(
         }
         Opcode::AdvanceLoc1 => run_fixed_advance(cursor, factors, keep, at, 1, fault),
         Opcode::AdvanceLoc2 => run_fixed_advance(cursor, factors, keep, at, 2, fault),
+        Opcode::DefCfa => run_def_cfa(cursor, keep, at, fault),
         Opcode::DefCfaOffset => run_def_cfa_offset(cursor, keep, at, fault),
         Opcode::DefCfaOffsetSf => run_def_cfa_offset_sf(cursor, factors, keep, at, fault),
         Opcode::Offset(register) => run_offset(cursor, factors, keep, at, register, fault),

@@ -1,6 +1,6 @@
 -- Hexadecimal digits, two of a byte, without leading zeros.
 use Rattle.dw_command.proofs.Words.{◌≡◌, ◌∙◌, ◌⊎◌, inl, inr, ℕ, zero, suc, ◌+◌, ◌-◌, ◌*◌, ◌/◌, ◌%◌, ◌^◌, ◌<◌, ◌≤◌, ◌==◌, ◌&&◌, Bool, true, false, List, [], ◌∷◌, ◌++◌, get_or, refl, ap, sym, arith, codes, ⊎_elim, min, if◌then◌else◌}
-use Rattle.dw_command.proofs.Words.{digit_glyph, digits, digits_onto, append_assoc, append-nil, eq-or-lt_of_le, pow-suc, eqb-true, leading_top}
+use Rattle.dw_command.proofs.Words.{digit_glyph, digits, digits_onto, append_assoc, eq-or-lt_of_le, pow-suc, eqb-true, leading_top}
 use Rattle.std.proofs.Common.{T, eqb, eqb→eq, eq-zero-or-pos}
 use lib.Ieee.Fits.{and_l, and_r}
 use Rattle.std.specs.Int.Count.{count_leading_zeros, leading_of_zero}

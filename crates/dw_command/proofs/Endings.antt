@@ -1,19 +1,13 @@
 -- Runs that end: a load of later files, and what a call that writes becomes.
-use Rattle.dw_command.proofs.Words.{◌≡◌, ◌∙◌, ◌⊎◌, ℕ, List, [], length, Option, Some, None, option_map, Result, Ok, Err, refl, inl, inr, subst, sym, Appends, Appends-trans, Keeps-refl, append-nil, MatchResult, Text, Target, Op, Location}
-use Rattle.dw_command.proofs.Words.{BlockFault, IsBlock, Section, Accepted, LoadError, Failure, Evaluation, Lookup, Unwinding, lines_in, At, at_text, Asks, AtEnds, Before, Checks, Costs, CostsBehind, EvalEnds, Frames, HasCounts}
-use Rattle.dw_command.proofs.Words.{Loads, LoadsDump, LoadsText, Normalises, OverFile, Parses, Prints, PrintsOf, Tells, AndThen, UnwindEnds, Unprinted, Values, costs_text, Output, frame_text, lines, value_text}
+use Rattle.dw_command.proofs.Words.{◌≡◌, ◌⊎◌, ℕ, List, Option, Some, None, Result, Ok, Err, refl, inl, inr, subst, Text, Target}
+use Rattle.dw_command.proofs.Words.{Section, Accepted, LoadError, Failure, Before, HasCounts}
+use Rattle.dw_command.proofs.Words.{Loads, LoadsDump, LoadsText, Normalises, Prints, AndThen, Output}
 use Rattle.std.specs.Result.{result_map_both}
-use Rattle.dw_num.specs.{declared.error.ReadError.ReadError, Refusals.Refuses}
-use Rattle.dw_eval.specs.{declared.error.EvalError.EvalError, Evaluation.{Evaluates, first_stack}, declared.policy.Policy.Policy}
-use Rattle.dw_normal.specs.{declared.error.WriteError.WriteError, Answers.{FitsCap, Writes}}
+use Rattle.dw_normal.specs.{declared.error.WriteError.WriteError, Answers.{Writes}}
 use Rattle.dw_section.specs.{Counts.AreCounts, Cut.Piece, Pieces.Pieces, declared.entry.EntryCounts.EntryCounts}
-use Rattle.dw_canon.specs.Normal.{IsNormalForm}
-use Rattle.dw_unwind.specs.{declared.dump.Dump.Dump, declared.frame.Frame.Frame, declared.frame.UnwindError.UnwindError, Ranges.byte_in, Unwound.{Unwound, stopped}}
-use Rattle.dw_command.specs.{Failure.of_read, Inner.Failure.of_write}
+use Rattle.dw_command.specs.{Inner.Failure.of_write}
 use Rattle.dw_num.specs.declared.error.ReadError.TheVariants as read_error
-use Rattle.dw_eval.specs.declared.error.EvalError.TheVariants as eval_error
 use Rattle.dw_normal.specs.declared.error.WriteError.TheVariants as write_error
-use Rattle.dw_unwind.specs.declared.frame.UnwindError.TheVariants as unwind_error
 use Rattle.dw_command.specs.declared.failure.Failure.TheVariants as failures
 
 -- what later files give, the earlier ones may give
@@ -38,9 +32,6 @@ module _ (old new : Text → Result (List ℕ) LoadError → Type 0) (same : (p 
 pub lent : (gives : Text → Result (List ℕ) LoadError → Type 0) (path : Text) (s t : List ℕ) → t ≡ s → Loads gives path (Ok s) → Loads gives path (Ok t)
 lent gives path s t is h = rw is h
 
-pub dump_lent : (gives : Text → Result (List ℕ) LoadError → Type 0) (path : Text) (s t : List ℕ) → t ≡ s → LoadsDump gives path (Ok s) → LoadsDump gives path (Ok t)
-dump_lent gives path s t is h = rw is h
-
 -- a normal form that is not written whole
 pub unwritten : (target : Target) (most : ℕ) (s : List ℕ) (e : WriteError) (old new : Output)
     → Writes target most s (Err e) old.failures new.failures old.put new.put → Before old new (Normalises target most s) (λ n. Prints {A = Unit {0}} old new n tt) (Err (of_write e))
@@ -63,22 +54,12 @@ pub done : (Ends : Result (Unit {0}) Failure → Type 0) (answer : Result (Unit 
 done Ends (Ok answer) r is h = inl (answer, h, is)
 done Ends (Err e) r is h = inr (e, h, is)
 
--- ---- evaluations
+-- ---- what may lack memory
 
--- what is evaluated, or want of memory
-pub evaluated : (t u : Target) (ops : List Op) (start : Option ℕ) (dump : Dump) (steps : ℕ) (e : EvalError) → u ≡ t
-    → (◌≡◌ {A = Result ℕ EvalError} (Err e) (Err eval_error.OutOfMemory)) ⊎ Evaluates ops (stopped u dump.registers (byte_in dump.memory)) (first_stack u.size start) steps (Err e)
-    → (e ≡ eval_error.OutOfMemory) ⊎ Evaluates ops (stopped t dump.registers (byte_in dump.memory)) (first_stack t.size start) steps (Err e)
-evaluated t u ops start dump steps e is (inl h) = inl cc
-evaluated t u ops start dump steps e is (inr h) =
-    inr (subst (λ (t : Target). Evaluates ops (stopped t dump.registers (byte_in dump.memory)) (first_stack t.size start) steps (Err e)) is h)
+pub lacking : {A E : Type 0} (e none : E) (Is : Type 0) → (◌≡◌ {A = Result A E} (Err e) (Err none)) ⊎ Is → (e ≡ none) ⊎ Is
+lacking e none Is (inl h) = inl cc
+lacking e none Is (inr h) = inr h
 
--- ---- frames
-
--- what is unwound, or want of memory
-pub unwound : (t u : Target) (s : List ℕ) (pc : ℕ) (dump : Dump) (policy : Policy) (steps : ℕ) (e : UnwindError) → u ≡ t
-    → (◌≡◌ {A = Result Frame UnwindError} (Err e) (Err unwind_error.OutOfMemory)) ⊎ Unwound u s pc (stopped u dump.registers (byte_in dump.memory)) policy steps (Err e)
-    → (e ≡ unwind_error.OutOfMemory) ⊎ Unwound t s pc (stopped t dump.registers (byte_in dump.memory)) policy steps (Err e)
-unwound t u s pc dump policy steps e is (inl h) = inl cc
-unwound t u s pc dump policy steps e is (inr h) =
-    inr (subst (λ (t : Target). Unwound t s pc (stopped t dump.registers (byte_in dump.memory)) policy steps (Err e)) is h)
+pub answered : {A E : Type 0} (a : A) (none : E) (Is : Type 0) → (◌≡◌ {A = Result A E} (Ok a) (Err none)) ⊎ Is → Is
+answered a none Is (inl h) = absurd cc
+answered a none Is (inr h) = h

@@ -1,7 +1,7 @@
 -- What a run tells of an output that is lent, and what the output holds behind it.
 use Rattle.dw_command.proofs.Words.{◌≡◌, ◌∙◌, ℕ, ◌-◌, List, [], ◌∷◌, ◌++◌, length, take, if◌then◌else◌, Option, Some, None, option_map, Result, Ok, Err, inl, inr, sym, ap, arith, refl, Appends, Keeps, append-nil, length-append, Text}
 use Rattle.dw_command.proofs.Words.{Target, Location, LoadError, Failure, lines_in, AndThen, Asks, AtEnds, Before, Checks, Compares, Costs, Cuts, Decodes, Ends, EvalEnds, Follows, Frames, ListsFdes, Loads}
-use Rattle.dw_command.proofs.Words.{LoadsDump, LoadsText, Normalises, OverBlock, OverFile, Parses, Plans, Prints, PrintsOf, PrintsText, SameEnds, SpellsLeast, Tallies, TaskEnds, UnwindEnds, Values, costs_text, Output, put_so_far, at_text}
+use Rattle.dw_command.proofs.Words.{LoadsDump, LoadsText, Normalises, OverBlock, OverFile, Parses, Plans, Prints, PrintsOf, PrintsText, SpellsLeast, Tallies, TaskEnds, UnwindEnds, Values, costs_text, Output, put_so_far, at_text}
 use Rattle.dw_command.proofs.Words.{member_text, block_text, counts_text, entry_text, frame_text, lines, sameness_text, value_text}
 use Rattle.dw_words.specs.declared.request.{Request.Request, Task.Task}
 use Rattle.dw_command.specs.{Answers.{Tells as SaysOf}, Engine.holding, Inner.Lent.lent_bytes}

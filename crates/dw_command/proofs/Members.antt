@@ -1,6 +1,6 @@
 -- The FDEs of a section with their changes, one by one.
-use Rattle.dw_command.proofs.Words.{◌≡◌, ◌∙◌, ℕ, ◌+◌, ◌-◌, ◌<◌, ◌≤◌, ◌^◌, min, List, [], ◌∷◌, length, map, get_or, inl, inr, refl, ap, arith, subst, sym, Result, Ok, Err, IfOk, AllByRecursion, AllZip, length-map, AreBytes, Size, Target}
-use Rattle.dw_command.proofs.Words.{Rules, blank, Accepted, IsAmong, AreFdes, ChangesOf, RowStarts, total, Section, Fde, AreMembers, IsMember, Member, changes_of, fde_of, members_exist, ChangeCount, change_count}
+use Rattle.dw_command.proofs.Words.{◌≡◌, ◌∙◌, ℕ, ◌+◌, ◌-◌, ◌<◌, ◌≤◌, ◌^◌, min, List, [], ◌∷◌, length, map, get_or, inl, inr, refl, ap, arith, subst, sym, AllByRecursion, AllZip, length-map, AreBytes, Size, Target}
+use Rattle.dw_command.proofs.Words.{Rules, blank, Accepted, IsAmong, AreFdes, ChangesOf, RowStarts, total, Section, Fde, AreMembers, IsMember, Member, changes_of, fde_of, members_exist, change_count}
 use Rattle.std.proofs.Math.ListN.{get_or-map}
 use Rattle.dw_num.specs.{Target.address_limit, declared.target.Size.TheVariants.{Four, Eight}}
 use Rattle.dw_section.proofs.Lent.{Judged.all_get, Sames.one_change_list, Totals.least_total}
@@ -116,13 +116,3 @@ members_at target s table is b ok =
 pub counted_more : (count one sum all before changes own : ℕ) → all ≡ min (count + one) (2 ^ 64 - 1) → one ≡ min changes (2 ^ 64 - 1)
     → count ≡ min before (2 ^ 64 - 1) → sum ≡ before + own → changes ≡ own → all ≡ min sum (2 ^ 64 - 1)
 counted_more count one sum all before changes own a b c d e = omega (arith, a, b, c, d, e)
-
--- there are no more than rows, so none is left out
-pub all_counted : {E : Type 0} (t : Target) (s : List ℕ) (b : AreBytes s) (ok : Accepted t s) (starts : ℕ) (r : Result ℕ E)
-    → RowStarts t s starts → starts < 2 ^ 64
-    → ((ms : List Member) → AreMembers t s ms → IfOk r (λ n. n ≡ min (total (map change_count ms)) (2 ^ 64 - 1))) → IfOk r (ChangeCount t s)
-all_counted t s b ok starts (Err e) started small counted = tt
-all_counted t s b ok starts (Ok n) started small counted =
-    let found = members_exist t s b ok in
-    let few = changes_few t s b ok found.0 found.1 starts started in
-    record { members = found.0; are = found.1; sum = omega (arith, counted found.0 found.1, few, small) }

@@ -1,6 +1,6 @@
 -- What was put so far, while the output gets what is left and texts are put behind.
-use Rattle.dw_command.proofs.Words.{◌≡◌, ◌∙◌, ℕ, zero, suc, ◌+◌, ◌-◌, ◌≤◌, List, [], ◌∷◌, ◌++◌, length, take, drop, refl, sym, ap, arith, subst, Option, Some, None, Result, Ok, Err, OnOk, min, Appends, Keeps, append_known, Keeps-refl, false, Bool}
-use Rattle.dw_command.proofs.Words.{append_assoc, length-take-le, length-drop, drop-take, take_min, take-append-drop, append-nil, take-append_seam, put_so_far, output_of, Adds, Fills, Finishes, Stays, Appends-kept, Appends-nil, Appends-trans, Failure, Prints, PrintsOf}
+use Rattle.dw_command.proofs.Words.{◌≡◌, ◌∙◌, ℕ, ◌+◌, ◌-◌, ◌≤◌, List, [], ◌++◌, length, take, drop, refl, sym, ap, arith, subst, Option, Some, None, Result, Ok, Err, min, Appends, Keeps, append_known, false}
+use Rattle.dw_command.proofs.Words.{append_assoc, length-take-le, length-drop, drop-take, take_min, take-append-drop, take-append_seam, put_so_far, output_of, Adds, Fills, Finishes, Stays, Appends-kept, Appends-nil, Appends-trans, Failure, Prints, PrintsOf}
 use Rattle.dw_command.specs.declared.listing.Listing.{Listing}
 use lib.Seq.{paste}
 

@@ -4,19 +4,13 @@ ghost use Rattle.std.specs.{Prelude.{◌≡◌, ℕ, ◌≤◌, Result, IfOk, fa
 ghost use Rattle.dw_command.specs.{Answers.{Ends, PrintsText, TaskEnds, exit_of}, Engine.Runs};
 ghost use Rattle.dw_command.specs.{declared.failure.Failure.{Failure as TheFailure}, Inner.Output.output_of};
 
-use crate::at::run_at;
-use crate::check::run_check;
-use crate::cost::run_cost;
-use crate::entries::run_entries;
-use crate::eval::run_eval;
-use crate::expr::run_expr;
+use crate::expression::{run_eval, run_expr};
 use crate::failure::Failure;
 use crate::files::Load;
 use crate::lent::Lent;
 use crate::listing::Listing;
-use crate::normal::run_normal;
-use crate::rows::run_rows;
-use crate::sameness::run_same;
+use crate::rows::{run_at, run_rows};
+use crate::section::{run_check, run_cost, run_entries, run_normal, run_same};
 use crate::unwind::run_unwind;
 use dw_words::{Job, Request, Task, plan};
 use std::alloc::Global;
@@ -88,14 +82,6 @@ fn run<'a, L: Load, W: Write>(
     }
 }
 
-// Prints why there is no answer: one line, or a text on the use of the command, which ends its own lines.
-fn tell<E: Write>(failure: &Failure<'_>, err: &mut E) {
-    let _ = match failure {
-        Failure::Words(_) => write!(err, "{failure}"),
-        _ => writeln!(err, "{failure}"),
-    };
-}
-
 // The exit status of a run over a listing, which tells whether its output failed.
 fn run_over<L: Load, W: Write, E: Write>(
     alloc: Global,
@@ -106,13 +92,20 @@ fn run_over<L: Load, W: Write, E: Write>(
 ) -> u8
     requires works { out.old.failed ≡ false }
     // It is the status of an answer to these words, over these files. The output failed where it says so, and not where there is an answer.
-    ensures ends { (answer : Result ℕ TheFailure) × Ends (L.gives files.old) (output_of W.contents out.old) (output_of W.contents out.new) (map string_bytes words.now) answer × (result ≡ exit_of answer) }
+    ensures ends { (answer : Result ℕ TheFailure)
+        × Ends (L.gives files.old) (output_of W.contents out.old) (output_of W.contents out.new) (map string_bytes words.now) answer × (result ≡ exit_of answer) }
     ensures most { result ≤ 5 }
 {
     match run(alloc, words, files, out) {
         Ok(status) => status,
         Err(failure) => {
-            tell(&failure, err);
+            // A text on the use of the command ends its own lines.
+            let end = if let Failure::Words(_) = failure {
+                ""
+            } else {
+                "\n"
+            };
+            let _ = write!(err, "{failure}{end}");
             failure.status()
         }
     }

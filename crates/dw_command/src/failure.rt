@@ -1,10 +1,9 @@
 //! Why a run ends without its answer.
 
 ghost use Rattle.std.specs.Prelude.{◌≡◌, ◌≤◌};
-ghost use Rattle.dw_command.specs.Failure.{OfLoad, OfSame, OfUnwind, of_read, of_dump, of_eval, of_plan, status_of};
+ghost use Rattle.dw_command.specs.Failure.{OfSame, OfUnwind, of_read, of_dump, of_eval, of_plan, status_of};
 ghost use Rattle.dw_command.specs.{declared.failure.Failure.TheVariants.OutOfMemory, Inner.Failure.of_write};
 
-use crate::files::LoadError;
 use dw_eval::{EvalError, Kind};
 use dw_normal::{SameError, Which, WriteError};
 use dw_num::{ReadError, Refusal};
@@ -164,29 +163,17 @@ impl From<UnwindError> for Failure<'_> {
     }
 }
 
-impl<'a> Failure<'a> {
-    /// Why the file of this path has no bytes.
-    pub fn from_load(path: &'a str, error: LoadError) -> Failure<'a>
-        ensures { OfLoad path.now error result }
-    {
-        match error {
-            LoadError::CannotRead => Failure::CannotRead(path),
-            LoadError::OutOfMemory => Failure::OutOfMemory,
-        }
-    }
-
+impl Failure<'_> {
     /// The exit status, 2 to 5.
     pub fn status(&self) -> u8
         ensures exact { result ≡ status_of self.now }
         ensures within { (2 ≤ result) × (result ≤ 5) }
     {
         match self {
-            Failure::Refused(_) | Failure::RefusedIn(..) | Failure::Dump(_) => 2,
-            Failure::Evaluation(..) => 2,
-            Failure::Value(..) | Failure::Column(..) | Failure::NoFde | Failure::NoCounter => 2,
             Failure::BadValue(_) | Failure::Words(_) => 3,
             Failure::CannotRead(_) | Failure::CannotWrite => 4,
             Failure::OutOfMemory => 5,
+            _ => 2,
         }
     }
 }

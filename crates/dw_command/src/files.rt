@@ -1,8 +1,9 @@
 //! Where the bytes of a file come from.
 
-ghost use Rattle.std.specs.{Prelude.{◌≡◌, ◌≢◌, ⊤, ℕ, ◌≤◌, List, length, take, Result, Ok, Err, IfOk, IfErr, IfSome, IsOk, MatchResult}, IoError.error_kind};
-ghost use Rattle.dw_command.specs.declared.files.LoadError.{LoadError as TheLoadError};
+ghost use Rattle.std.specs.{Prelude.{◌≡◌, ◌≢◌, ⊤, ℕ, ◌≤◌, List, length, option_map, Result, Ok, Err, IfOk, MatchResult}, IoError.error_kind};
+ghost use Rattle.dw_command.specs.{Answers.{Loads, LoadsDump, LoadsText}, declared.files.LoadError.{LoadError as TheLoadError}};
 
+use crate::failure::Failure;
 use std::alloc::Global;
 use std::fs::{File, OpenFile};
 use std::io::{self, ErrorKind, Input, Read};
@@ -55,25 +56,10 @@ fn room_for<F: OpenFile>(file: &F) -> usize {
     }
 }
 
-// All bytes that a reader has left, or the first of them, read into so much room at first.
-fn first_bytes<R: Read + Drop>(
-    alloc: Global,
-    reader: R,
-    room: usize,
-    most: u64,
-) -> io::Result<Vec<u8>>
-    ensures found { IfOk result (λ bytes. IfSome (R.remaining reader) (λ all. bytes.items ≡ take most all)) }
-{
-    let mut bytes = Vec::with_capacity(alloc, room)?;
-    let mut reader = reader.take(most);
-    reader.read_to_end(&mut bytes)?;
-    Ok(bytes)
-}
-
 // What an error of the system is to a reader of files.
-fn kind_of(error: &io::Error) -> LoadError
-    ensures memory { error_kind error.now ≡ ErrorKind.OutOfMemory → result ≡ LoadError.OutOfMemory }
-    ensures other { error_kind error.now ≢ ErrorKind.OutOfMemory → result ≡ LoadError.CannotRead }
+fn kind_of(error: io::Error) -> LoadError
+    ensures memory { error_kind error ≡ ErrorKind.OutOfMemory → result ≡ LoadError.OutOfMemory }
+    ensures other { error_kind error ≢ ErrorKind.OutOfMemory → result ≡ LoadError.CannotRead }
 {
     if error.kind() == ErrorKind::OutOfMemory {
         LoadError::OutOfMemory
@@ -82,30 +68,25 @@ fn kind_of(error: &io::Error) -> LoadError
     }
 }
 
-// The bytes of what was opened, or why there are none.
-fn bytes_of<R: Read + Drop>(
-    alloc: Global,
-    opened: io::Result<R>,
-    room: usize,
-) -> Result<Vec<u8>, LoadError>
+// The first bytes that a reader has left, read into so much room at first.
+fn bytes_of<R: Read + Drop>(alloc: Global, reader: R, room: usize) -> io::Result<Vec<u8>>
     ensures bound { IfOk result (λ bytes. length bytes.items ≤ 2_147_483_648) }
-    // What is not opened has no bytes, for the reason that is given.
-    ensures opened { IsOk result → IsOk opened }
-    ensures memory { IfErr opened (λ e. error_kind e ≡ ErrorKind.OutOfMemory → result ≡ Err LoadError.OutOfMemory) }
-    ensures other { IfErr opened (λ e. error_kind e ≢ ErrorKind.OutOfMemory → result ≡ Err LoadError.CannotRead) }
 {
-    let reader = match opened {
-        Ok(reader) => reader,
-        Err(error) => return Err(kind_of(&error)),
-    };
-    match first_bytes(alloc, reader, room, LIMIT + 1) {
-        Ok(mut bytes) => {
-            // They are no more, but no clause knows what bytes a file has.
-            bytes.truncate(2_147_483_648);
-            Ok(bytes)
-        }
-        Err(error) => Err(kind_of(&error)),
-    }
+    let mut bytes = Vec::with_capacity(alloc, room)?;
+    let mut reader = reader.take(LIMIT + 1);
+    reader.read_to_end(&mut bytes)?;
+    // They are no more, but no clause knows what bytes a file has.
+    bytes.truncate(2_147_483_648);
+    Ok(bytes)
+}
+
+// The first bytes of a file.
+fn bytes_at<R: Files + AllocGlobal>(rt: &R, path: &str) -> io::Result<Vec<u8>>
+    ensures bound { IfOk result (λ bytes. length bytes.items ≤ 2_147_483_648) }
+{
+    let file = File::open(rt, path)?;
+    let room = room_for(&file);
+    bytes_of(rt.alloc(), file, room)
 }
 
 /// The files of the system. `-` names standard input, and a file of that name is `./-`.
@@ -130,14 +111,53 @@ impl<R: Files + Input + AllocGlobal> Load for Disk<'_, R> {
         ensures gives { MatchResult result (λ _. ⊤) (λ _. ⊤) }
         ensures same { (p : List ℕ) (r : Result (List ℕ) TheLoadError) → ⊤ → ⊤ }
     {
-        if path == STDIN {
-            return bytes_of(self.rt.alloc(), Ok(self.rt.reader()), FIRST_ROOM);
-        }
-        let opened = File::open(self.rt, path);
-        let room = match &opened {
-            Ok(file) => room_for(file),
-            Err(_) => FIRST_ROOM,
+        let bytes = if path == STDIN {
+            bytes_of(self.rt.alloc(), self.rt.reader(), FIRST_ROOM)
+        } else {
+            bytes_at(self.rt, path)
         };
-        bytes_of(self.rt.alloc(), opened, room)
+        match bytes {
+            Ok(bytes) => Ok(bytes),
+            Err(error) => Err(kind_of(error)),
+        }
+    }
+}
+
+/// The bytes of a file.
+pub fn load_file<'a, L: Load>(files: &mut L, path: &'a str) -> Result<Vec<u8>, Failure<'a>>
+    ensures loads { MatchResult result (λ bytes. Loads (L.gives files.old) path.now (Ok bytes.items)) (λ e. Loads (L.gives files.old) path.now (Err e)) }
+    ensures same { (p : List ℕ) (r : Result (List ℕ) TheLoadError) → L.gives files.new p r → L.gives files.old p r }
+{
+    match files.load(path) {
+        Ok(bytes) => Ok(bytes),
+        Err(LoadError::CannotRead) => Err(Failure::CannotRead(path)),
+        Err(LoadError::OutOfMemory) => Err(Failure::OutOfMemory),
+    }
+}
+
+/// The bytes of a dump. One of more than 2,147,483,647 bytes cannot be read.
+pub fn load_dump<'a, L: Load>(files: &mut L, path: &'a str) -> Result<Vec<u8>, Failure<'a>>
+    ensures loads { MatchResult result (λ bytes. LoadsDump (L.gives files.old) path.now (Ok bytes.items)) (λ e. LoadsDump (L.gives files.old) path.now (Err e)) }
+    ensures same { (p : List ℕ) (r : Result (List ℕ) TheLoadError) → L.gives files.new p r → L.gives files.old p r }
+{
+    let bytes = load_file(files, path)?;
+    if bytes.len() as u64 > LIMIT {
+        return Err(Failure::CannotRead(path));
+    }
+    Ok(bytes)
+}
+
+/// The text of a dump, which is empty where none is named.
+pub fn load_text<'a, L: Load>(
+    alloc: Global,
+    files: &mut L,
+    path: Option<&'a str>,
+) -> Result<Vec<u8>, Failure<'a>>
+    ensures loads { let wanted = option_map (λ p. p.now) path.entry in
+        MatchResult result (λ bytes. LoadsText (L.gives files.old) wanted (Ok bytes.items)) (λ e. LoadsText (L.gives files.old) wanted (Err e)) }
+{
+    match path {
+        Some(path) => load_dump(files, path),
+        None => Ok(Vec::new(alloc)),
     }
 }

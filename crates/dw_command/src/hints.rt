@@ -5,7 +5,7 @@ ghost use Rattle.std.specs.Prelude.{◌≡◌};
 use crate::files::{Load, LoadError};
 use std::io::Write;
 
-// How files begin that are no raw section.
+// How files begin that are no raw section, and what they are.
 const KINDS: [(&[u8], &str); 10] = [
     (b"\x7fELF", "an ELF file"),
     (b"!<arch>", "an ar archive"),
@@ -18,16 +18,6 @@ const KINDS: [(&[u8], &str); 10] = [
     (b"MZ", "a PE file"),
     (b"\x1f\x8b", "a gzip file"),
 ];
-
-// What a file is by its first bytes, where it is no section that is met.
-fn name_of_kind(bytes: &[u8]) -> Option<&'static str> {
-    for (start, name) in KINDS {
-        if bytes.starts_with(start) {
-            return Some(name);
-        }
-    }
-    None
-}
 
 /// Files, with a line on each that is plainly no raw section with entries.
 #[derive(Drop)]
@@ -56,7 +46,7 @@ impl<L: Load, E: Write> Load for Hinted<L, E> {
                 self.err,
                 "hint: {path} is empty, as objcopy leaves it where there is no .debug_frame"
             )
-        } else if let Some(kind) = name_of_kind(&bytes) {
+        } else if let Some((_, kind)) = KINDS.iter().find(|(start, _)| bytes.starts_with(start)) {
             writeln!(
                 self.err,
                 "hint: {path} begins as {kind} does; a raw section is wanted, see dwframe --help"

@@ -6,23 +6,16 @@
 #![tactic(auto, using(crate::proofs::Puts::on, crate::proofs::Puts::kept_on, crate::proofs::Puts::on_kept, crate::proofs::Puts::printed))]
 
 mod address_lines;
-mod at;
-mod check;
 mod command;
-mod cost;
-mod entries;
-mod eval;
-mod expr;
+mod expression;
 mod failure;
 mod files;
 mod hints;
-mod input;
 mod lent;
 mod listing;
-mod normal;
 mod row_text;
 mod rows;
-mod sameness;
+mod section;
 mod terminal;
 mod texts;
 mod unwind;

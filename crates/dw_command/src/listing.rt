@@ -18,34 +18,21 @@ const ROOM: usize = 8_192;
 const PIECE: usize = 128;
 
 // The numbers below 100 in two digits.
-const PAIRS: &[u8; 200] = b"00010203040506070809\
-10111213141516171819\
-20212223242526272829\
-30313233343536373839\
-40414243444546474849\
-50515253545556575859\
-60616263646566676869\
-70717273747576777879\
-80818283848586878889\
-90919293949596979899";
+const PAIRS: &[u8; 200] = b"0001020304050607080910111213141516171819\
+2021222324252627282930313233343536373839\
+4041424344454647484950515253545556575859\
+6061626364656667686970717273747576777879\
+8081828384858687888990919293949596979899";
 
 // The bytes in two hexadecimal digits.
-const HEX_PAIRS: &[u8; 512] = b"000102030405060708090a0b0c0d0e0f\
-101112131415161718191a1b1c1d1e1f\
-202122232425262728292a2b2c2d2e2f\
-303132333435363738393a3b3c3d3e3f\
-404142434445464748494a4b4c4d4e4f\
-505152535455565758595a5b5c5d5e5f\
-606162636465666768696a6b6c6d6e6f\
-707172737475767778797a7b7c7d7e7f\
-808182838485868788898a8b8c8d8e8f\
-909192939495969798999a9b9c9d9e9f\
-a0a1a2a3a4a5a6a7a8a9aaabacadaeaf\
-b0b1b2b3b4b5b6b7b8b9babbbcbdbebf\
-c0c1c2c3c4c5c6c7c8c9cacbcccdcecf\
-d0d1d2d3d4d5d6d7d8d9dadbdcdddedf\
-e0e1e2e3e4e5e6e7e8e9eaebecedeeef\
-f0f1f2f3f4f5f6f7f8f9fafbfcfdfeff";
+const HEX_PAIRS: &[u8; 512] = b"000102030405060708090a0b0c0d0e0f101112131415161718191a1b1c1d1e1f\
+202122232425262728292a2b2c2d2e2f303132333435363738393a3b3c3d3e3f\
+404142434445464748494a4b4c4d4e4f505152535455565758595a5b5c5d5e5f\
+606162636465666768696a6b6c6d6e6f707172737475767778797a7b7c7d7e7f\
+808182838485868788898a8b8c8d8e8f909192939495969798999a9b9c9d9e9f\
+a0a1a2a3a4a5a6a7a8a9aaabacadaeafb0b1b2b3b4b5b6b7b8b9babbbcbdbebf\
+c0c1c2c3c4c5c6c7c8c9cacbcccdcecfd0d1d2d3d4d5d6d7d8d9dadbdcdddedf\
+e0e1e2e3e4e5e6e7e8e9eaebecedeeeff0f1f2f3f4f5f6f7f8f9fafbfcfdfeff";
 
 // A loop over a text that is known becomes a store or two; `copy_from_slice` asks first whether both overlap.
 #[inline(always)]
@@ -325,6 +312,20 @@ impl<W: Write> Listing<W> {
             Err(_) => self.text(b"10000000000000000"),
         }
     }
+
+    /// Bytes of any number.
+    pub fn long_text(&mut self, text: &[u8])
+        ensures adds { Adds W.contents self.old self.new (text.now) }
+        ensures fits { self.old.len ≤ ROOM → self.new.len ≤ ROOM }
+    {
+        let mut done = 0;
+        'pieces: while done < text.len() {
+            self.make_room();
+            let end = text.len().min(done + PIECE);
+            self.block(&text[done..end]);
+            done = end;
+        }
+    }
 }
 
 /// A normal form is put like any text.
@@ -353,21 +354,5 @@ impl<W: Write> Sink for Listing<W> {
         let part = &bytes[..bytes.len().min(PIECE)];
         self.block(part);
         Ok(part.len())
-    }
-}
-
-impl<W: Write> Listing<W> {
-    /// Bytes of any number.
-    pub fn long_text(&mut self, text: &[u8])
-        ensures adds { Adds W.contents self.old self.new (text.now) }
-        ensures fits { self.old.len ≤ ROOM → self.new.len ≤ ROOM }
-    {
-        let mut done = 0;
-        'pieces: while done < text.len() {
-            self.make_room();
-            let end = text.len().min(done + PIECE);
-            self.block(&text[done..end]);
-            done = end;
-        }
     }
 }

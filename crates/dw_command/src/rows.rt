@@ -1,19 +1,22 @@
-//! `dwframe rows`: the rules at each address of a section.
+//! The subcommands that print rules: `rows`, at each address of a section, and `at`, at some.
 
-ghost use Rattle.std.specs.{Prelude.{◌≡◌, ℕ, ◌≤◌, ◌^◌, List, false, IfErr, OnOk}, List.AllByRecursion};
+ghost use Rattle.std.specs.{Prelude.{◌≡◌, ℕ, ◌≤◌, ◌^◌, List, false, IfErr, OnOk, option_map}, List.AllByRecursion};
 ghost use Rattle.dw_cfa.specs.Rows.{Rules};
+ghost use Rattle.dw_section.specs.{Meaning.AreFdes, declared.lookup.Fde.{Fde as TheFde}};
 ghost use Rattle.dw_canon.specs.Members.{AreMembers, Member};
-ghost use Rattle.dw_command.specs.Answers.{OverFile, Prints, ListsFdes};
-ghost use Rattle.dw_command.specs.{RowTexts.{member_text, row_text}, Texts.lines, Inner.Output.{Adds, Breaks, output_of}};
+ghost use Rattle.dw_command.specs.{Addresses.lines_in, Answers.{AtEnds, ListsFdes, Tells, TellsOf}};
+ghost use Rattle.dw_command.specs.{RowTexts.{At, at_text, member_text, row_text}, Texts.lines, Inner.Output.{Adds, Breaks, TellsOfFile, output_of}};
 
+use crate::address_lines::add_lines;
 use crate::failure::Failure;
-use crate::files::Load;
-use crate::input::load_file;
+use crate::files::{Load, STDIN, load_file, load_text};
 use crate::listing::Listing;
-use crate::row_text::{put_fde, put_row};
+use crate::row_text::{put_fde, put_none, put_row};
+use dw_cfa::RowRoom;
 use dw_num::Target;
 use dw_section::{Changes, FdeRef, Table, check};
-use std::alloc::Global;
+use dw_words::Lookup;
+use std::alloc::{AllocError, Global};
 use std::io::Write;
 
 // Puts a line for each address at which the rules of an FDE change.
@@ -56,15 +59,6 @@ fn put_fdes<'a, W: Write>(
     Ok(())
 }
 
-fn put_table<W: Write>(out: &mut Listing<W>, table: &Table<'_>) -> Result<(), Failure<'static>>
-    requires works { out.old.failed ≡ false }
-    ensures { (ms : List Member) → AreMembers table.now.target table.now.bytes ms →
-        Prints (output_of W.contents out.old) (output_of W.contents out.new) (lines member_text ms) tt result }
-{
-    put_fdes(out, table, &mut table.no_changes())?;
-    out.finish()
-}
-
 /// Prints the rows of the section in a file: a line for each nonempty FDE by begin, and under it one for each address
 /// at which its rules change. Nothing is printed where the section is refused.
 pub fn run_rows<'a, L: Load, W: Write>(
@@ -75,10 +69,84 @@ pub fn run_rows<'a, L: Load, W: Write>(
     out: &mut Listing<W>,
 ) -> Result<(), Failure<'a>>
     requires works { out.old.failed ≡ false }
-    ensures { OverFile (L.gives files.old) (output_of W.contents out.old) (output_of W.contents out.new) path.now (ListsFdes target) (λ _ ms. Prints (output_of W.contents out.old) (output_of W.contents out.new) (lines member_text ms) tt) result }
+    ensures { TellsOfFile (L.gives files.old) W.contents out.old out.new path.now (ListsFdes target) (λ _ ms. lines member_text ms) result }
 {
     let bytes = load_file(files, path)?;
     let table = check(alloc, bytes.as_slice(), target)?;
     table.accepted();
-    put_table(out, &table)
+    put_fdes(out, &table, &mut table.no_changes())?;
+    out.finish()
+}
+
+// Puts what the section says of an address.
+fn put_at<'a, W: Write>(
+    out: &mut Listing<W>,
+    table: &Table<'a>,
+    rows: &mut RowRoom<'a>,
+    address: u64,
+) -> Result<(), AllocError>
+    ensures put { (fs : List TheFde) → AreFdes table.now.target table.now.bytes fs →
+        OnOk result ((found : At) × TellsOf table.now.target table.now.bytes fs address found × Adds W.contents out.old out.new (at_text found)) }
+{
+    table.accepted();
+    let Some(fde) = table.look_up(address, rows)? else {
+        put_none(out, address);
+        return Ok(());
+    };
+    put_fde(out, &fde);
+    put_row(out, u128::from(address), rows.row());
+    Ok(())
+}
+
+// Puts what the section says of each address.
+fn put_each<'a, W: Write>(
+    out: &mut Listing<W>,
+    table: &Table<'a>,
+    rows: &mut RowRoom<'a>,
+    addresses: &[u64],
+) -> Result<(), Failure<'static>>
+    ensures told { IfErr result (Breaks out.new) }
+    ensures put { OnOk result ((found : List At) × Tells table.now.target table.now.bytes addresses.now found
+        × Adds W.contents out.old out.new (lines at_text found)) }
+{
+    table.accepted();
+    for address in addresses {
+        put_at(out, table, rows, *address)?;
+        out.check()?;
+    }
+    Ok(())
+}
+
+// The path of the lines that are read where the words name no address.
+fn lines_in(addresses: &[u64]) -> Option<&'static str>
+    ensures { option_map (λ path. path.now) result ≡ lines_in addresses.now }
+{
+    if addresses.is_empty() {
+        return Some(STDIN);
+    }
+    None
+}
+
+/// Prints the FDE that covers each address, and its rules there. Both files are read before the section and then the lines are
+/// judged.
+pub fn run_at<'a, L: Load, W: Write>(
+    alloc: Global,
+    target: Target,
+    lookup: Lookup<'a>,
+    files: &mut L,
+    out: &mut Listing<W>,
+) -> Result<(), Failure<'a>>
+    requires works { out.old.failed ≡ false }
+    ensures { AtEnds (L.gives files.old) (output_of W.contents out.old) (output_of W.contents out.new) target lookup.entry result }
+{
+    let Lookup {
+        path,
+        mut addresses,
+    } = lookup;
+    let bytes = load_file(files, path)?;
+    let text = load_text(alloc, files, lines_in(&addresses))?;
+    let table = check(alloc, &bytes, target)?;
+    add_lines(&mut addresses, &text, target.size)?;
+    put_each(out, &table, &mut RowRoom::new(alloc), &addresses)?;
+    out.finish()
 }

@@ -1,6 +1,6 @@
 //! How operations are printed: DWARF 5, 7.7.1, with the names in lower case.
 
-ghost use Rattle.std.specs.{Prelude.{◌≡◌, ◌++◌, ◌≤◌, codes, false, length}, Fmt.digits};
+ghost use Rattle.std.specs.Prelude.{◌≡◌, ◌≤◌, length};
 ghost use Rattle.hex.specs.Hex.{encode_lower};
 ghost use Rattle.dw_command.specs.{OpTexts.{bytes_text, number_text, op_name, op_text, operands_text, signed_text}, Inner.Output.Adds};
 
@@ -77,15 +77,6 @@ fn put_signed<W: Write>(listing: &mut Listing<W>, number: i64)
     listing.decimal(number.unsigned_abs());
 }
 
-// An address behind a space.
-fn put_address<W: Write>(listing: &mut Listing<W>, address: u64)
-    ensures { Adds W.contents listing.old listing.new (codes " 0x" ++ digits 16 false address) }
-{
-    listing.make_room();
-    listing.text(b" 0x");
-    listing.hex(address);
-}
-
 /// Puts bytes as pairs of hexadecimal digits in lower case.
 pub fn put_hex<W: Write>(listing: &mut Listing<W>, bytes: &[u8])
     ensures { Adds W.contents listing.old listing.new (encode_lower bytes.now) }
@@ -115,7 +106,11 @@ fn put_operands<W: Write>(listing: &mut Listing<W>, op: &Op<'_>)
     ensures { Adds W.contents listing.old listing.new (operands_text op.now) }
 {
     match *op {
-        Op::Addr(address) => put_address(listing, address),
+        Op::Addr(address) => {
+            listing.make_room();
+            listing.text(b" 0x");
+            listing.hex(address);
+        }
         Op::Const(number) | Op::PlusUconst(number) | Op::Piece(number) => {
             put_number(listing, number);
         }

@@ -1,14 +1,13 @@
 //! `dwframe unwind`: the caller's frame of a machine that stopped.
 
 ghost use Rattle.std.specs.Prelude.{◌≡◌, false};
-ghost use Rattle.dw_command.specs.{Answers.{Frames, Prints, UnwindEnds}, Texts.{frame_text, lines, register_text}, Inner.Output.{Adds, output_of}};
+ghost use Rattle.dw_command.specs.{Answers.{Prints, UnwindEnds}, Texts.{frame_text, lines, register_text}, Inner.Output.{Adds, output_of}};
 
 use crate::failure::Failure;
-use crate::files::Load;
-use crate::input::{load_dump, load_file};
+use crate::files::{Load, load_dump, load_file};
 use crate::listing::Listing;
 use dw_num::Target;
-use dw_section::{Table, check};
+use dw_section::check;
 use dw_unwind::{Dump, Frame, FrameRoom, unwind};
 use dw_words::Unwinding;
 use std::alloc::Global;
@@ -52,31 +51,6 @@ fn put_frame<W: Write>(out: &mut Listing<W>, frame: &Frame<'_>) -> Result<(), Fa
     out.finish()
 }
 
-fn frame_of<'a, 'r>(
-    alloc: Global,
-    table: &Table<'_>,
-    dump: &mut Dump,
-    unwinding: &Unwinding<'_>,
-    room: &'r mut FrameRoom,
-) -> Result<Frame<'r>, Failure<'a>>
-    ensures { Frames table.now.target table.now.bytes dump.old unwinding.now.default unwinding.now.steps result }
-{
-    let Some(pc) = dump.pc else {
-        return Err(Failure::NoCounter);
-    };
-    Ok(unwind(
-        alloc,
-        table,
-        table.target(),
-        pc,
-        room,
-        &dump.registers,
-        &mut dump.memory,
-        unwinding.default,
-        unwinding.steps,
-    )?)
-}
-
 /// Prints the caller's frame. Both files are read before the section and then the dump are judged.
 pub fn run_unwind<'a, L: Load, W: Write>(
     alloc: Global,
@@ -92,7 +66,14 @@ pub fn run_unwind<'a, L: Load, W: Write>(
     let text = load_dump(files, unwinding.dump)?;
     let table = check(alloc, &bytes, target)?;
     let mut dump = Dump::parse(alloc, &text, target)?;
+    let Some(pc) = dump.pc else {
+        return Err(Failure::NoCounter);
+    };
     let mut room = FrameRoom::new(alloc);
-    let frame = frame_of(alloc, &table, &mut dump, unwinding, &mut room)?;
+    let Unwinding { default, steps, .. } = *unwinding;
+    let (registers, memory) = (&dump.registers, &mut dump.memory);
+    let frame = unwind(
+        alloc, &table, target, pc, &mut room, registers, memory, default, steps,
+    )?;
     put_frame(out, &frame)
 }

@@ -3,13 +3,12 @@ use Rattle.dw_eval.specs.{Space.{PlaceInSpace, ArePlacesInSpace}, declared.place
 use Rattle.dw_eval.specs.declared.place.Piece as declared
 use Rattle.dw_eval.specs.declared.stack.Flow.TheVariants as flow
 use Rattle.dw_eval.specs.declared.stack.Stop.TheVariants as stop
-use Rattle.dw_eval.proofs.Words.{◌≡◌, ℕ, ◌%◌, address_limit, ◌<◌, ◌≤◌, zero, suc, map, List, [], ◌∷◌, ◌++◌, length, Option, Some, None, Result, Ok, Err, ap, inl, arith, refl, sym, subst, ◌∙◌, slice_get, slice_get_within, Op, Deref, DerefSize, Reg, Piece, BitPiece, Implicit, StackValue, Nop, byte_count, bare}
-use Rattle.dw_eval.proofs.Words.{branch_target, AllInRange, TargetWithin, EvalError, Fault, OutOfMemory, Kind, StackUnderflow, MissingPiece, Unreadable, Place, Context, context, read_at, OpEffect, Next, known, on_top, push, leads}
-use Rattle.dw_eval.proofs.{Words.{Faults, effect, StepsWithoutMemory, PlaceState, place_here, with_piece, with_value, bare_piece, pieces_of, with_stack, free_step, held_step, refused, step_by, place_step, StepsTo, Acts}, Effects.{InSpace, StepTells, effect_tells, leads_tells, led_within, in_range_at}}
-use Rattle.std.proofs.Common.{Bor}
+use Rattle.dw_eval.proofs.Words.{◌≡◌, ℕ, ◌%◌, address_limit, ◌<◌, ◌≤◌, zero, suc, map, List, [], ◌∷◌, ◌++◌, length, Option, Some, None, Result, Ok, Err, ap, inl, arith, refl, sym, subst, slice_get, slice_get_within, Op, Deref, DerefSize, Reg, Piece, BitPiece, Implicit, StackValue, Nop, byte_count, bare}
+use Rattle.dw_eval.proofs.Words.{branch_target, AllInRange, TargetWithin, EvalError, Fault, OutOfMemory, Kind, StackUnderflow, MissingPiece, Unreadable, Place, Context, context, read_at, OpEffect, Next, known, on_top, push}
+use Rattle.dw_eval.proofs.{Words.{Faults, effect, StepsWithoutMemory, PlaceState, place_here, with_piece, with_value, bare_piece, pieces_of, free_step, held_step, refused, step_by, place_step, StepsTo, Acts}, Effects.{InSpace, StepTells, effect_tells, leads_tells, led_within, in_range_at}}
 use Rattle.dw_num.specs.declared.target.Order.{Order}
 unfoldable use Rattle.dw_eval.specs.Bytes.{number_in_memory}
-use Rattle.dw_eval.specs.{Inner.Steps.refusal, declared.env.Env.Env}
+use Rattle.dw_eval.specs.{Inner.Steps.{refusal}, declared.env.Env.Env}
 
 -- a step without memory is one over a memory that stays
 pub steps_so : (step : Result PlaceState Kind) (Read : Type 0) (i before : ℕ) (state : ℕ → PlaceState) (result : Result ℕ EvalError) (after : ℕ) → StepsWithoutMemory step i state result → after ≡ before → StepsTo step Read i before state result after
@@ -34,10 +33,6 @@ unread env byte other Deref stack = reads (context env byte) (context env other)
 unread env byte other (DerefSize k) stack = reads (context env byte) (context env other) k stack refl
 unread env byte other op stack = refl
 
-bare_same : (env : Env) (byte : ℕ → Option ℕ) (op : Op) (stack : List ℕ) → refused (effect (context env byte) op stack) ≡ refused (effect (context env byte) (bare op) stack)
-bare_same env byte (Implicit block) stack = refl
-bare_same env byte op stack = refl
-
 pub refused_so : (o : OpEffect) (Read : Type 0) (answer : Result Flow Stop) (stack : List ℕ) (i : ℕ) (state : ℕ → PlaceState) → Acts o Read 0 answer stack 0 → StepsWithoutMemory (refused o) i state (Err (refusal i answer))
 refused_so o Read (Ok flow.Next) stack i state h = (ap refused h.0, refl)
 refused_so o Read (Ok (flow.Jump j)) stack i state h = (ap refused h.0, refl)
@@ -47,11 +42,10 @@ refused_so o Read (Err stop.Device) stack i state h = absurd (omega (arith, h.1)
 refused_so o Read (Err stop.OutOfMemory) stack i state h = tt
 
 pub refusal_so : (env : Env) (byte none : ℕ → Option ℕ) (op : Op) (stack new : List ℕ) (Read : Type 0) (answer : Result Flow Stop) (i : ℕ) (state : ℕ → PlaceState) (e : EvalError)
-    → Acts (effect (context env none) op stack) Read 0 answer new 0 → e ≡ refusal i answer → StepsWithoutMemory (refused (effect (context env byte) (bare op) stack)) i state (Err e)
+    → Acts (effect (context env none) (bare op) stack) Read 0 answer new 0 → e ≡ refusal i answer → StepsWithoutMemory (refused (effect (context env byte) (bare op) stack)) i state (Err e)
 refusal_so env byte none op stack new Read answer i state e h is =
     let P : Result PlaceState Kind → Type 0 = λ step. StepsWithoutMemory step i state (Err e) in
-    let same : refused (effect (context env none) op stack) ≡ refused (effect (context env byte) (bare op) stack) = unread env none byte op stack ∙ bare_same env byte op stack in
-    subst P same (rw is (refused_so (effect (context env none) op stack) Read answer new i state h))
+    subst P (unread env none byte (bare op) stack) (rw is (refused_so (effect (context env none) (bare op) stack) Read answer new i state h))
 
 -- where it is no piece and no nop
 pub held_else : (env : Env) (byte : ℕ → Option ℕ) (op : Op) (s : PlaceState) (i : ℕ) (state : ℕ → PlaceState) (result : Result ℕ EvalError) → ((n : ℕ) → op ≡ Piece n → ⊥) → ((n k : ℕ) → op ≡ BitPiece n k → ⊥) → (op ≡ Nop → ⊥)
@@ -68,16 +62,13 @@ held_so env byte op s place Read i before state result after e h same =
     let P : Option Place → Type 0 = λ p. StepsTo (step_by (context env byte) op p s) Read i before state result after in
     subst P (sym e) (steps_so (held_step (context env byte) op s) Read i before state result after (h byte) same)
 
--- and while none is, where it names no place and is no piece
-pub free_else : (c : Context) (op : Op) (s : PlaceState) (Read : Type 0) (i before : ℕ) (state : ℕ → PlaceState) (result : Result ℕ EvalError) (after : ℕ) → ((r : ℕ) → op ≡ Reg r → ⊥) → ((block : Bor (List ℕ)) → op ≡ Implicit block → ⊥)
-    → (op ≡ StackValue → ⊥) → ((n : ℕ) → op ≡ Piece n → ⊥) → ((n k : ℕ) → op ≡ BitPiece n k → ⊥)
-    → StepsTo (leads (λ j stack. with_stack j stack s) s.index (effect c (bare op) s.stack)) Read i before state result after → StepsTo (free_step c (bare op) s) Read i before state result after
-free_else c (Reg r) s Read i before state result after reg block value piece bits h = absurd (reg r refl)
-free_else c (Implicit b) s Read i before state result after reg block value piece bits h = absurd (block b refl)
-free_else c StackValue s Read i before state result after reg block value piece bits h = absurd (value refl)
-free_else c (Piece n) s Read i before state result after reg block value piece bits h = absurd (piece n refl)
-free_else c (BitPiece n k) s Read i before state result after reg block value piece bits h = absurd (bits n k refl)
-free_else c op s Read i before state result after reg block value piece bits h = h
+module _ (c : Context) (op : Op) (s : PlaceState) (before : ℕ) (result : Result ℕ EvalError) (after : ℕ) (none : s.pending ≡ None) where
+  abbrev Goes : Option Place → Type 0 → (ℕ → PlaceState) → Type 0
+  Goes pending Read state = StepsTo (step_by c op pending s) Read s.index before state result after
+
+  -- a step without memory while no place is pending
+  pub free_so : (Read : Type 0) (state : ℕ → PlaceState) → StepsWithoutMemory (free_step c op s) s.index state result → after ≡ before → Goes s.pending Read state
+  free_so Read state h same = subst (λ (p : Option Place). Goes p Read state) (sym none) (steps_so (free_step c op s) Read s.index before state result after h same)
 
 pub no_bytes : (order : Order) (address len : ℕ) → 1 ≤ len → number_in_memory (λ a. None) order address len ≡ None
 unfolding number_in_memory

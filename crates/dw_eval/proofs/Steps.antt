@@ -1,8 +1,8 @@
 -- What one operation of the code tells of a run.
 use Rattle.dw_op.specs.Inner.Ranges.{Fits}
 use Rattle.dw_eval.proofs.Words.{◌≡◌, ℕ, ◌+◌, ◌<◌, ◌≤◌, List, length, length-map, map, get_or, Some, Result, Ok, Err, refl, sym, ◌∙◌, ap, subst, inl, inr, arith, slice_get, Target, byte_count, Op, DerefSize, bare, bare_at, in_range_at, fits, AllInRange}
-use Rattle.dw_eval.proofs.Words.{Context, EvalError, Fault, OutOfMemory, Kind, Device, StepLimit, Runs, OpEffect, Does, Acts, StepsTo, ◌∷◌, ◌^◌, Next, Faults, on_top, on_two}
-use Rattle.dw_eval.specs.Inner.Steps.{MakesOfOne, MakesOfTwo}
+use Rattle.dw_eval.proofs.Words.{Context, EvalError, Fault, OutOfMemory, Kind, Device, StepLimit, Runs, OpEffect, leads, Does, Acts, StepsTo, ◌∷◌, ◌^◌, Next, Faults, on_top, on_two}
+use Rattle.dw_eval.specs.Inner.Steps.{MakesOfOne, MakesOfTwo, reached}
 use Rattle.std.proofs.Math.Numerals.{suc-eq-add-one}
 use Rattle.dw_eval.specs.{Inner.Runs.{Answered, Right, Short, Failed}, declared.stack.Flow.Flow, declared.stack.Stop.Stop}
 use Rattle.dw_eval.specs.declared.stack.Flow.TheVariants as flow
@@ -31,6 +31,18 @@ two_does Made f old new (Ok (flow.Jump i)) m g = absurd m
 two_does Made f old new (Err (stop.Fault kind)) (is, none) g = none f ∙ ap Faults (sym is)
 two_does Made f old new (Err stop.Device) m g = absurd m
 two_does Made f old new (Err stop.OutOfMemory) m g = tt
+
+-- where the answer of an operation leads, for any machine
+pub acted : {S : Type 0} (at : ℕ → List ℕ → S) (outcome : OpEffect) (Read : Type 0) (i before : ℕ) (answer : Result Flow Stop) (new : List ℕ) (after : ℕ) (result : Result ℕ EvalError) → Acts outcome Read before answer new after → result ≡ reached i answer
+    → StepsTo (leads at i outcome) Read i before (λ n. at n new) result after
+acted at outcome Read i before answer new after result h e = rw e (of answer h)
+  where
+    of : (answer : Result Flow Stop) → Acts outcome Read before answer new after → StepsTo (leads at i outcome) Read i before (λ n. at n new) (reached i answer) after
+    of (Ok flow.Next) h = (ap (leads at i) h.0, h.1)
+    of (Ok (flow.Jump j)) h = (ap (leads at i) h.0, h.1)
+    of (Err (stop.Fault kind)) h = (refl, inl (ap (leads at i) h.0, h.1))
+    of (Err stop.Device) h = (refl, inr (refl, h.1, h.0))
+    of (Err stop.OutOfMemory) h = h
 
 -- the size of a deref_size in range
 pub access_at : (t : Target) (ops : List Op) (i : ℕ) (d : Op) → AllInRange t (map bare ops) → i < length ops → (len : ℕ) → get_or ops i d ≡ DerefSize len → (1 ≤ len) × (len ≤ byte_count t.size)

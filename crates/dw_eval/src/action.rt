@@ -2,14 +2,11 @@
 
 ghost use Rattle.std.specs.Prelude.{◌≡◌, ℕ, ◌+◌, ◌-◌, ◌^◌, ◌<◌, ◌≤◌, IsTrue, ◌↔◌};
 ghost use Rattle.dw_num.specs.Target.{address_limit, byte_count};
-ghost use Rattle.dw_op.specs.declared.op.Op.TheVariants.{DerefSize};
+ghost use Rattle.dw_op.specs.{Expression.bare, declared.op.Op.TheVariants.DerefSize};
 ghost use Rattle.dw_eval.specs.{Context.{context, read_at}, Effect.{on_top, known, push, effect, ReadsAt, ReadsMemory}};
 ghost use Rattle.dw_eval.specs.{declared.error.Kind.TheVariants.Unreadable, Inner.Steps.Acts};
 
-use crate::arithmetic::{
-    magnitude, minus, offset_by, plus, reduced, shifted_left, shifted_right, shifted_signed,
-    signed, times, turned,
-};
+use crate::arithmetic::{offset_by, reduced, shifted_left, shifted_right, shifted_signed, signed};
 use crate::env::Env;
 use crate::error::Kind;
 use crate::memory::{Memory, ReadFault};
@@ -61,7 +58,7 @@ pub(crate) fn act<M: Memory>(
     requires access { (len : ℕ) → op.now ≡ DerefSize len → (1 ≤ len) × (len ≤ byte_count env.now.target.size) }
     requires room { M.failures memory.old < 2 ^ 64 - 1 }
     ensures same { M.byte memory.new ≡ M.byte memory.old }
-    ensures acts { let c = context env.now (M.byte memory.old) in Acts (effect c op.now stack.old) (ReadsMemory c op.now stack.old) (M.failures memory.old) result stack.new (M.failures memory.new) }
+    ensures acts { let c = context env.now (M.byte memory.old) in Acts (effect c (bare op.now) stack.old) (ReadsMemory c (bare op.now) stack.old) (M.failures memory.old) result stack.new (M.failures memory.new) }
 {
     let size = env.target.size;
     match *op {
@@ -69,22 +66,25 @@ pub(crate) fn act<M: Memory>(
         Op::Deref => read(stack, usize::from(size.byte_count()), env, memory),
         Op::Const(number) => stack.put(reduced(number, size)),
         Op::Dup => stack.pick(0),
-        Op::Drop => stack.drop_top(),
+        Op::Drop => {
+            stack.take()?;
+            Ok(Flow::Next)
+        }
         Op::Over => stack.pick(1),
         Op::Pick(index) => stack.pick(index),
         Op::Swap => stack.swap(),
         Op::Rot => stack.rot(),
-        Op::Abs => stack.one(|t| magnitude(t, size)),
+        Op::Abs => stack.one(|t| reduced(signed(t, size).unsigned_abs(), size)),
         Op::And => stack.two(|s, t| reduced(s & t, size)),
         Op::Div => stack.div(size),
-        Op::Minus => stack.two(|s, t| minus(s, t, size)),
+        Op::Minus => stack.two(|s, t| reduced(s.wrapping_sub(t), size)),
         Op::Mod => stack.modulus(size),
-        Op::Mul => stack.two(|s, t| times(s, t, size)),
-        Op::Neg => stack.one(|t| minus(0, t, size)),
-        Op::Not => stack.one(|t| turned(t, size)),
+        Op::Mul => stack.two(|s, t| reduced(s.wrapping_mul(t), size)),
+        Op::Neg => stack.one(|t| reduced(t.wrapping_neg(), size)),
+        Op::Not => stack.one(|t| reduced(!t, size)),
         Op::Or => stack.two(|s, t| reduced(s | t, size)),
-        Op::Plus => stack.two(|s, t| plus(s, t, size)),
-        Op::PlusUconst(number) => stack.one(|t| plus(t, number, size)),
+        Op::Plus => stack.two(|s, t| reduced(s.wrapping_add(t), size)),
+        Op::PlusUconst(number) => stack.one(|t| reduced(t.wrapping_add(number), size)),
         Op::Shl => stack.two(|s, t| shifted_left(s, t, size)),
         Op::Shr => stack.two(|s, t| shifted_right(s, t, size)),
         Op::Shra => stack.two(|s, t| shifted_signed(s, t, size)),
@@ -119,6 +119,9 @@ pub(crate) fn act<M: Memory>(
         Op::Reg(_) | Op::Piece(_) | Op::BitPiece(_, _) | Op::Implicit(_) => Err(Stop::Fault(
             Kind::NotAValue,
         )),
-        Op::StackValue => stack.refuse_value(),
+        Op::StackValue => {
+            stack.take()?;
+            Err(Stop::Fault(Kind::NotAValue))
+        }
     }
 }

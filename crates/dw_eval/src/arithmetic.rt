@@ -44,31 +44,6 @@ pub fn offset_by(number: u64, by: i64, size: Size) -> u64
     reduced(number.wrapping_add_signed(by), size)
 }
 
-pub(crate) fn minus(s: u64, t: u64, size: Size) -> u64
-    ensures { result ≡ modulo (address_limit size) (pos s -ℤ pos t) }
-{
-    reduced(s.wrapping_sub(t), size)
-}
-
-pub(crate) fn plus(s: u64, t: u64, size: Size) -> u64
-    ensures { result ≡ (s + t) % address_limit size }
-{
-    reduced(s.wrapping_add(t), size)
-}
-
-pub(crate) fn times(s: u64, t: u64, size: Size) -> u64
-    ensures { result ≡ (s * t) % address_limit size }
-{
-    reduced(s.wrapping_mul(t), size)
-}
-
-/// All bits turned.
-pub(crate) fn turned(t: u64, size: Size) -> u64
-    ensures { result ≡ modulo (address_limit size) (pos 0 -ℤ pos (t + 1)) }
-{
-    reduced(!t, size)
-}
-
 /// The signed quotient, toward zero. The least number by -1 is itself.
 #[tactic(auto, using(crate::proofs::Signed::nonzero))]
 pub(crate) fn quotient(s: u64, t: u64, size: Size) -> u64
@@ -77,12 +52,6 @@ pub(crate) fn quotient(s: u64, t: u64, size: Size) -> u64
 {
     let divided = signed(s, size).wrapping_div(signed(t, size));
     unsigned(divided, size)
-}
-
-pub(crate) fn magnitude(t: u64, size: Size) -> u64
-    ensures { result ≡ unsigned_abs (signed size t) % address_limit size }
-{
-    reduced(signed(t, size).unsigned_abs(), size)
 }
 
 /// How many bits a value has.

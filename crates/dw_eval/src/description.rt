@@ -1,11 +1,13 @@
-//! A location description on the way (2.6).
+//! Location descriptions (2.6).
 
-ghost use Rattle.std.specs.Prelude.{◌≡◌, ◌⊎◌, ℕ, ◌-◌, ◌^◌, ◌<◌, ◌≤◌, map, option_map, Ok, Err, List, [], ◌∷◌, Option, None, MatchResult, IsTrue, false};
+ghost use Rattle.std.specs.Prelude.{◌≡◌, ◌⊎◌, ℕ, ◌-◌, ◌^◌, ◌<◌, ◌≤◌, length, map, option_map, Ok, Err, List, [], ◌∷◌, Option, None, MatchResult};
+ghost use Rattle.std.specs.Prelude.{IsTrue, false};
 ghost use Rattle.dw_num.specs.Target.{byte_count};
-ghost use Rattle.dw_op.specs.{Expression.bare, declared.op.Op.TheVariants.DerefSize};
-ghost use Rattle.dw_eval.specs.{Context.context, Effect.{effect, ReadsMemory, leads}, Location.{place_step, place_reads, place_here, with_piece, free_step, held_step, refused}};
-ghost use Rattle.dw_eval.specs.{Location.{with_place, with_stack, with_value, pieces_of}, declared.error.EvalError.TheVariants.{Fault, OutOfMemory}};
-ghost use Rattle.dw_eval.specs.{declared.error.Kind.TheVariants.MissingPiece, Inner.Steps.{StepsTo, refusal}};
+ghost use Rattle.dw_op.specs.{Expression.bare, Ranges.AllInRange, declared.op.Op.TheVariants.DerefSize};
+ghost use Rattle.dw_eval.specs.Location.{bare_piece, bare_place, bare_result, place_here, place_step, place_reads, with_piece, with_place, with_value};
+ghost use Rattle.dw_eval.specs.{Context.context, Effect.effect, Location.{held_step, refused, pieces_of, LocatedIn, PlaceMayFailIn}};
+ghost use Rattle.dw_eval.specs.declared.error.{EvalError.TheVariants.{Fault, OutOfMemory}, Kind.Kind, Kind.TheVariants.{Device, MissingPiece}};
+ghost use Rattle.dw_eval.specs.{declared.place.Piece.Piece, Inner.{Description.{state_of, StepsWithoutMemory}, Location.LocatesOver, Steps.{StepsTo, refusal}}};
 
 use crate::action::act;
 use crate::env::Env;
@@ -15,7 +17,7 @@ use crate::memory::{Memory, ReadFault};
 use crate::place::{Part, Piece, Place};
 use crate::stack::{Answer, Stack, Stop};
 use dw_num::Order;
-use dw_op::Op;
+use dw_op::{Op, OpList};
 use std::alloc::Global;
 
 /// Holds no byte, for an operation whose effect is asked for though it is not executed.
@@ -38,15 +40,9 @@ fn refusal(answer: Answer, index: usize) -> EvalError
     ensures { result ≡ refusal index answer }
 {
     match answer {
-        Err(Stop::Fault(Kind::StackUnderflow)) => EvalError::Fault {
-            kind: Kind::StackUnderflow,
-            index,
-        },
+        Err(Stop::Fault(Kind::StackUnderflow)) => Kind::StackUnderflow.at(index),
         Err(Stop::OutOfMemory) => EvalError::OutOfMemory,
-        _ => EvalError::Fault {
-            kind: Kind::MissingPiece,
-            index,
-        },
+        _ => Kind::MissingPiece.at(index),
     }
 }
 
@@ -59,8 +55,6 @@ pub(crate) struct Description<'a> {
 }
 
 impl<'a> Description<'a> {
-    ghost use Rattle.dw_eval.specs.{Location.{bare_place, bare_piece}, declared.place.Piece.Piece, Inner.Description.{state_of, StepsWithoutMemory}};
-
     /// Nothing is described yet. Takes no memory.
     pub(crate) fn new(alloc: Global) -> Description<'a>
         ensures { (result.stack ≡ []) × (result.pending ≡ None) × (result.pieces.items ≡ []) }
@@ -107,22 +101,6 @@ impl<'a> Description<'a> {
         Ok(index + 1)
     }
 
-    fn set_value(&mut self, index: usize) -> Result<usize, EvalError>
-        requires { index < 2 ^ 64 - 1 }
-        ensures { StepsWithoutMemory (with_value self.old.stack (state_of index self.old)) index (λ next. state_of next self.new) result }
-    {
-        match self.stack.pop() {
-            Some(value) => {
-                self.pending = Some(Place::Value(value));
-                Ok(index + 1)
-            }
-            None => Err(EvalError::Fault {
-                kind: Kind::StackUnderflow,
-                index,
-            }),
-        }
-    }
-
     // No piece follows a place: the stack is too short for the operation, or the piece is missing.
     #[tactic(auto, using(crate::proofs::PlaceSteps::refusal_so))]
     fn refuse(&mut self, op: &Op<'a>, index: usize, env: &Env<'_>) -> Result<usize, EvalError>
@@ -148,51 +126,8 @@ impl<'a> Description<'a> {
         }
     }
 
-    // Computes on the stack.
-    fn compute<M: Memory>(
-        &mut self,
-        op: &Op<'a>,
-        index: usize,
-        env: &Env<'_>,
-        memory: &mut M,
-    ) -> Result<usize, EvalError>
-        requires inside { index < 2 ^ 64 - 1 }
-        requires access { (len : ℕ) → op.now ≡ DerefSize len → (1 ≤ len) × (len ≤ byte_count env.now.target.size) }
-        requires room { M.failures memory.old < 2 ^ 64 - 1 }
-        ensures same { M.byte memory.new ≡ M.byte memory.old }
-        ensures so { let c = context env.now (M.byte memory.old) in StepsTo (let s = state_of index self.old in leads (λ i stack. with_stack i stack s) s.index (effect c (bare op.now) self.old.stack)) (ReadsMemory c (bare op.now) self.old.stack) index (M.failures memory.old) (λ next. state_of next self.new) result (M.failures memory.new) }
-    {
-        let answer = act(op, &mut self.stack, env, memory);
-        reached(answer, index)
-    }
-
-    // An operation while no place is pending.
-    #[tactic(auto, using(crate::proofs::PlaceSteps::steps_so, crate::proofs::PlaceSteps::free_else))]
-    fn go_on<M: Memory>(
-        &mut self,
-        op: &Op<'a>,
-        index: usize,
-        env: &Env<'_>,
-        memory: &mut M,
-    ) -> Result<usize, EvalError>
-        requires inside { index < 2 ^ 64 - 1 }
-        requires access { (len : ℕ) → op.now ≡ DerefSize len → (1 ≤ len) × (len ≤ byte_count env.now.target.size) }
-        requires room { M.failures memory.old < 2 ^ 64 - 1 }
-        ensures same { M.byte memory.new ≡ M.byte memory.old }
-        ensures so { let c = context env.now (M.byte memory.old) in StepsTo (free_step c (bare op.now) (state_of index self.old)) (ReadsMemory c (bare op.now) self.old.stack) index (M.failures memory.old) (λ next. state_of next self.new) result (M.failures memory.new) }
-    {
-        match *op {
-            Op::Reg(register) => self.set(Place::Register(register), index),
-            Op::Implicit(bytes) => self.set(Place::Bytes(bytes), index),
-            Op::StackValue => self.set_value(index),
-            Op::Piece(size) => self.add(Part::Bytes(size), index),
-            Op::BitPiece(size, offset) => self.add(Part::Bits { size, offset }, index),
-            _ => self.compute(op, index, env, memory),
-        }
-    }
-
     /// Executes the operation at an index, and says which one is next.
-    #[tactic(auto, using(crate::proofs::PlaceSteps::held_so))]
+    #[tactic(auto, using(crate::proofs::PlaceSteps::held_so, crate::proofs::PlaceSteps::free_so))]
     pub(crate) fn step<M: Memory>(
         &mut self,
         op: &Op<'a>,
@@ -208,7 +143,17 @@ impl<'a> Description<'a> {
     {
         match self.pending {
             Some(_) => self.hold(op, index, env),
-            None => self.go_on(op, index, env, memory),
+            None => match *op {
+                Op::Reg(register) => self.set(Place::Register(register), index),
+                Op::Implicit(bytes) => self.set(Place::Bytes(bytes), index),
+                Op::StackValue => match self.stack.take() {
+                    Ok(value) => self.set(Place::Value(value), index),
+                    Err(_) => Err(Kind::StackUnderflow.at(index)),
+                },
+                Op::Piece(size) => self.add(Part::Bytes(size), index),
+                Op::BitPiece(size, offset) => self.add(Part::Bits { size, offset }, index),
+                _ => reached(act(op, &mut self.stack, env, memory), index),
+            },
         }
     }
 
@@ -229,9 +174,8 @@ impl<'a> Description<'a> {
         ensures { let answer = pieces_of len (option_map bare_place self.entry.pending) self.entry.stack (map bare_piece self.entry.pieces.items) in MatchResult result (λ v. answer ≡ Ok (map bare_piece v.items)) (λ e. (e ≡ OutOfMemory) ⊎ (answer ≡ Err e)) }
     {
         if self.pieces.is_empty() {
-            let place = self.place();
             let whole = Piece {
-                place,
+                place: self.place(),
                 part: Part::Whole,
             };
             if self.pieces.push(whole).is_err() {
@@ -240,11 +184,68 @@ impl<'a> Description<'a> {
             return Ok(self.pieces);
         }
         if self.leaves_some() {
-            return Err(EvalError::Fault {
-                kind: Kind::MissingPiece,
-                index: len,
-            });
+            return Err(Kind::MissingPiece.at(len));
         }
         Ok(self.pieces)
     }
+}
+
+// Runs the operations from the first one on.
+fn run<'a, M: Memory>(
+    alloc: Global,
+    ops: &[Op<'a>],
+    env: &Env<'_>,
+    memory: &mut M,
+    steps: u64,
+) -> Result<Vec<Piece<'a>>, EvalError>
+    requires range { AllInRange env.now.target (map bare ops.now) }
+    requires room { M.failures memory.old < 2 ^ 64 - 1 }
+    ensures same { M.byte memory.new ≡ M.byte memory.old }
+    ensures so { let so = LocatesOver (map bare ops.now) (context env.now (M.byte memory.old)) steps (M.failures memory.old) in MatchResult result (λ v. so (Ok (map bare_piece v.items)) (M.failures memory.new)) (λ e. so (Err e) (M.failures memory.new)) }
+{
+    let mut description = Description::new(alloc);
+    let mut index = 0;
+    let mut taken = 0;
+    'steps: while index < ops.len() {
+        if taken >= steps {
+            return Err(Kind::StepLimit.at(index));
+        }
+        index = description.step(&ops[index], index, env, memory)?;
+        taken += 1;
+    }
+    description.finish(ops.len())
+}
+
+/// The pieces that a location description describes (2.6), in order: at least one, which is `Part::Whole` where no piece
+/// or bit_piece is executed. The addresses and values of places are below 2^N, where an address has N bits. The stack
+/// begins empty; the list's target has to be that of the environment. `steps` is the most operations that are executed,
+/// as in `evaluate`. Takes memory where the stack or the list of pieces grows, and answers `OutOfMemory` where it is
+/// refused.
+///
+/// While a place waits for its piece, an operation other than piece, bit_piece and nop is `StackUnderflow`, where the stack has too
+/// few entries for it, or else `MissingPiece`; behind pieces nothing may be left at the end, else `MissingPiece` there. The other
+/// faults are those of `evaluate`, but `EmptyResult` and `NotAValue` do not come.
+pub fn locate<'a, M: Memory>(
+    alloc: Global,
+    list: &OpList<'a>,
+    env: &Env<'_>,
+    memory: &mut M,
+    steps: u64,
+) -> Result<Vec<Piece<'a>>, EvalError>
+    requires target { list.now.target ≡ env.now.target }
+    requires room { M.failures memory.old < 2 ^ 64 - 1 }
+    // No byte of the memory changes.
+    ensures same { M.byte memory.new ≡ M.byte memory.old }
+    // The count of failures stays or grows.
+    ensures counted { M.failures memory.old ≤ M.failures memory.new }
+    // Where it stays, the answer is the description's, or want of memory.
+    ensures answered { M.failures memory.new ≡ M.failures memory.old → (result ≡ Err OutOfMemory) ⊎ LocatedIn list.now.ops env.now (M.byte memory.old) steps (bare_result result) }
+    // Where it grows, a read of an operation that is reached has failed.
+    ensures failed { M.failures memory.old < M.failures memory.new → (i : ℕ) × (result ≡ Err (Fault Device i)) × PlaceMayFailIn list.now.ops env.now (M.byte memory.old) steps i }
+    // A fault's index is that of an operation, or the list's length.
+    ensures within { (kind : Kind) (i : ℕ) → result ≡ Err (Fault kind i) → i ≤ length list.now.ops }
+    // No other failure is named.
+    ensures device { (i : ℕ) → result ≡ Err (Fault Device i) → M.failures memory.old < M.failures memory.new }
+{
+    run(alloc, list.ops(), env, memory, steps)
 }

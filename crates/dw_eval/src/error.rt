@@ -1,7 +1,7 @@
 //! Why an evaluation has no answer.
 
 ghost use Rattle.std.specs.Prelude.{◌≡◌};
-ghost use Rattle.dw_eval.specs.Kinds.{kind_entry};
+ghost use Rattle.dw_eval.specs.{Kinds.kind_entry, declared.error.EvalError.TheVariants.Fault};
 
 use std::fmt;
 use thiserror::Error;
@@ -82,6 +82,13 @@ impl Kind {
             Kind::NoObject => "NoObject",
             Kind::MissingPiece => "MissingPiece",
         }
+    }
+
+    /// This fault of the operation at an index.
+    pub(crate) fn at(self, index: usize) -> EvalError
+        ensures { result ≡ Fault self index }
+    {
+        EvalError::Fault { kind: self, index }
     }
 }
 

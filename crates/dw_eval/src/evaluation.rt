@@ -1,11 +1,10 @@
 //! Evaluation of an expression (2.5).
 
 ghost use Rattle.std.specs.Prelude.{◌≡◌, ◌⊎◌, ℕ, ◌-◌, ◌^◌, ◌<◌, ◌≤◌, length, map, Err, MatchResult};
-ghost use Rattle.dw_num.specs.Target.{byte_count};
-ghost use Rattle.dw_op.specs.{Expression.bare, Ranges.AllInRange, declared.op.Op.TheVariants.DerefSize};
-ghost use Rattle.dw_eval.specs.{Context.context, Effect.ReadsMemory, Evaluation.{value_step, first_stack, top_of, EvaluatesIn, MayFailIn}};
+ghost use Rattle.dw_op.specs.{Expression.bare, Ranges.AllInRange};
+ghost use Rattle.dw_eval.specs.{Context.context, Evaluation.{first_stack, EvaluatesIn, MayFailIn}};
 ghost use Rattle.dw_eval.specs.declared.error.{EvalError.TheVariants.{Fault, OutOfMemory}, Kind.Kind, Kind.TheVariants.Device};
-ghost use Rattle.dw_eval.specs.Inner.{Evaluation.EvaluatesOver, Steps.{reached, StepsTo}};
+ghost use Rattle.dw_eval.specs.Inner.{Evaluation.EvaluatesOver, Steps.reached};
 
 use crate::action::act;
 use crate::arithmetic::reduced;
@@ -25,11 +24,8 @@ pub(crate) fn reached(answer: Answer, index: usize) -> Result<usize, EvalError>
     match answer {
         Ok(Flow::Next) => Ok(index + 1),
         Ok(Flow::Jump(target)) => Ok(target),
-        Err(Stop::Fault(kind)) => Err(EvalError::Fault { kind, index }),
-        Err(Stop::Device) => Err(EvalError::Fault {
-            kind: Kind::Device,
-            index,
-        }),
+        Err(Stop::Fault(kind)) => Err(kind.at(index)),
+        Err(Stop::Device) => Err(Kind::Device.at(index)),
         Err(Stop::OutOfMemory) => Err(EvalError::OutOfMemory),
     }
 }
@@ -48,37 +44,6 @@ fn begin(alloc: Global, start: Option<u64>, size: Size) -> Result<Stack, EvalErr
     }
 }
 
-// The top at the end of a list of this length.
-fn top(stack: &Stack, len: usize) -> Result<u64, EvalError>
-    ensures { result ≡ top_of len stack.now }
-{
-    match stack.get(0) {
-        Some(value) => Ok(value),
-        None => Err(EvalError::Fault {
-            kind: Kind::EmptyResult,
-            index: len,
-        }),
-    }
-}
-
-// Executes the operation at an index, and says which one is next.
-fn step<M: Memory>(
-    op: &Op<'_>,
-    index: usize,
-    stack: &mut Stack,
-    env: &Env<'_>,
-    memory: &mut M,
-) -> Result<usize, EvalError>
-    requires inside { index < 2 ^ 64 - 1 }
-    requires access { (len : ℕ) → op.now ≡ DerefSize len → (1 ≤ len) × (len ≤ byte_count env.now.target.size) }
-    requires room { M.failures memory.old < 2 ^ 64 - 1 }
-    ensures same { M.byte memory.new ≡ M.byte memory.old }
-    ensures so { let c = context env.now (M.byte memory.old) in StepsTo (value_step c (bare op.now) (record { index = index; stack = stack.old })) (ReadsMemory c (bare op.now) stack.old) index (M.failures memory.old) (λ next. record { index = next; stack = stack.new }) result (M.failures memory.new) }
-{
-    let answer = act(op, stack, env, memory);
-    reached(answer, index)
-}
-
 // Runs the operations from the first one on.
 fn run<M: Memory>(
     ops: &[Op<'_>],
@@ -93,19 +58,19 @@ fn run<M: Memory>(
     ensures so { EvaluatesOver (map bare ops.now) (context env.now (M.byte memory.old)) stack.old steps (M.failures memory.old) result (M.failures memory.new) }
 {
     let mut index = 0;
-    'steps: for taken in 0..steps {
-        if index >= ops.len() {
-            return top(stack, ops.len());
+    let mut taken = 0;
+    'steps: while index < ops.len() {
+        if taken >= steps {
+            return Err(Kind::StepLimit.at(index));
         }
-        index = step(&ops[index], index, stack, env, memory)?;
+        let answer = act(&ops[index], stack, env, memory);
+        index = reached(answer, index)?;
+        taken += 1;
     }
-    if index < ops.len() {
-        return Err(EvalError::Fault {
-            kind: Kind::StepLimit,
-            index,
-        });
+    match stack.get(0) {
+        Some(value) => Ok(value),
+        None => Err(Kind::EmptyResult.at(ops.len())),
     }
-    top(stack, ops.len())
 }
 
 /// The value of an expression (2.5): the top of the stack when the end is reached. It is below 2^N, where an address has

@@ -1,9 +1,14 @@
-//! The stack of values (2.5.1).
+//! The stack of values (2.5.1), and what operations do to it: stack operations (2.5.1.3), arithmetic and logic (2.5.1.4),
+//! comparisons and branches (2.5.1.5).
 
-ghost use Rattle.std.specs.Prelude.{◌≡◌, ℕ, List, [], ◌∷◌, length, slice_get, MatchOption, IfOk, IfErr};
-ghost use Rattle.dw_eval.specs.{Effect.{OpEffect, Next, Faults, on_two}, declared.error.Kind.TheVariants.StackUnderflow, Inner.Steps.Does};
+ghost use Rattle.std.specs.Prelude.{◌≡◌, ℕ, ◌%◌, List, [], ◌∷◌, length, slice_get, IfOk, IfErr, nat_eq, int_div, if◌then◌else◌};
+ghost use Rattle.dw_num.specs.Target.{address_limit};
+ghost use Rattle.dw_eval.specs.{Context.signed, Effect.{OpEffect, Next, Jump, Faults, on_top, on_two, on_three, known, nonzero, push, push_signed}};
+ghost use Rattle.dw_eval.specs.{declared.error.Kind.TheVariants.StackUnderflow, Inner.Steps.{Does, MakesOfOne, MakesOfTwo}};
 
+use crate::arithmetic;
 use crate::error::Kind;
+use dw_num::Size;
 use std::alloc::Global;
 use std::marker::Model;
 
@@ -56,13 +61,6 @@ impl Stack {
         self.values.len()
     }
 
-    /// Takes the top.
-    pub(crate) fn pop(&mut self) -> Option<u64>
-        ensures { MatchOption result ((self.old ≡ []) × (self.new ≡ [])) (λ v. self.old ≡ v ∷ self.new) }
-    {
-        self.values.pop()
-    }
-
     /// Takes all entries.
     pub(crate) fn clear(&mut self)
         ensures { self.new ≡ [] }
@@ -91,15 +89,13 @@ impl Stack {
         }
         Ok(Flow::Next)
     }
-}
 
-impl Stack {
     /// Takes the top, of which there has to be one.
     pub(crate) fn take(&mut self) -> Result<u64, Stop>
         ensures found { IfOk result (λ t. self.old ≡ t ∷ self.new) }
         ensures short { IfErr result (λ e. (e ≡ Stop.Fault StackUnderflow) × (self.old ≡ [])) }
     {
-        match self.pop() {
+        match self.values.pop() {
             Some(top) => Ok(top),
             None => Err(Stop::Fault(Kind::StackUnderflow)),
         }
@@ -110,12 +106,91 @@ impl Stack {
         ensures found { IfOk result (λ p. self.old ≡ p.1 ∷ p.0 ∷ self.new) }
         ensures short { IfErr result (λ e. (e ≡ Stop.Fault StackUnderflow) × ((f : ℕ → ℕ → List ℕ → OpEffect) → on_two self.old f ≡ Faults StackUnderflow)) }
     {
-        let Some(top) = self.pop() else {
-            return Err(Stop::Fault(Kind::StackUnderflow));
-        };
-        let Some(second) = self.pop() else {
-            return Err(Stop::Fault(Kind::StackUnderflow));
-        };
+        let top = self.take()?;
+        let second = self.take()?;
         Ok((second, top))
+    }
+
+    pub(crate) fn pick(&mut self, index: u8) -> Answer
+        ensures { Does (known StackUnderflow (slice_get self.old index) (λ v. Next (v ∷ self.old))) result self.new }
+    {
+        let value = self.get(usize::from(index));
+        self.put_known(value, Kind::StackUnderflow)
+    }
+
+    pub(crate) fn swap(&mut self) -> Answer
+        ensures { Does (on_two self.old (λ s t below. Next (s ∷ t ∷ below))) result self.new }
+    {
+        let (s, t) = self.take_two()?;
+        self.put(t)?;
+        self.put(s)
+    }
+
+    pub(crate) fn rot(&mut self) -> Answer
+        ensures { Does (on_three self.old (λ third s t below. Next (s ∷ third ∷ t ∷ below))) result self.new }
+    {
+        let (s, t) = self.take_two()?;
+        let third = self.take()?;
+        self.put(t)?;
+        self.put(third)?;
+        self.put(s)
+    }
+
+    /// Puts what is made of the top in its place.
+    pub(crate) fn one<F: FnOnce(u64) -> u64>(&mut self, f: F) -> Answer
+        requires { F.IsAlwaysCallable f }
+        ensures { MakesOfOne (F.post f) self.old result self.new }
+    {
+        let t = self.take()?;
+        self.put(f(t))
+    }
+
+    /// Puts what is made of the second and the top in their place.
+    pub(crate) fn two<F: FnOnce(u64, u64) -> u64>(&mut self, f: F) -> Answer
+        requires { F.IsAlwaysCallable f }
+        ensures { MakesOfTwo (F.post f) self.old result self.new }
+    {
+        let (s, t) = self.take_two()?;
+        self.put(f(s, t))
+    }
+
+    pub(crate) fn div(&mut self, size: Size) -> Answer
+        ensures { Does (on_two self.old (λ s t below. nonzero (t % address_limit size) (push_signed size (int_div (signed size s) (signed size t)) below))) result self.new }
+    {
+        let (s, t) = self.take_two()?;
+        if arithmetic::reduced(t, size) == 0 {
+            return Err(Stop::Fault(Kind::DivideByZero));
+        }
+        self.put(arithmetic::quotient(s, t, size))
+    }
+
+    pub(crate) fn modulus(&mut self, size: Size) -> Answer
+        ensures { Does (on_two self.old (λ s t below. nonzero t (push size (s % t) below))) result self.new }
+    {
+        let (s, t) = self.take_two()?;
+        if t == 0 {
+            return Err(Stop::Fault(Kind::DivideByZero));
+        }
+        self.put(arithmetic::reduced(s % t, size))
+    }
+
+    pub(crate) fn bra(&mut self, target: usize) -> Answer
+        ensures { Does (on_top self.old (λ t below. if nat_eq t 0 then Next below else Jump target below)) result self.new }
+    {
+        let t = self.take()?;
+        if t != 0 {
+            return Ok(Flow::Jump(target));
+        }
+        Ok(Flow::Next)
+    }
+
+    /// Puts a value on the stack, or faults where there is none.
+    pub(crate) fn put_known(&mut self, value: Option<u64>, missing: Kind) -> Answer
+        ensures { Does (known missing value (λ v. Next (v ∷ self.old))) result self.new }
+    {
+        match value {
+            Some(value) => self.put(value),
+            None => Err(Stop::Fault(missing)),
+        }
     }
 }

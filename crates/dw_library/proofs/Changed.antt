@@ -3,7 +3,7 @@ use Rattle.dw_num.specs.{Input.AreBytes, Target.address_limit, declared.target.S
 use Rattle.dw_cfa.specs.declared.instr.Instr.{Instr}
 use Rattle.dw_section.specs.Changes.{AreChanges, Changing, ChangesBehind, GivesAddress}
 use Rattle.dw_section.proofs.Lent.{FdeLookup.listed_are, Sections.begin_low}
-use Rattle.dw_library.specs.{Changes.rules_in, declared.changes.Totals.Totals}
+use Rattle.dw_library.specs.{Changes.rules_in, declared.rows.Totals.Totals}
 use Rattle.dw_library.proofs.Words.{◌≡◌, ℕ, zero, suc, ◌+◌, ◌-◌, ◌^◌, ◌<◌, ◌≤◌, List, [], ◌∷◌, ◌++◌, length, map, min, get_or, slice_set, true, false, refl, sym, ap, subst, ◌∙◌, arith, inl, inr, Option}
 use Rattle.dw_library.proofs.Words.{Some, None, Ok, AllByRecursion, leb_tells, flat_map_more, get_or-map, length-append, length-map, map_push, same_Some, mid_of, put_mid, Target, Rules, Accepted, IsAmong}
 use Rattle.dw_library.proofs.{Words.{AreFdes, ChangesOf, IsTable, fde_in, Ranged, Fde, Change, Rule, Room, AreWritten, change_of, over, rule_of, IsLow, IsLeft}, Written.{over_full, over_length, written_left}}

@@ -79,7 +79,7 @@ module _ {target : Target} {s asked : List ℕ} {rows rows_now : List Row} {rule
   room_now = subst (λ (k : ℕ). IsLeft k (rules_in w.looks) room) (sym same_long) w.left
 
   pub wrote_more : (l : Look) {row_new : Row} {rules_new : List Rule} {behind : Room} → n < length asked → n < length rows → IsLook target s (get_or asked n 0) l
-      → row_new ≡ l.row → rules_new ≡ over (rules_in w.looks ++ l.rules) rules → IsLeft (length rules_now) (rules_in w.looks ++ l.rules) behind
+      → row_new ≡ l.row → rules_new ≡ over (rules_in w.looks ++ l.rules) rules → IsLeft (length rules) (rules_in w.looks ++ l.rules) behind
       → Wrote target s asked rows rules (n + 1) (slice_set rows_now n row_new) rules_new behind
   wrote_more l {behind = behind} lt fits is row_is rules_are left =
       let next : suc n ≡ n + 1 = omega arith in
@@ -95,5 +95,5 @@ module _ {target : Target} {s asked : List ℕ} {rows rows_now : List Row} {rule
         each = subst (λ (k : List ℕ). AllZip (IsLook target s) k (w.looks ++ l ∷ [])) (sym first) (zip_more (IsLook target s) (take n asked) w.looks (get_or asked n 0) l w.each is);
         rows_are = ap (λ (k : Row). slice_set rows_now n k) row_is ∙ set ∙ ap (λ (k : List Row). k ++ drop (n + 1) rows) (sym (map_push (λ (k : Look). k.row) w.looks l));
         rules_are = rules_are ∙ ap (λ (k : List Rule). over k rules) all;
-        left = subst (λ (k : List Rule). IsLeft (length rules) k behind) all (subst (λ (k : ℕ). IsLeft k (rules_in w.looks ++ l.rules) behind) same_long left);
+        left = subst (λ (k : List Rule). IsLeft (length rules) k behind) all left;
       }

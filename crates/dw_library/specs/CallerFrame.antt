@@ -10,7 +10,7 @@ use Rattle.dw_unwind.specs.declared.frame.{Column.TheVariants.{Cfa, Register as 
 use Rattle.dw_unwind.specs.declared.frame.UnwindError.TheVariants as errors
 use Rattle.dw_library.specs.{Answers.{refused, out_of_memory, bad_argument, not_refused, told}, Registers.{given_in, told_register, AreTold}}
 use Rattle.dw_library.specs.{Windows.byte_among, declared.answer.Refused.Refused, declared.caller.Fault.Fault}
-use Rattle.dw_library.specs.declared.{caller.Frame.Frame, caller.Held.Held, caller.Stop.Stop, registers.Register.Register, windows.Window.Window}
+use Rattle.dw_library.specs.declared.{caller.Frame.Frame, held.Held.Held, caller.Stop.Stop, held.Register.Register, held.Window.Window}
 
 -- what a register is taken as that no instruction has set: 0 for unchanged, 1 for undefined
 abbrev pub policy_of : ℕ → Option Policy

@@ -7,7 +7,7 @@ use Rattle.dw_unwind.specs.{Unwound.stopped, UnwoundAt.UnwoundAt, declared.by_in
 use Rattle.dw_unwind.specs.declared.{by_index.UnwindAtError.TheVariants.{BadIndex, Refused, Unwind}, frame.Frame.{Frame as CallerFrame}}
 use Rattle.dw_library.specs.Answers.{refused, out_of_memory, bad_argument, not_refused, told}
 use Rattle.dw_library.specs.CallerFrame.{Machine, Told, IsUnwound, no_frame, no_fault, says, status_of, told_fault, told_frame}
-use Rattle.dw_library.specs.{Registers.{given_in, told_register, AreTold}, Windows.byte_among, declared.caller.Stop.Stop, declared.registers.Register.Register}
+use Rattle.dw_library.specs.{Registers.{given_in, told_register, AreTold}, Windows.byte_among, declared.caller.Stop.Stop, declared.held.Register.Register}
 
 -- a machine that holds this stopped: its caller's frame by the FDE that stands where an index leads, or why there is none
 pub record IsFrameAt (target : Target) (policy : Policy) (s : List ℕ) (index : List Ranged) (stop : Stop) (m : Machine) (answer : Result CallerFrame UnwindAtError) : Type 0 where

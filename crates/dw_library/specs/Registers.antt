@@ -1,6 +1,6 @@
 -- Registers as C gives them and is told them.
 use Rattle.std.specs.Prelude.{◌≡◌, ◌⊎◌, ◌<◌, ◌≤◌, ℕ, List, [], ◌∷◌, ◌++◌, length, drop, Option, Some, None, nat_eq, if◌then◌else◌}
-use Rattle.dw_library.specs.{Answers.{ok, too_short}, declared.registers.Register.Register}
+use Rattle.dw_library.specs.{Answers.{ok, too_short}, declared.held.Register.Register}
 
 -- a value, or else another one
 abbrev pub first_of : Option ℕ → Option ℕ → Option ℕ

@@ -1,6 +1,6 @@
 -- Memory that a caller lends: windows of addresses over one buffer.
 use Rattle.std.specs.Prelude.{ℕ, ◌+◌, ◌-◌, ◌&&◌, nat_le, nat_lt, Bool, if◌then◌else◌, List, [], ◌∷◌, Option, None, slice_get}
-use Rattle.dw_library.specs.declared.windows.Window.{Window}
+use Rattle.dw_library.specs.declared.held.Window.{Window}
 
 abbrev pub covers : ℕ → Window → Bool
 covers a w = nat_le w.address a && nat_lt a (w.address + w.len)

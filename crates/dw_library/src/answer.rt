@@ -3,22 +3,8 @@
 ghost use Rattle.std.specs.Prelude.{◌≡◌, ◌⊎◌, ◌<◌, ◌≤◌, ◌++◌, drop, length, slice_set};
 ghost use Rattle.dw_library.specs.Answers.{target_of, told, ok, refused as the_refused, too_short};
 
+use crate::names::Status;
 use dw_num::{Order, Refusal, Size, Target};
-
-/// The call has its answer.
-pub(crate) const OK: u32 = 0;
-/// The section is refused; the refusal says why, and where.
-const REFUSED: u32 = 1;
-/// A request for memory was refused.
-pub(crate) const OUT_OF_MEMORY: u32 = 2;
-/// The address size is not 4 or 8, or the byte order, or what unset registers are taken as, is not 0 or 1.
-pub(crate) const BAD_ARGUMENT: u32 = 3;
-/// The room that was lent is too short; the call says how much it needs.
-pub(crate) const TOO_SHORT: u32 = 4;
-/// No FDE, or no entry of the index, covers the address.
-pub(crate) const NO_FDE: u32 = 5;
-/// The index is not the one of these bytes.
-pub(crate) const BAD_INDEX: u32 = 10;
 
 /// A section, and how its numbers are read.
 #[repr(C)]
@@ -65,7 +51,7 @@ pub(crate) fn refuse(refused: &mut Refused, section: u32, refusal: Refusal) -> u
         section,
         at: refusal.at as usize,
     };
-    REFUSED
+    Status::Refused as u32
 }
 
 /// The machine with this address size, 4 or 8, and this byte order, 0 for little-endian and 1 for big-endian.
@@ -77,17 +63,12 @@ pub(crate) fn target_of(address_size: u32, byte_order: u32) -> Option<Target>
         8 => Size::Eight,
         _ => return None,
     };
-    match byte_order {
-        0 => Some(Target {
-            size,
-            order: Order::Little,
-        }),
-        1 => Some(Target {
-            size,
-            order: Order::Big,
-        }),
-        _ => None,
-    }
+    let order = match byte_order {
+        0 => Order::Little,
+        1 => Order::Big,
+        _ => return None,
+    };
+    Some(Target { size, order })
 }
 
 /// Writes items to the front of a buffer, where they fit.
@@ -95,10 +76,10 @@ pub(crate) fn put_front<T: Copy>(items: &[T], out: &mut [T]) -> u32
     ensures { ((result ≡ ok) × (length items.now ≤ length out.old) × (out.new ≡ items.now ++ drop (length items.now) out.old)) ⊎ ((result ≡ too_short) × (length out.old < length items.now) × (out.new ≡ out.old)) }
 {
     if out.len() < items.len() {
-        return TOO_SHORT;
+        return Status::TooShort as u32;
     }
     out[..items.len()].copy_from_slice(items);
-    OK
+    Status::Ok as u32
 }
 
 /// Writes an item to its place in a buffer, where it has one.

@@ -1,23 +1,23 @@
-//! What is given and told of a frame of the caller.
+//! The frame of the caller, by an index that the caller keeps, or by one that is made.
 
-ghost use Rattle.std.specs.Prelude.{◌≡◌, map};
-ghost use Rattle.dw_library.specs.CallerFrame.{policy_of, column_of, status_of, fault_of_kind, fault_of_read, fault_of_register, told_fault, told_frame};
-ghost use Rattle.dw_library.specs.Registers.{told_register, AreTold};
+ghost use Rattle.std.specs.Prelude.{◌≡◌, ◌⊎◌, map, Ok, Err, MatchResult, OnErr};
+ghost use Rattle.dw_section.specs.Ranges.{IsTable};
+ghost use Rattle.dw_unwind.specs.{Unwound.{Unwound, stopped}, UnwoundAt.UnwoundAt, declared.frame.Frame.{Frame as TheCallerFrame}};
+ghost use Rattle.dw_unwind.specs.declared.by_index.UnwindAtError.TheVariants as TheUnwindAtError;
+ghost use Rattle.dw_unwind.specs.declared.frame.UnwindError.TheVariants as TheUnwindError;
+ghost use Rattle.dw_library.specs.{Answers.target_of, CallerFrame.{IsFrame, IsUnwound, Told, column_of, fault_of_kind, held_in, policy_of, status_of}};
+ghost use Rattle.dw_library.specs.{CallerFrame.{told_fault, told_frame}, FrameAt.{IsAnyUnwound, IsFrameAt, IsOwnUnwound}, Registers.{told_register, AreTold}};
+ghost use Rattle.dw_library.specs.{Windows.byte_among, Inner.FrameAt.{IsOwn, Why, WhyOwn}};
 
-use crate::answer::{NO_FDE, OUT_OF_MEMORY};
-use crate::registers::{Register, put_registers};
-use crate::windows::Window;
-use dw_eval::{Kind, Policy};
-use dw_unwind::{Column, Frame as CallerFrame, UnwindError};
-
-/// An expression has no value; the fault says why, and in which column.
-pub(crate) const NO_VALUE: u32 = 6;
-/// A byte of a saved register is in no window.
-const UNREADABLE: u32 = 7;
-/// A register that is asked for is not given.
-const NO_REGISTER: u32 = 8;
-/// The memory failed, which windows do not.
-const DEVICE: u32 = 9;
+use crate::answer::{Refused, Section, refuse, target_of};
+use crate::held::{Held, Register, give_all};
+use crate::names::Status;
+use dw_cfa::RowRoom;
+use dw_eval::{Kind, Policy, Registers};
+use dw_num::{ReadError, Target};
+use dw_section::{Ranged, check};
+use dw_unwind::{Column, Frame as CallerFrame, FrameRoom, UnwindAtError, UnwindError, unwind_at};
+use std::alloc::Global;
 
 /// The column of the CFA, beside those of registers.
 pub(crate) const COLUMN_CFA: u32 = 65536;
@@ -71,7 +71,7 @@ pub struct Fault {
     pub len: usize,
 }
 
-pub(crate) fn policy_of(unset: u32) -> Option<Policy>
+fn policy_of(unset: u32) -> Option<Policy>
     ensures { result ≡ policy_of unset }
 {
     match unset {
@@ -81,50 +81,21 @@ pub(crate) fn policy_of(unset: u32) -> Option<Policy>
     }
 }
 
-fn column_of(column: Column) -> u32
-    ensures { result ≡ column_of column }
+// A fault in a column: of an expression with its kind and index, of a read with what it reads, of a register with its number.
+fn fault_in(column: Column, kind: u16, index: usize, address: u64, len: usize, wanted: u16) -> Fault
+    ensures { result ≡ record { column = column_of column; kind = kind; wanted = wanted; index = index; address = address; len = len } }
 {
-    match column {
+    let column = match column {
         Column::Cfa => COLUMN_CFA,
         Column::Register(register) => u32::from(register),
-    }
-}
-
-pub(crate) fn status_of(error: UnwindError) -> u32
-    ensures { result ≡ status_of error }
-{
-    match error {
-        UnwindError::NoFde => NO_FDE,
-        UnwindError::Eval { .. } => NO_VALUE,
-        UnwindError::Unreadable { .. } => UNREADABLE,
-        UnwindError::NoRegister { .. } => NO_REGISTER,
-        UnwindError::Device { .. } => DEVICE,
-        UnwindError::OutOfMemory => OUT_OF_MEMORY,
-    }
-}
-
-fn fault_of_read(column: Column, kind: u16, index: usize, address: u64, len: usize) -> Fault
-    ensures { result ≡ fault_of_read column kind index address len }
-{
+    };
     Fault {
-        column: column_of(column),
+        column,
         kind,
+        wanted,
         index,
         address,
         len,
-        ..Fault::default()
-    }
-}
-
-fn fault_of_register(column: Column, kind: u16, index: usize, register: u16) -> Fault
-    ensures { result ≡ fault_of_register column kind index register }
-{
-    Fault {
-        column: column_of(column),
-        kind,
-        wanted: register,
-        index,
-        ..Fault::default()
     }
 }
 
@@ -132,54 +103,78 @@ pub(crate) fn fault_of_kind(kind: Kind, index: usize, column: Column) -> Fault
     ensures { result ≡ fault_of_kind kind index column }
 {
     match kind {
-        Kind::Unreadable { address, len } => fault_of_read(column, 4, index, address, len),
-        Kind::NoRegister { register } => fault_of_register(column, 3, index, register),
-        other => fault_of_register(column, u16::from(other.number()), index, 0),
+        Kind::Unreadable { address, len } => fault_in(column, 4, index, address, len, 0),
+        Kind::NoRegister { register } => fault_in(column, 3, index, 0, 0, register),
+        other => fault_in(column, u16::from(other.number()), index, 0, 0, 0),
     }
 }
 
-/// There is no frame.
-pub(crate) const NO_FRAME: Frame = Frame {
+// There is no frame.
+const NO_FRAME: Frame = Frame {
     cfa: 0,
     count: 0,
     return_register: 0,
     reserved: [0; 3],
 };
 
-pub(crate) fn told_fault(error: UnwindError) -> Fault
-    ensures { result ≡ told_fault error }
+// The status and the fault where there is no frame.
+fn told_fault(error: UnwindError) -> (u32, Fault)
+    ensures status { result.0 ≡ status_of error }
+    ensures fault { result.1 ≡ told_fault error }
 {
     match error {
         UnwindError::Eval {
             kind,
             index,
             column,
-        } => fault_of_kind(kind, index, column),
+        } => (Status::NoValue as u32, fault_of_kind(kind, index, column)),
         UnwindError::Unreadable {
             column,
             address,
             len,
-        } => fault_of_read(column, 0, 0, address, len),
-        UnwindError::NoRegister { column, register } => fault_of_register(column, 0, 0, register),
-        UnwindError::Device { column } => fault_of_register(column, 0, 0, 0),
-        UnwindError::NoFde | UnwindError::OutOfMemory => Fault::default(),
+        } => (
+            Status::Unreadable as u32,
+            fault_in(column, 0, 0, address, len, 0),
+        ),
+        UnwindError::NoRegister { column, register } => {
+            (
+                Status::NoRegister as u32,
+                fault_in(column, 0, 0, 0, 0, register),
+            )
+        }
+        UnwindError::Device { column } => (Status::Device as u32, fault_in(column, 0, 0, 0, 0, 0)),
+        UnwindError::NoFde => (Status::NoFde as u32, Fault::default()),
+        UnwindError::OutOfMemory => (Status::OutOfMemory as u32, Fault::default()),
     }
 }
 
-/// What a machine held.
-#[repr(C)]
-#[derive(Clone, Copy)]
-pub struct Held<'a> {
-    /// Its registers.
-    pub registers: &'a [Register],
-    /// Which addresses of its memory are there.
-    pub windows: &'a [Window],
-    /// The buffer that the windows are over.
-    pub memory: &'a [u8],
+fn told_register(entry: (u16, Option<u64>)) -> Register
+    ensures { result ≡ told_register entry }
+{
+    let (number, value) = entry;
+    Register {
+        number,
+        known: u16::from(value.is_some()),
+        reserved: 0,
+        value: value.unwrap_or(0),
+    }
+}
+
+// Writes registers to the front of a buffer, where they fit.
+fn put_registers(entries: &[(u16, Option<u64>)], out: &mut [Register]) -> u32
+    ensures { AreTold (map told_register entries.now) out.old result out.new }
+{
+    if out.len() < entries.len() {
+        return Status::TooShort as u32;
+    }
+    'entries: for place in 0..entries.len() {
+        out[place] = told_register(entries[place]);
+    }
+    Status::Ok as u32
 }
 
 // Writes a frame.
-pub(crate) fn put_frame(found: &CallerFrame<'_>, out: &mut [Register], frame: &mut Frame) -> u32
+fn put_frame(found: &CallerFrame<'_>, out: &mut [Register], frame: &mut Frame) -> u32
     ensures frame { frame.new ≡ told_frame found.now }
     ensures registers { AreTold (map told_register found.now.registers) out.old result out.new }
 {
@@ -190,4 +185,152 @@ pub(crate) fn put_frame(found: &CallerFrame<'_>, out: &mut [Register], frame: &m
         reserved: [0; 3],
     };
     put_registers(found.registers.values(), out)
+}
+
+// The frame over registers and memory, or why there is none. The room is made first, in a function of its own: it is moved else.
+fn frame_in<'r>(
+    alloc: Global,
+    bytes: &[u8],
+    target: Target,
+    index: &[Ranged],
+    stop: &Stop,
+    default: Policy,
+    registers: &Registers,
+    memory: &mut Held<'_>,
+    frame_room: &'r mut FrameRoom,
+) -> Result<CallerFrame<'r>, UnwindAtError>
+    ensures any { (result ≡ Err (TheUnwindAtError.Unwind TheUnwindError.OutOfMemory)) ⊎ UnwoundAt target bytes.now index.now stop.now.pc (stopped target registers.now (byte_among memory.old.memory.now memory.old.windows.now)) default stop.now.steps result }
+    ensures own { IsTable target bytes.now index.now → IsOwn (Unwound target bytes.now stop.now.pc (stopped target registers.now (byte_among memory.old.memory.now memory.old.windows.now)) default stop.now.steps) result }
+{
+    let mut room = RowRoom::new(alloc);
+    let (pc, steps) = (stop.pc, stop.steps);
+    unwind_at(
+        alloc, bytes, target, index, pc, &mut room, frame_room, registers, memory, default, steps,
+    )
+}
+
+// The frame of what a machine held, or why there is none.
+fn frame_at<'r>(
+    alloc: Global,
+    bytes: &[u8],
+    target: Target,
+    index: &[Ranged],
+    stop: &Stop,
+    default: Policy,
+    held: &Held<'_>,
+    room: &'r mut FrameRoom,
+) -> Result<CallerFrame<'r>, UnwindAtError>
+    ensures any { MatchResult result (λ f. IsFrameAt target default bytes.now index.now stop.now (held_in held.now) (Ok f)) (Why target default bytes.now index.now stop.now (held_in held.now)) }
+    ensures own { IsTable target bytes.now index.now → MatchResult result (λ f. IsFrame target default bytes.now stop.now (held_in held.now) (Ok f)) (WhyOwn target default bytes.now stop.now (held_in held.now)) }
+{
+    let mut registers = Registers::new(alloc);
+    let Ok(()) = give_all(&mut registers, held.registers) else {
+        return Err(UnwindAtError::Unwind(UnwindError::OutOfMemory));
+    };
+    let mut lent = *held;
+    frame_in(
+        alloc, bytes, target, index, stop, default, &registers, &mut lent, room,
+    )
+}
+
+// Writes the frame, or answers why there is none. The room is made first here too.
+fn unwound_at(
+    alloc: Global,
+    bytes: &[u8],
+    target: Target,
+    index: &[Ranged],
+    stop: &Stop,
+    default: Policy,
+    held: &Held<'_>,
+    out: &mut [Register],
+    frame: &mut Frame,
+) -> Result<u32, UnwindAtError>
+    ensures any { MatchResult result (λ status. (f : TheCallerFrame) × IsFrameAt target default bytes.now index.now stop.now (held_in held.now) (Ok f) × (frame.new ≡ told_frame f) × AreTold (map told_register f.registers) out.old status out.new) (Why target default bytes.now index.now stop.now (held_in held.now)) }
+    ensures own { IsTable target bytes.now index.now → MatchResult result (λ status. (f : TheCallerFrame) × IsFrame target default bytes.now stop.now (held_in held.now) (Ok f) × (frame.new ≡ told_frame f) × AreTold (map told_register f.registers) out.old status out.new) (WhyOwn target default bytes.now stop.now (held_in held.now)) }
+    ensures kept { OnErr result ((frame.new ≡ frame.old) × (out.new ≡ out.old)) }
+{
+    let mut room = FrameRoom::new(alloc);
+    match frame_at(alloc, bytes, target, index, stop, default, held, &mut room) {
+        Ok(found) => Ok(put_frame(&found, out, frame)),
+        Err(error) => Err(error),
+    }
+}
+
+/// The caller's frame as `dwframe_unwind` tells it, by an index of the section, which is not judged again: the FDE that stands
+/// at the place of the entry that covers the address is read and judged anew, so an index of other bytes is answered by what they
+/// say there, or by a status. Where a byte or a register is missing, `fault` tells which one was wanted first, so a caller can give
+/// it and ask again.
+#[unsafe(no_mangle)]
+pub extern "C" fn dwframe_unwind_at(
+    alloc: Global,
+    section: &Section<'_>,
+    index: &[Ranged],
+    stop: &Stop,
+    held: &Held<'_>,
+    out: &mut [Register],
+    frame: &mut Frame,
+    refused: &mut Refused,
+    fault: &mut Fault,
+) -> u32
+    // By the index of an accepted section it tells what `dwframe_unwind` tells.
+    ensures own { let told : Told = record { status = result; registers = out.new; frame = frame.new; refusal = refused.new; fault = fault.new } in IsOwnUnwound (target_of section.now.address_size section.now.byte_order) (policy_of stop.now.unset) section.now.bytes.now index.now stop.now (held_in held.now) out.old told }
+    // By any other it tells the frame by the FDE that stands where the index leads, or why there is none.
+    ensures any { let told : Told = record { status = result; registers = out.new; frame = frame.new; refusal = refused.new; fault = fault.new } in IsAnyUnwound (target_of section.now.address_size section.now.byte_order) (policy_of stop.now.unset) section.now.bytes.now index.now stop.now (held_in held.now) out.old told }
+{
+    *frame = NO_FRAME;
+    *refused = Refused::default();
+    *fault = Fault::default();
+    let Some(target) = target_of(section.address_size, section.byte_order) else {
+        return Status::BadArgument as u32;
+    };
+    let Some(default) = policy_of(stop.unset) else {
+        return Status::BadArgument as u32;
+    };
+    let bytes = section.bytes;
+    match unwound_at(alloc, bytes, target, index, stop, default, held, out, frame) {
+        Ok(status) => status,
+        Err(UnwindAtError::BadIndex) => Status::BadIndex as u32,
+        Err(UnwindAtError::Refused(refusal)) => refuse(refused, 1, refusal),
+        Err(UnwindAtError::Unwind(error)) => {
+            let (status, told) = told_fault(error);
+            *fault = told;
+            status
+        }
+    }
+}
+
+/// The caller's frame of a machine that stopped: the CFA, and in `out` the registers, ascending. The section is judged first, and
+/// the address looked up by its index. Where there is no frame, the refusal or the fault says why, and `out` stays.
+#[unsafe(no_mangle)]
+pub extern "C" fn dwframe_unwind(
+    alloc: Global,
+    section: &Section<'_>,
+    stop: &Stop,
+    held: &Held<'_>,
+    out: &mut [Register],
+    frame: &mut Frame,
+    refused: &mut Refused,
+    fault: &mut Fault,
+) -> u32
+    ensures { let told : Told = record { status = result; registers = out.new; frame = frame.new; refusal = refused.new; fault = fault.new } in IsUnwound (target_of section.now.address_size section.now.byte_order) (policy_of stop.now.unset) section.now.bytes.now stop.now (held_in held.now) out.old told }
+{
+    *frame = NO_FRAME;
+    *refused = Refused::default();
+    *fault = Fault::default();
+    let Some(target) = target_of(section.address_size, section.byte_order) else {
+        return Status::BadArgument as u32;
+    };
+    let Some(_) = policy_of(stop.unset) else {
+        return Status::BadArgument as u32;
+    };
+    match check(alloc, section.bytes, target) {
+        Ok(table) => {
+            let index = table.index();
+            dwframe_unwind_at(
+                alloc, section, index, stop, held, out, frame, refused, fault,
+            )
+        }
+        Err(ReadError::Refused(refusal)) => refuse(refused, 1, refusal),
+        Err(ReadError::OutOfMemory) => Status::OutOfMemory as u32,
+    }
 }

@@ -4,10 +4,10 @@ ghost use Rattle.std.specs.Prelude.{◌≡◌, ◌⊎◌, Err};
 ghost use Rattle.dw_eval.specs.declared.error.EvalError.TheVariants.{OutOfMemory};
 ghost use Rattle.dw_library.specs.{Answers.target_of, CallerFrame.held_in, Evaluation.{IsEvaluated, Told, ValueOf, known_if}};
 
-use crate::answer::{BAD_ARGUMENT, OK, OUT_OF_MEMORY, Refused, refuse, target_of};
-use crate::caller::{Fault, Held, NO_VALUE, fault_of_kind};
-use crate::registers::give_all;
-use crate::windows::Windows;
+use crate::answer::{Refused, refuse, target_of};
+use crate::caller::{Fault, fault_of_kind};
+use crate::held::{Held, give_all};
+use crate::names::Status;
 use dw_eval::{Env, EvalError, Registers, evaluate};
 use dw_num::ReadError;
 use dw_op::{OpList, Profile, decode};
@@ -64,10 +64,6 @@ fn value_of(
     let Ok(()) = give_all(&mut registers, held.registers) else {
         return Err(EvalError::OutOfMemory);
     };
-    let mut memory = Windows {
-        windows: held.windows,
-        bytes: held.memory,
-    };
     let env = Env {
         target: list.target(),
         registers: &registers,
@@ -76,7 +72,7 @@ fn value_of(
         object: known_if(context.has_object, context.object),
     };
     let start = known_if(context.has_start, context.start);
-    evaluate(alloc, list, start, &env, &mut memory, context.steps)
+    evaluate(alloc, list, start, &env, &mut { *held }, context.steps)
 }
 
 /// The value of an expression by itself (2.5), whose block is read for a location description's operations: what is on top of the
@@ -97,21 +93,21 @@ pub extern "C" fn dwframe_evaluate(
     *refused = Refused::default();
     *fault = Fault::default();
     let Some(target) = target_of(context.address_size, context.byte_order) else {
-        return BAD_ARGUMENT;
+        return Status::BadArgument as u32;
     };
     match decode(alloc, block, target, Profile::Location) {
         Ok(list) => match value_of(alloc, &list, context, held) {
             Ok(found) => {
                 *value = found;
-                OK
+                Status::Ok as u32
             }
             Err(EvalError::Fault { kind, index }) => {
                 *fault = fault_of_kind(kind, index, Column::Register(0));
-                NO_VALUE
+                Status::NoValue as u32
             }
-            Err(EvalError::OutOfMemory) => OUT_OF_MEMORY,
+            Err(EvalError::OutOfMemory) => Status::OutOfMemory as u32,
         },
         Err(ReadError::Refused(refusal)) => refuse(refused, 1, refusal),
-        Err(ReadError::OutOfMemory) => OUT_OF_MEMORY,
+        Err(ReadError::OutOfMemory) => Status::OutOfMemory as u32,
     }
 }

@@ -1,14 +1,12 @@
 //! The expressions of a row, in buffers that the caller lends.
 
 ghost use Rattle.std.specs.Prelude.{◌≡◌, ◌⊎◌, [], ◌∷◌, IfOk, OnOk};
-ghost use Rattle.dw_library.specs.{Answers.{out_of_memory, target_of}, Expressions.{AreAnyExpressions, AreBlocks, AreExpressions, ArePut, Buffers}};
+ghost use Rattle.dw_library.specs.{Answers.{out_of_memory, target_of}, Expressions.{AreAnyExpressions, AreBlocks, AreExpressions, Buffers}};
 ghost use Rattle.dw_library.specs.{Expressions.{TellsBlocks, Told, expressions_of, in_cfa, in_rule, no_blocks, says}, Inner.Expressions.Adds};
 
-use crate::answer::{
-    BAD_ARGUMENT, BAD_INDEX, NO_FDE, OK, OUT_OF_MEMORY, Refused, Section, TOO_SHORT, refuse,
-    target_of,
-};
+use crate::answer::{Refused, Section, refuse, target_of};
 use crate::caller::COLUMN_CFA;
+use crate::names::Status;
 use dw_cfa::{CfaRule, RegRule, Row, RowRoom};
 use dw_op::ExprRef;
 use dw_section::{LookUpError, Ranged, look_up};
@@ -98,19 +96,7 @@ fn gather(alloc: Global, row: &Row<'_>) -> Result<Gathered, AllocError>
     Ok(all)
 }
 
-// Writes blocks and bytes to the fronts of two buffers, where both fit.
-fn put(all: &Gathered, bytes: &mut [u8], blocks: &mut [Block]) -> u32
-    ensures { ArePut all.now.blocks.items all.now.bytes.items (record { blocks = blocks.old; bytes = bytes.old }) result (record { blocks = blocks.new; bytes = bytes.new }) }
-{
-    if blocks.len() < all.blocks.len() || bytes.len() < all.bytes.len() {
-        return TOO_SHORT;
-    }
-    blocks[..all.blocks.len()].copy_from_slice(&all.blocks);
-    bytes[..all.bytes.len()].copy_from_slice(&all.bytes);
-    OK
-}
-
-// Writes the expressions of a row.
+// Writes the expressions of a row to the fronts of two buffers, where both fit.
 fn put_blocks(
     alloc: Global,
     row: &Row<'_>,
@@ -122,13 +108,16 @@ fn put_blocks(
     ensures { let old : Buffers = record { blocks = blocks.old; bytes = bytes.old } in let told : Told = record { status = result; buffers = record { blocks = blocks.new; bytes = bytes.new }; all = all.new } in TellsBlocks row.now old told ⊎ (told ≡ says out_of_memory old) }
 {
     let Ok(gathered) = gather(alloc, row) else {
-        return OUT_OF_MEMORY;
+        return Status::OutOfMemory as u32;
     };
-    *all = Blocks {
-        count: gathered.blocks.len(),
-        len: gathered.bytes.len(),
-    };
-    put(&gathered, bytes, blocks)
+    let (count, len) = (gathered.blocks.len(), gathered.bytes.len());
+    *all = Blocks { count, len };
+    if blocks.len() < count || bytes.len() < len {
+        return Status::TooShort as u32;
+    }
+    blocks[..count].copy_from_slice(&gathered.blocks);
+    bytes[..len].copy_from_slice(&gathered.bytes);
+    Status::Ok as u32
 }
 
 /// The expressions of the row at an address, by an index: that of the CFA, and then those of the registers, ascending. Each is
@@ -153,14 +142,14 @@ pub extern "C" fn dwframe_expressions_at(
     *all = Blocks::default();
     *refused = Refused::default();
     let Some(target) = target_of(section.address_size, section.byte_order) else {
-        return BAD_ARGUMENT;
+        return Status::BadArgument as u32;
     };
     let mut room = RowRoom::new(alloc);
     match look_up(section.bytes, target, index, address, &mut room) {
         Ok(Some(_)) => put_blocks(alloc, room.row(), expressions, blocks, all),
-        Ok(None) => NO_FDE,
+        Ok(None) => Status::NoFde as u32,
         Err(LookUpError::Refused(refusal)) => refuse(refused, 1, refusal),
-        Err(LookUpError::BadIndex) => BAD_INDEX,
-        Err(LookUpError::OutOfMemory) => OUT_OF_MEMORY,
+        Err(LookUpError::BadIndex) => Status::BadIndex as u32,
+        Err(LookUpError::OutOfMemory) => Status::OutOfMemory as u32,
     }
 }

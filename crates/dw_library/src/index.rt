@@ -7,10 +7,8 @@ ghost use Rattle.dw_section.specs.declared.standing_fde.LookUpError.TheVariants 
 ghost use Rattle.dw_library.specs.{Answers.target_of, Index.{HasSize, IsAnyRow, IsIndexed, IsRow, IsTold, TellsFde, TellsRow}};
 ghost use Rattle.dw_library.specs.Index.{TellsRules, Told, cfa_kind_of, cfa_offset_of, cfa_register_of, no_row, over, row_of, rule_of};
 
-use crate::answer::{
-    BAD_ARGUMENT, BAD_INDEX, NO_FDE, OK, OUT_OF_MEMORY, Refused, Section, TOO_SHORT, put_at,
-    put_front, refuse, target_of,
-};
+use crate::answer::{Refused, Section, put_at, put_front, refuse, target_of};
+use crate::names::Status;
 use dw_cfa::{CfaRule, RegRule, Row as CfaRow, RowRoom};
 use dw_num::{ReadError, Target};
 use dw_section::{Fde, LookUpError, Ranged, check, look_up};
@@ -65,19 +63,11 @@ pub extern "C" fn dwframe_index_size(
 ) -> u32
     ensures { HasSize (target_of section.now.address_size section.now.byte_order) section.now.bytes.now result size.new refused.new }
 {
-    *size = 0;
-    *refused = Refused::default();
-    let Some(target) = target_of(section.address_size, section.byte_order) else {
-        return BAD_ARGUMENT;
-    };
-    match check(alloc, section.bytes, target) {
-        Ok(table) => {
-            *size = table.index().len();
-            OK
-        }
-        Err(ReadError::Refused(refusal)) => refuse(refused, 1, refusal),
-        Err(ReadError::OutOfMemory) => OUT_OF_MEMORY,
+    let status = dwframe_index(alloc, section, &mut [], size, refused);
+    if status == Status::TooShort as u32 {
+        return Status::Ok as u32;
     }
+    status
 }
 
 /// Writes the index of a section to the front of `out`, and how many entries it has to `written`. Where `out` is shorter it
@@ -95,7 +85,7 @@ pub extern "C" fn dwframe_index(
     *written = 0;
     *refused = Refused::default();
     let Some(target) = target_of(section.address_size, section.byte_order) else {
-        return BAD_ARGUMENT;
+        return Status::BadArgument as u32;
     };
     match check(alloc, section.bytes, target) {
         Ok(table) => {
@@ -104,7 +94,7 @@ pub extern "C" fn dwframe_index(
             put_front(index, out)
         }
         Err(ReadError::Refused(refusal)) => refuse(refused, 1, refusal),
-        Err(ReadError::OutOfMemory) => OUT_OF_MEMORY,
+        Err(ReadError::OutOfMemory) => Status::OutOfMemory as u32,
     }
 }
 
@@ -139,8 +129,8 @@ fn any_rule(number: u16, rule: &RegRule<'_>) -> Rule
     }
 }
 
-/// Writes the rules of a row to the front of a buffer, as many as fit, and tells how many there are.
-pub(crate) fn put_rules(row: &CfaRow<'_>, out: &mut [Rule]) -> usize
+// Writes the rules of a row to the front of a buffer, as many as fit, and tells how many there are.
+fn put_rules(row: &CfaRow<'_>, out: &mut [Rule]) -> usize
     ensures count { result ≡ length row.now.registers }
     ensures rules { out.new ≡ over (map rule_of row.now.registers) out.old }
 {
@@ -173,15 +163,16 @@ fn told_cfa(rule: &CfaRule<'_>) -> (u32, u16, i64)
     }
 }
 
-/// What is told of an FDE and of a row of it, which has rules for so many registers.
+/// What is told of an FDE and of a row of it, whose rules are written to the front of a buffer, as many as fit.
 #[inline(always)]
-pub(crate) fn told_row(fde: Fde, rules: &CfaRow<'_>, count: usize) -> Row
+pub(crate) fn told_row(fde: Fde, row: &CfaRow<'_>, out: &mut [Rule]) -> Row
     requires range { (range : ℕ) × (range < 2 ^ 64) × (fde.end ≡ fde.begin + range) }
-    requires count { count ≡ length rules.now.registers }
-    ensures told { IsTold (record { fde = fde; row = rules.now }) result }
-    ensures exact { result ≡ row_of fde rules.now }
+    ensures told { IsTold (record { fde = fde; row = row.now }) result }
+    ensures exact { result ≡ row_of fde row.now }
+    ensures rules { out.new ≡ over (map rule_of row.now.registers) out.old }
 {
-    let (cfa_kind, cfa_register, cfa_offset) = told_cfa(rules.cfa_rule());
+    let count = put_rules(row, out);
+    let (cfa_kind, cfa_register, cfa_offset) = told_cfa(row.cfa_rule());
     Row {
         begin: fde.begin,
         range: (fde.end - u128::from(fde.begin)) as u64,
@@ -198,9 +189,12 @@ fn tell(found: Fde, rules: &CfaRow<'_>, out: &mut [Rule], row: &mut Row) -> u32
     requires { (range : ℕ) × (range < 2 ^ 64) × (found.end ≡ found.begin + range) }
     ensures { TellsRow (record { fde = found; row = rules.now }) out.old (record { status = result; row = row.new; rules = out.new }) }
 {
-    let count = put_rules(rules, out);
-    *row = told_row(found, rules, count);
-    if count <= out.len() { OK } else { TOO_SHORT }
+    *row = told_row(found, rules, out);
+    if row.count <= out.len() {
+        Status::Ok as u32
+    } else {
+        Status::TooShort as u32
+    }
 }
 
 // Writes the row of an address, or answers why there is none.
@@ -222,7 +216,7 @@ fn put_row(
 {
     let mut room = RowRoom::new(alloc);
     let Some(found) = look_up(bytes, target, index, address, &mut room)? else {
-        return Ok(NO_FDE);
+        return Ok(Status::NoFde as u32);
     };
     Ok(tell(found, room.row(), out, row))
 }
@@ -247,12 +241,12 @@ pub extern "C" fn dwframe_row_at(
     *row = Row::default();
     *refused = Refused::default();
     let Some(target) = target_of(section.address_size, section.byte_order) else {
-        return BAD_ARGUMENT;
+        return Status::BadArgument as u32;
     };
     match put_row(alloc, section.bytes, target, index, address, rules, row) {
         Ok(status) => status,
         Err(LookUpError::Refused(refusal)) => refuse(refused, 1, refusal),
-        Err(LookUpError::BadIndex) => BAD_INDEX,
-        Err(LookUpError::OutOfMemory) => OUT_OF_MEMORY,
+        Err(LookUpError::BadIndex) => Status::BadIndex as u32,
+        Err(LookUpError::OutOfMemory) => Status::OutOfMemory as u32,
     }
 }

@@ -5,16 +5,12 @@
 //! `BAD_ARGUMENT`, and each that takes an `alloc` may answer `OUT_OF_MEMORY`.
 #![tactic(auto)]
 
-mod acceptance;
 mod answer;
 mod caller;
-mod changes;
 mod evaluation;
 mod expressions;
-mod forms;
-mod frame_at;
+mod held;
 mod index;
-mod looks;
 mod names;
-mod registers;
-mod windows;
+mod rows;
+mod sections;

@@ -1,83 +1,70 @@
--- Two tables side by side.
-use Rattle.dw_normal.proofs.Words.{◌≡◌, ℕ, ◌≤◌, Bool, true, false, List, [], ◌∷◌, length, take, Option, Some, None, Ok, refl, sym, ap, ◌∙◌, arith, Decides, take_all, not, is_some, Result, Err}
-use Rattle.dw_normal.proofs.{Words.{IfOk, Rules, Fde, Changing, GivesAddress, Member, fde_of, changes_of, row_or_blank, shown_row}, ChangesToCome.{Given, given, head_same, none_given, tail_same}}
+-- Two tables whose normal forms are compared, entry by entry.
+use Rattle.dw_normal.proofs.Words.{◌≡◌, ◌↔◌, ℕ, ◌+◌, ◌<◌, ◌++◌, Bool, true, false, not, refl, Decides, IsTrue, IfOk, List, length, take, drop, get_or, Result, Ok, Err, sym, ap, ◌∙◌, fixed_bytes, length-fixed, Target, Rules, Member, contents, entry_bytes}
+use Rattle.dw_normal.proofs.{Words.{canon, initial_rows, cies_bytes, fdes_bytes, fde_with, Likens}, Entries.{canon_both, fdes_then}}
+use Rattle.std.proofs.{Math.Dec.eqb, lemmas.List.drop_at, lemmas.Bool.{eq-eqb, eqb-true}, lemmas.Slice.Eq.slice_eq-Decides}
+use Rattle.std.specs.Cmp.Lexicographic.{pointwise}
+use Rattle.dw_num.specs.declared.target.Form.TheVariants.{Dwarf32}
+use Rattle.dw_section.specs.Cut.{entry, item_bytes}
 
--- ---- answers
+pub untrue : {P : Type 0} (b : Bool) → b ≡ false → IsTrue b → P
+untrue b e is = absurd cc
 
-pub untrue : false ≡ true → ⊥
-untrue e = absurd cc
+module _ {t u : Target} (same : t ≡ u) (ms ns : List Member) (k : ℕ) (d : Member) where
+  -- an FDE of one table, and that of another at its place
+  abbrev held : Target → List Member → List ℕ
+  held v xs = fixed_bytes v.order 4 0 ++ contents v (fde_with v xs (get_or xs k d))
 
-pub not_so : (P : Type 0) → (P → ⊥) → Decides false P
-not_so P f = (λ e. absurd (untrue e), λ h. absurd (f h))
+  abbrev entry_at : Target → List Member → List ℕ
+  entry_at v xs = entry_bytes v (fde_with v xs (get_or xs k d))
 
-decided : {P : Type 0} (b : Bool) (o : Option ℕ) → is_some o ≡ not b → (o ≡ None → P) → ((n : ℕ) → o ≡ Some n → P → ⊥) → Decides b P
-decided true None e f g = (λ k. f refl, λ h. refl)
-decided false None e f g = absurd cc
-decided true (Some n) e f g = absurd cc
-decided false (Some n) e f g = not_so _ (g n refl)
+  held_entry : (xs : List Member) → held t ms ≡ held t xs → entry_at t ms ≡ entry_at t xs
+  held_entry xs e =
+      let own = drop_at (fixed_bytes t.order 4 0) (contents t (fde_with t ms (get_or ms k d))) 4 (length-fixed t.order 4 0) in
+      let other = drop_at (fixed_bytes t.order 4 0) (contents t (fde_with t xs (get_or xs k d))) 4 (length-fixed t.order 4 0) in
+      let inner : contents t (fde_with t ms (get_or ms k d)) ≡ contents t (fde_with t xs (get_or xs k d)) = sym own ∙ ap (drop 4) e ∙ other in
+      ap (λ (l : List ℕ). item_bytes t.order (entry Dwarf32 l)) inner
 
-pub if_ok : {A E : Type 0} (P Q : A → Type 0) (r : Result A E) → ((x : A) → P x → Q x) → IfOk r P → IfOk r Q
-if_ok P Q (Ok x) f h = f x h
-if_ok P Q (Err e) f h = tt
+  pub fdes_like : (x y : List ℕ) → x ≡ held t ms → y ≡ held u ns → (b : Bool) → IsTrue b ↔ x ≡ y → Likens (ms ≡ ns) (entry_at t ms ≡ entry_at u ns) b
+  fdes_like x y mine other b is = (
+    λ e. is.1 (mine ∙ ap (held t) e ∙ ap (λ (v : Target). held v ns) same ∙ sym other),
+    λ yes. held_entry ns (sym mine ∙ is.0 yes ∙ other ∙ ap (λ (v : Target). held v ns) (sym same)) ∙ ap (λ (v : Target). entry_at v ns) same,
+  )
 
-pub apart : (b : Bool) → b ≡ true → b ≡ false → ⊥
-apart b e f = absurd cc
+  -- one FDE more
+  pub fdes_more_like : k < length ms → k < length ns → fdes_bytes t ms (take k ms) ≡ fdes_bytes u ns (take k ns) → entry_at t ms ≡ entry_at u ns → fdes_bytes t ms (take (k + 1) ms) ≡ fdes_bytes u ns (take (k + 1) ns)
+  fdes_more_like lt lt' before own =
+      fdes_then t ms k d lt ∙ ap (λ (l : List ℕ). l ++ entry_at t ms) before ∙ ap (λ (l : List ℕ). fdes_bytes u ns (take k ns) ++ l) own ∙ sym (fdes_then u ns k d lt')
 
--- ---- changes side by side
+-- ---- the whole
 
-abbrev pair : ℕ → Rules → ℕ × Rules
-pair at row = (at, row)
+-- the CIEs are those of the members
+cies_as : {t u : Target} → t ≡ u → (ms ns : List Member) (rows others : List (ℕ × Rules)) → rows ≡ initial_rows ms → others ≡ initial_rows ns → ms ≡ ns → cies_bytes t rows ≡ cies_bytes u others
+cies_as {t = t} {u = u} same ms ns rows others is is' e = ap (cies_bytes t) (is ∙ ap initial_rows e ∙ sym is') ∙ ap (λ (v : Target). cies_bytes v others) same
 
--- what is still to come of both is equal exactly where all of both is
-pub record Beside (xs ys : List (ℕ × Rules)) (first second : Changing) : Type 0 where
-  pub all : first.to_come ≡ second.to_come → xs ≡ ys
-  pub part : xs ≡ ys → first.to_come ≡ second.to_come
+pub cies_unlike : {t u : Target} → t ≡ u → (ms ns : List Member) (rows others : List (ℕ × Rules)) → rows ≡ initial_rows ms → others ≡ initial_rows ns → (cies_bytes t rows ≡ cies_bytes u others → ⊥) → ms ≡ ns → ⊥
+cies_unlike same ms ns rows others is is' not e = not (cies_as same ms ns rows others is is' e)
 
-module _ {xs ys : List (ℕ × Rules)} {first second : Changing} (h : Beside xs ys first second) where
-  -- the second one gives none any more
-  pub too_short : {next : Changing} {a : ℕ} → Given first next a → second.to_come ≡ [] → xs ≡ ys → ⊥
-  too_short n none same = let both = sym none ∙ sym (h.part same) ∙ n.come in absurd cc
+pub canon_like : (t u : Target) (ms ns : List Member) (rows others : List (ℕ × Rules)) → rows ≡ initial_rows ms → others ≡ initial_rows ns → cies_bytes t rows ≡ cies_bytes u others
+    → fdes_bytes t ms ms ≡ fdes_bytes u ns ns → canon t ms ≡ canon u ns
+canon_like t u ms ns rows others is is' cies fdes =
+    sym (canon_both t ms rows is) ∙ ap (λ (l : List ℕ). l ++ fdes_bytes t ms ms) cies ∙ ap (λ (l : List ℕ). cies_bytes u others ++ l) fdes ∙ canon_both u ns others is'
 
-  -- the second one gives more
-  too_long : {later : Changing} {b : ℕ} → first.to_come ≡ [] → Given second later b → xs ≡ ys → ⊥
-  too_long none m same = let both = sym none ∙ h.part same ∙ m.come in absurd cc
+pub if_likens : {E : Type 0} (A B C : Type 0) (r : Result Bool E) → (B → C) → IfOk r (Likens A B) → IfOk r (Likens A C)
+if_likens A B C (Ok b) f h = (h.0, λ yes. f (h.1 yes))
+if_likens A B C (Err e) f h = tt
 
-  pub ends : first.to_come ≡ [] → (E : Type 0) (later : Changing) (p : Option ℕ) → GivesAddress {E = E} second (Ok p) later → (b : Bool) → is_some p ≡ not b → Decides b (xs ≡ ys)
-  ends none E later p k b some = decided b p some (λ e. h.all (none ∙ sym (none_given E second later p k e))) (λ n e. too_long none (given E second later p n k e))
+-- ---- bytes that are compared
 
-  module _ {next later : Changing} {a b : ℕ} (n : Given first next a) (m : Given second later b) where
-    heads : xs ≡ ys → pair a (shown_row next) ≡ pair b (shown_row later)
-    heads same = head_same (pair a (shown_row next)) (pair b (shown_row later)) next.to_come later.to_come (sym n.come ∙ h.part same ∙ m.come)
+told : (xs ys : List ℕ) → Decides (pointwise eqb xs ys) (xs ≡ ys)
+told xs ys = slice_eq-Decides (λ a b. (eqb-true a b, eq-eqb a b)) xs ys _ refl
 
-    pub same_address : xs ≡ ys → a ≡ b
-    same_address same = ap (λ (x : ℕ × Rules). x.0) (heads same)
+ne_tells : (p r : Bool) → r ≡ not p → (r ≡ true → p ≡ false) × (r ≡ false → p ≡ true)
+ne_tells true r e = (λ f. absurd cc, λ f. refl)
+ne_tells false r e = (λ f. refl, λ f. absurd cc)
 
-    pub same_shown : xs ≡ ys → next.shown ≡ later.shown
-    same_shown same = n.shown ∙ ap (λ (x : ℕ × Rules). Some x.1) (heads same) ∙ sym m.shown
+module _ (xs ys : List ℕ) (r : Bool) (is : r ≡ not (pointwise eqb xs ys)) where
+  pub unlike : r ≡ true → xs ≡ ys → ⊥
+  unlike e same = let no = (ne_tells (pointwise eqb xs ys) r is).0 e in let yes' = (told xs ys).1 same in absurd cc
 
-    pub beside_more : a ≡ b → next.shown ≡ later.shown → Beside xs ys next later
-    beside_more at rows =
-        let head : pair a (shown_row next) ≡ pair b (shown_row later) = ap (λ (q : ℕ). pair q (shown_row next)) at ∙ ap (λ (r : Option Rules). pair b (row_or_blank r)) rows in
-        record {
-          all = λ e. h.all (n.come ∙ ap (λ (x : ℕ × Rules). x ∷ next.to_come) head ∙ ap (λ (l : List (ℕ × Rules)). pair b (shown_row later) ∷ l) e ∙ sym m.come);
-          part = λ same. tail_same (pair a (shown_row next)) (pair b (shown_row later)) next.to_come later.to_come (sym n.come ∙ h.part same ∙ m.come);
-        }
-
--- ---- members
-
-member_is : (m n : Member) → fde_of m ≡ fde_of n → m.first ≡ n.first → m.later ≡ n.later → m ≡ n
-member_is m n fde first later =
-    ap (λ (f : Fde). of f m.first m.later) fde ∙ ap (λ (r : Rules). of (fde_of n) r m.later) first ∙ ap (λ (l : List (ℕ × Rules)). of (fde_of n) n.first l) later
-  where
-    of : Fde → Rules → List (ℕ × Rules) → Member
-    of f row later = record { begin = f.begin; end = f.end; register = f.return_register; first = row; later = later }
-
-pub same_member : (m n : Member) → fde_of m ≡ fde_of n → changes_of m ≡ changes_of n → m ≡ n
-same_member m n fde changes =
-    let first = ap (λ (x : ℕ × Rules). x.1) (head_same (m.begin, m.first) (n.begin, n.first) m.later n.later changes) in
-    member_is m n fde first (tail_same (m.begin, m.first) (n.begin, n.first) m.later n.later changes)
-
--- ---- lists of members
-
-pub all_same : (n : ℕ) (ms ns : List Member) → length ms ≤ n → length ms ≡ length ns → take n ms ≡ take n ns → ms ≡ ns
-all_same n ms ns le same e = sym (take_all n ms le) ∙ e ∙ take_all n ns (omega (arith, same))
+  pub alike : r ≡ false → xs ≡ ys
+  alike e = (told xs ys).0 ((ne_tells (pointwise eqb xs ys) r is).1 e)

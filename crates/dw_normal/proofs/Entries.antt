@@ -1,15 +1,12 @@
 -- The FDEs of a normal form, one after another.
 use Rattle.dw_normal.proofs.Words.{rules, ◌≡◌, ℕ, ◌+◌, ◌<◌, ◌≤◌, List, [], ◌∷◌, ◌++◌, length, map, take, drop, get_or, cond, Option, Some, Result, Ok, Err, refl, sym, ap, ◌∙◌, subst, arith, append_assoc, get_or-map, append-nil, length-map}
-use Rattle.dw_normal.proofs.Words.{length-append, take_more, take_all, take-append-drop, ◌^◌, is_at, AllByRecursion, nat_cmp, IsErrAnd, AreBytes, Target, Rules, Accepted, AreFdes, Fde, all_get, InstrFits, part_of, groups_of}
+use Rattle.dw_normal.proofs.Words.{length-append, take_more, take_all, take-append-drop, ◌^◌, is_at, AllByRecursion, nat_cmp, IsErrAnd, OnOk, fixed_bytes, length-fixed, AreBytes, Target, Rules, Accepted, AreFdes, Fde, all_get, InstrFits, part_of, groups_of}
 use Rattle.dw_normal.proofs.Words.{parts_of, canon, cie_instrs, IsPart, Member, AreMembers, Written, contents, entry_bytes, laid_is, renders, initial_rows, cie_with, cies_bytes, fdes_bytes, place_in, RowsRise, fde_with, Puts}
-use Rattle.dw_normal.proofs.Words.{taken_by, after, PutError, Memory}
+use Rattle.dw_normal.proofs.Words.{taken_by, after, PutError, Memory, members_exist}
 use Rattle.dw_canon.proofs.Lent.{Fields.entry_length, Readback.rendered_laid}
-use Rattle.dw_normal.proofs.{Grouped.no_member, Joined.{put_stops, goes_on, ends_there, counted, same_err}, Placed.as_many, Sited.{Placing, placing_more}, Summed.{canon_is, canon_length, fdes_append, front}}
+use Rattle.dw_normal.proofs.{Grouped.no_member, Joined.{put_stops, goes_on, ends_there, counted, same_err}, Placed.{as_many, rows_fit}, Sited.{Placing, placing_more, rows_rise}, Summed.{canon_is, canon_length, fdes_append, front}}
 
 -- ---- lengths
-
-pub contents_less : (t : Target) (w : Written) (n : ℕ) → length (entry_bytes t w) ≤ n → length (contents t w) ≤ n
-contents_less t w n le = omega (arith, entry_length t w)
 
 -- one more
 pub fdes_then : (t : Target) (ms : List Member) (k : ℕ) (d : Member) → k < length ms → fdes_bytes t ms (take (k + 1) ms) ≡ fdes_bytes t ms (take k ms) ++ entry_bytes t (fde_with t ms (get_or ms k d))
@@ -20,6 +17,20 @@ fdes_then t ms k d lt =
 -- one of them is not longer than all
 pub one_long : (t : Target) (ms : List Member) (k : ℕ) (d : Member) → k < length ms → length (fdes_bytes t ms (take k ms)) + length (entry_bytes t (fde_with t ms (get_or ms k d))) ≤ length (fdes_bytes t ms ms)
 one_long t ms k d lt = grind (arith, length, fdes_then, front, length-append, fdes_bytes, take, entry_bytes, fde_with, get_or)
+
+pub fde_small : (t : Target) (ms : List Member) (k : ℕ) (d : Member) → k < length ms → length (canon t ms) ≤ 2147483647 → length (entry_bytes t (fde_with t ms (get_or ms k d))) ≤ 2147483647
+fde_small t ms k d lt small = omega (arith, one_long t ms k d lt, canon_length t ms, small)
+
+-- an entry without its length, for which there is room, can be spelled
+low : (t : Target) (w : Written) (l : List ℕ) → length (entry_bytes t w) ≤ 2147483647 → l ≡ fixed_bytes t.order 4 0 ++ contents t w → (4 ≤ length l) × (length l < 2 ^ 32)
+low t w l small is =
+    let long = ap length is ∙ length-append (fixed_bytes t.order 4 0) (contents t w) in
+    let four = length-fixed t.order 4 0 in
+    (omega (arith, long, four), omega (arith, long, four, entry_length t w, small))
+
+pub held_low : {A E : Type 0} (r : Result A E) (t : Target) (w : Written) (l : List ℕ) → length (entry_bytes t w) ≤ 2147483647 → OnOk r (l ≡ fixed_bytes t.order 4 0 ++ contents t w) → OnOk r ((4 ≤ length l) × (length l < 2 ^ 32))
+held_low (Ok x) t w l small is = low t w l small is
+held_low (Err e) t w l small is = tt
 
 -- ---- an FDE's fields can be spelled
 
@@ -144,3 +155,20 @@ canon_both t ms rows is = ap (λ (l : List (ℕ × Rules)). cies_bytes t l ++ fd
 
 pub cies_long : (t : Target) (ms : List Member) (rows : List (ℕ × Rules)) → rows ≡ initial_rows ms → length (canon t ms) ≡ length (cies_bytes t rows) + length (fdes_bytes t ms ms)
 cies_long t ms rows is = ap length (sym (canon_both t ms rows is)) ∙ length-append (cies_bytes t rows) (fdes_bytes t ms ms)
+
+-- the CIEs of a table can be written
+pub record CiesReady (u : Target) (rows : List (ℕ × Rules)) : Type 0 where
+  pub rise : RowsRise 0 rows
+  pub fits : AllByRecursion (λ (row : ℕ × Rules). AllByRecursion (InstrFits u) (cie_instrs row.1)) rows
+  pub small : length (cies_bytes u rows) ≤ 2147483647
+
+pub cies_ready : {t u : Target} {s : List ℕ} {rows : List (ℕ × Rules)} → AreBytes s → Accepted t s → ((ms : List Member) → AreMembers t s ms → rows ≡ initial_rows ms)
+    → ((ms : List Member) → AreMembers t s ms → length (canon t ms) ≤ 2147483647) → u ≡ t → CiesReady u rows
+cies_ready {t = t} {s = s} {rows = rows} b ok initial small same =
+    let some = members_exist t s b ok in
+    let are = initial some.0 some.1 in
+    let long = ap (λ (v : Target). length (cies_bytes v rows)) same in record {
+      rise = subst (RowsRise 0) (sym are) (rows_rise t some.0 (renders t s b ok some.0 some.1).rise);
+      fits = rows_fit t s b ok some.0 some.1 same are;
+      small = omega (arith, cies_long t some.0 rows are, small some.0 some.1, long);
+    }

@@ -24,7 +24,3 @@ fde_filled t ms m b cie_at from cleared fields first out new is at none f d l n 
 pub on_ok : {A E : Type 0} (r : Result A E) (P Q : Type 0) → (P → Q) → OnOk r P → OnOk r Q
 on_ok (Ok x) P Q to h = to h
 on_ok (Err e) P Q to h = tt
-
-pub where_ok : {A E : Type 0} (r : Result A E) (P : Type 0) → P → OnOk r P
-where_ok (Ok x) P h = h
-where_ok (Err e) P h = tt

@@ -1,10 +1,6 @@
 -- Bytes that are put behind others.
-use Rattle.dw_normal.proofs.Words.{◌≡◌, ℕ, ◌+◌, ◌≤◌, true, List, ◌++◌, length, take, Option, Result, Ok, Err, refl, sym, ap, ◌∙◌, subst, arith, append_assoc, OnOk, is_ok, IsErrAnd, take-append-add, take-append_seam, length-append}
-use Rattle.dw_normal.proofs.Words.{take-append-le, Appends, Puts, taken_by, after, PutError, Write, Memory, Appends-nil, Appends-trans}
-
--- none was put
-pub none_put : (bytes : List ℕ) (f : ℕ) (o : Option (List ℕ)) → Puts bytes (Err (Memory 0)) f f o o
-none_put bytes f o = (refl, omega arith, Appends-nil o)
+use Rattle.dw_normal.proofs.Words.{◌≡◌, ℕ, ◌+◌, ◌≤◌, true, List, ◌++◌, length, take, Option, Result, Ok, Err, sym, ap, ◌∙◌, subst, arith, append_assoc, OnOk, is_ok, IsErrAnd, take-append-add, take-append_seam, length-append}
+use Rattle.dw_normal.proofs.Words.{take-append-le, Appends, Puts, taken_by, after, PutError, Write, Memory, Appends-trans}
 
 -- an answer takes no more than the bytes
 pub most_taken : (bytes : List ℕ) (r : Result ℕ PutError) (f g : ℕ) (o n : Option (List ℕ)) → Puts bytes r f g o n → taken_by r ≤ length bytes

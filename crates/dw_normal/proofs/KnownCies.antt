@@ -1,7 +1,7 @@
 -- What is known of CIEs stays so while the rows of the groups are narrowed.
 use Rattle.dw_normal.proofs.Words.{◌≡◌, ◌⊎◌, ℕ, true, List, [], ◌∷◌, Option, Some, None, Result, Ok, Err, refl, sym, ap, ◌∙◌, subst, inl, inr, arith, IsTrue, IfOk, IfSome, OnOk, cases_Bool, AllByRecursion, nat_cmp, insert_entry}
 use Rattle.dw_normal.proofs.Words.{BTreeMap, AreSpecified, Rules, rule, agreed, same_rule, Changing, kept_by, Member, row_of, shown_row, with_member, get, if◌then◌else◌, RegRule, is_kept, kept, is_agreed}
-use Rattle.dw_normal.proofs.Words.{rules, rule_tells, Registers, AgreesBeside, SameBeside, is_specified, same_rows, Behind, AreChanged, CieLeaves, Section, CieSet, ShownBehind, Agree, AgreesAt, AreLess, Notes}
+use Rattle.dw_normal.proofs.Words.{rules, rule_tells, Registers, AgreesBeside, SameBeside, is_specified, same_rows, Behind, AreChanged, CieLeaves, Section, CieSet, Known, ShownBehind, Agree, AgreesAt, AreLess, HoldsAt, Notes, NotesAgree}
 use Rattle.std.proofs.lemmas.{Bool.{cases_eq, Decides.nat_tests}, Option.IfSome_then}
 use Rattle.dw_cfa.specs.declared.rule.RegRule.TheVariants.{Unspecified}
 use Rattle.dw_cfa.proofs.Lent.Narrowed.{filter_keeps, filter_rule}
@@ -121,13 +121,24 @@ module _ (s : Section) (rows new : List (ℕ × Rules)) (k : ℕ) (w : Rules) (m
   noted_at place old cies agree notes at = search (rules, still_agree, own_row)
 
   -- a CIE leaves one row, so of each row that it leaves the first one has what is outside a set
-  pub noted_agree : ((at : ℕ) (y z : Rules) → CieLeaves s.target s.bytes at y → CieLeaves s.target s.bytes at z → y ≡ z) → (changes : Changing) → changes.section ≡ s → (b : Behind) (changed : Registers) → ShownBehind changes changed b
-      → (old cies : BTreeMap ℕ CieSet) → Agree s rows old → Notes (λ set. (row : Rules) → SameBeside changed row (shown_row changes) → AgreesBeside set w row) b.cie_at k old cies → Agree s new cies
-  noted_agree law changes section b changed stands old cies agree notes =
+  pub noted_agree : ((at : ℕ) (y z : Rules) → CieLeaves s.target s.bytes at y → CieLeaves s.target s.bytes at z → y ≡ z) → (changes : Changing) → changes.section ≡ s → (behind : Option Behind) (old : Known)
+      → IfSome behind (ShownBehind changes old.changed) → (cies : BTreeMap ℕ CieSet) → Agree s rows old.cies → NotesAgree behind k old (shown_row changes) w cies → Agree s new cies
+  noted_agree law changes section None old stands cies agree same = still_agree cies (subst (Agree s rows) (sym same) agree)
+  noted_agree law changes section (Some b) old stands cies agree notes =
       let leaves = subst (λ (t : Section). CieLeaves t.target t.bytes b.cie_at stands.row) section stands.leaves in
-      let more : (set : Registers) → ((row : Rules) → SameBeside changed row (shown_row changes) → AgreesBeside set w row) → (row : Rules) → CieLeaves s.target s.bytes b.cie_at row → AgreesBeside set w row = λ set h row left.
-      h row (subst (λ (y : Rules). SameBeside changed y (shown_row changes)) (law b.cie_at stands.row row leaves left) stands.beside) in
-      noted_at b.cie_at old cies agree (notes_more _ _ more b.cie_at k old cies notes)
+      let more : (set : Registers) → ((row : Rules) → SameBeside old.changed row (shown_row changes) → AgreesBeside set w row) → (row : Rules) → CieLeaves s.target s.bytes b.cie_at row → AgreesBeside set w row = λ set h row left.
+      h row (subst (λ (y : Rules). SameBeside old.changed y (shown_row changes)) (law b.cie_at stands.row row leaves left) stands.beside) in
+      noted_at b.cie_at old.cies cies agree (notes_more _ _ more b.cie_at k old.cies cies notes)
+
+-- what is known of the CIE of an FDE, where this is the row of its group
+pub known_agrees : (s : Section) (rows : List (ℕ × Rules)) (k : ℕ) (x : Rules) → row_of rows k ≡ Some x → (behind : Option Behind) (u : Section) (cies : BTreeMap ℕ CieSet) → u ≡ s → Agree s rows cies
+    → IfSome behind (λ b. (row : Rules) → CieLeaves u.target u.bytes b.cie_at row → HoldsAt (λ set. AgreesBeside set x row) b.cie_at k cies)
+known_agrees s rows k x found None u cies section agree = tt
+known_agrees s rows k x found (Some b) u cies section agree = λ row leaves set is.
+    let here = subst (λ (o : Option CieSet). IfSome o (AgreesAt s rows b.cie_at)) is (agree b.cie_at) in
+    let stands = here.stands in
+    let same : here.shared ≡ x = cc in
+    subst (λ (y : Rules). AgreesBeside set y row) same (here.agrees row (subst (λ (t : Section). CieLeaves t.target t.bytes b.cie_at row) section leaves))
 
 -- what an FDE more leaves of a group's row
 pub narrower : (rows : List (ℕ × Rules)) (k : ℕ) (x first w : Rules) (later : List (ℕ × Rules)) → Ascends x → row_of rows k ≡ Some x → w ≡ kept_by (agreed x first) later

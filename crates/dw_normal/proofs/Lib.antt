@@ -4,7 +4,6 @@ mod RulesLeft
 mod Appended
 mod OneByte
 mod Passes
-mod Measured
 mod Summed
 mod Short
 mod Taken
@@ -16,8 +15,6 @@ mod Reports
 mod FaultPlaces
 mod Placed
 mod Alike
-mod CiePairs
-mod TwinRows
 mod Joined
 mod Filled
 mod Sited

@@ -1,12 +1,7 @@
 -- An FDE that was begun, among the entries of the normal form.
-use Rattle.dw_normal.proofs.Words.{◌≡◌, ℕ, ◌+◌, ◌++◌, ◌<◌, ◌≤◌, List, length, get_or, Some, sym, ap, ◌∙◌, arith, ◌^◌, length-append, fixed_bytes, AreBytes, length-fixed, Target, address_limit, Rules, Accepted, Fde, groups_of, part_of}
-use Rattle.dw_normal.proofs.Words.{canon, initial_of, place_of, IsPart, Member, AreMembers, contents, IsBegun, initial_rows, cies_bytes, place_in, cie_place, fde_with, Begun}
-use Rattle.dw_normal.proofs.{Entries.{one_long, contents_less, part_at}, Placed.row_in, Summed.canon_length, Sited.{place_low, place_is, is_placed}}
-
--- an FDE's contents behind room for their length, which can be spelled
-pub contents_low : (t : Target) (ms : List Member) (k : ℕ) (d : Member) → k < length ms → length (canon t ms) ≤ 2147483647
-    → (l : List ℕ) → l ≡ fixed_bytes t.order 4 0 ++ contents t (fde_with t ms (get_or ms k d)) → (4 ≤ length l) × (length l < 2 ^ 32)
-contents_low t ms k d lt small l is = grind (arith, canon_length, one_long, contents, fde_with, get_or, contents_less, length, length-append, fixed_bytes, length-fixed)
+use Rattle.dw_normal.proofs.Words.{◌≡◌, ℕ, ◌+◌, ◌<◌, ◌≤◌, List, length, get_or, Some, sym, ap, ◌∙◌, arith, ◌^◌, AreBytes, Target, address_limit, Rules, Accepted, Fde, groups_of, part_of}
+use Rattle.dw_normal.proofs.Words.{canon, initial_of, place_of, IsPart, Member, AreMembers, IsBegun, initial_rows, cies_bytes, place_in, cie_place, Begun}
+use Rattle.dw_normal.proofs.{Entries.part_at, Placed.row_in, Summed.canon_length, Sited.{place_low, place_is, is_placed}}
 
 -- it was begun, and the CIEs before it have their places
 pub record Located (t : Target) (s : List ℕ) (ms : List Member) (k : ℕ) (d : Member) (begun : Begun) (rows : List (ℕ × Rules)) (places : List (ℕ × ℕ)) : Type 0 where

@@ -1,8 +1,8 @@
 -- One step more of the walks over members and changes.
 use Rattle.std.proofs.lemmas.Grind.{flat_map-append}
 use Rattle.dw_canon.proofs.Lent.Programs.{below_end}
-use Rattle.dw_normal.proofs.Words.{rules, ◌≡◌, ℕ, ◌+◌, ◌<◌, List, [], ◌∷◌, ◌++◌, length, Option, Some, None, refl, sym, ap, subst, nat_eq, AllByRecursion, cases_Bool, append_assoc}
-use Rattle.dw_normal.proofs.Words.{length-append, Target, Instr, Rules, move, difference, later_changes, group, shared_by, initial_row, kept_by, agreed, Member, Stand, later_bytes}
+use Rattle.dw_normal.proofs.Words.{rules, ◌≡◌, ℕ, ◌+◌, ◌<◌, List, [], ◌∷◌, ◌++◌, Option, Some, None, refl, ap, subst, nat_eq, AllByRecursion, cases_Bool, append_assoc}
+use Rattle.dw_normal.proofs.Words.{Target, Instr, Rules, move, difference, later_changes, group, shared_by, initial_row, kept_by, agreed, Member, Stand, later_bytes}
 use Rattle.dw_normal.proofs.{Words.{row_or_blank, shown_row, address_limit, Changing, before_then, ChangesStand, InstrFits, difference_fits, instr_bytes, program_bytes}, ChangesToCome.Given}
 
 -- ---- the pass over members
@@ -36,14 +36,6 @@ pub shown_before : (shown before : Option Rules) (o : Option ℕ) (to : ℕ) →
 shown_before shown before None to is e = absurd cc
 shown_before shown before (Some a) to is e = ap row_or_blank is
 
--- so there is one, where one was
-pub some_before : (shown before : Option Rules) (o : Option ℕ) (to : ℕ) → before ≡ before_then o shown → o ≡ Some to → shown ≡ Some (row_or_blank shown) → before ≡ Some (row_or_blank before)
-some_before shown before None to is e some = absurd cc
-some_before shown before (Some a) to is e some = subst (λ (row : Option Rules). row ≡ Some (row_or_blank row)) (sym is) some
-
-pub none_later : (t : Target) (shared : Rules) (at : ℕ) (changes : Changing) → changes.to_come ≡ [] → later_bytes t shared at changes ≡ []
-none_later t shared at changes none = ap (λ (l : List (ℕ × Rules)). program_bytes t (later_changes shared at (shown_row changes) l)) none
-
 module _ {t : Target} {shared : Rules} {at : ℕ} {changes next : Changing} {to : ℕ} (stand : Stand t shared at changes) (g : Given changes next to) where
   abbrev row : Rules
   row = shown_row changes
@@ -69,6 +61,3 @@ module _ {t : Target} {shared : Rules} {at : ℕ} {changes next : Changing} {to 
   -- what a step writes is what is behind it no more
   pub step_written : (out new : List ℕ) → new ≡ (out ++ instr_bytes t (move at to)) ++ program_bytes t (difference shared row after) → new ++ later_bytes t shared to next ≡ out ++ later_bytes t shared at changes
   step_written out new is = search (rules, later_bytes, append_assoc, instr_bytes, move, program_bytes, difference, step_bytes)
-
-  pub step_long : length (later_bytes t shared at changes) ≡ length (instr_bytes t (move at to)) + (length (program_bytes t (difference shared row after)) + length (later_bytes t shared to next))
-  step_long = search (rules, length, step_bytes, length-append, instr_bytes, move, program_bytes, difference, later_bytes)

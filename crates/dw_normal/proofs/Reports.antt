@@ -1,10 +1,10 @@
 -- From what is known of a section's members to what the calls over normal forms answer.
-use Rattle.dw_normal.proofs.Words.{◌≡◌, ◌⊎◌, ℕ, ◌≤◌, Bool, List, [], length, take, Option, Some, None, Result, Ok, Err, refl, sym, ap, ◌∙◌, subst, inl, inr, arith, Decides, Appends, Keeps-refl, AreBytes, Target, Refuses, Rules, Accepted}
+use Rattle.dw_normal.proofs.Words.{◌≡◌, ◌⊎◌, ℕ, ◌≤◌, Bool, List, [], length, take, Option, Some, None, Result, Ok, Err, refl, sym, ap, ◌∙◌, subst, inl, inr, arith, Decides, Appends, Keeps-refl, AreBytes, Target, Refuses, Accepted}
 use Rattle.dw_normal.proofs.Words.{CheckFault, canon, Member, AreMembers, members_exist, normal_form_is_one, same_exactly, IsTooLong, FitsCap, NormalFault, SameFault, WentOut, Writes, too_long, Puts, put_is, PutError, First, Second, IfOk}
-use Rattle.dw_normal.proofs.Words.{IfErr, initial_rows, Measures, Refusal, ReadError, IsShort, IsMeasured, LengthFault, blamed, unread, unwritten, SameError, WriteError, Section}
+use Rattle.dw_normal.proofs.Words.{IfErr, Likens, Measures, Refusal, ReadError, IsShort, IsMeasured, LengthFault, blamed, unread, unwritten, SameError, WriteError, Section}
 use Rattle.dw_section.specs.Meanings.{SameMeaning}
 use Rattle.dw_section.proofs.Lent.CheckFirst.{fault_or_accepted}
-use Rattle.dw_canon.specs.Normal.{IsNormalForm}
+use Rattle.dw_canon.specs.{Laws.SameNormalForm, Normal.IsNormalForm}
 use Rattle.dw_canon.proofs.Lent.Forms.{is_normal, whole_is}
 use Rattle.dw_normal.specs.declared.error.Which.{Which}
 use Rattle.dw_num.specs.declared.error.ReadError.TheVariants as read_error
@@ -25,12 +25,12 @@ is_too_long t s cap last b ok e measured =
     let long = subst (AreMeasured t s cap) e measured in
     (canon t found.0, is_normal t s found.0 b ok found.1, long found.0 found.1)
 
-pub is_measured : (t : Target) (s : List ℕ) (cap len : ℕ) (some : Option ℕ) (rows : List (ℕ × Rules)) → AreBytes s → Accepted t s → ((ms : List Member) → AreMembers t s ms → rows ≡ initial_rows ms)
-    → some ≡ Some len → ((ms : List Member) → AreMembers t s ms → Measures cap (length (canon t ms)) some) → IsMeasured t cap s rows len
-is_measured t s cap len some rows b ok are e measured =
+pub is_measured : (t : Target) (s : List ℕ) (cap len : ℕ) (some : Option ℕ) → AreBytes s → Accepted t s → some ≡ Some len
+    → ((ms : List Member) → AreMembers t s ms → Measures cap (length (canon t ms)) some) → IsMeasured t cap s len
+is_measured t s cap len some b ok e measured =
     let long = subst (AreMeasured t s cap) e measured in
     let within : (ms : List Member) → AreMembers t s ms → length (canon t ms) ≤ cap = λ ms h. omega (arith, (long ms h).0, (long ms h).1) in
-    record { prepared = record { short = record { bytes = b; accepted = ok; within = within }; rows_are = are }; len_is = λ ms h. (long ms h).0 }
+    record { short = record { bytes = b; accepted = ok; within = within }; len_is = λ ms h. (long ms h).0 }
 
 -- the normal form of a section that is short
 pub record Whole (t : Target) (cap : ℕ) (s : List ℕ) : Type 0 where
@@ -71,12 +71,11 @@ module _ (t : Target) (s n : List ℕ) (cap : ℕ) (b : AreBytes s) (is : IsNorm
   only_long read_error.OutOfMemory fault = inr refl
   only_long (read_error.Refused r) fault = inl (ap read_error.Refused (only_too_long t s n cap r b is fault))
 
-pub length_found : (t : Target) (cap : ℕ) (s : List ℕ) (rows : List (ℕ × Rules)) (len : ℕ) → IsMeasured t cap s rows len
-    → (n : List ℕ) × IsNormalForm t s n × (length n ≤ cap) × (len ≡ length n)
-length_found t cap s rows len h = let w = whole_of t cap s h.prepared.short in (canon t w.members, w.is, w.within, h.len_is w.members w.are)
+pub length_found : (t : Target) (cap : ℕ) (s : List ℕ) (len : ℕ) → IsMeasured t cap s len → (n : List ℕ) × IsNormalForm t s n × (length n ≤ cap) × (len ≡ length n)
+length_found t cap s len h = let w = whole_of t cap s h.short in (canon t w.members, w.is, w.within, h.len_is w.members w.are)
 
-pub length_only : (t : Target) (s : List ℕ) (cap len : ℕ) (rows : List (ℕ × Rules)) → AreBytes s → IsMeasured t cap s rows len → (n : List ℕ) → IsNormalForm t s n → len ≡ length n
-length_only t s cap len rows b h n normal = h.len_is normal.members normal.are ∙ ap length (sym (whole_is t s n b normal))
+pub length_only : (t : Target) (s : List ℕ) (cap len : ℕ) → AreBytes s → IsMeasured t cap s len → (n : List ℕ) → IsNormalForm t s n → len ≡ length n
+length_only t s cap len b h n normal = h.len_is normal.members normal.are ∙ ap length (sym (whole_is t s n b normal))
 
 -- ---- what went out
 
@@ -127,14 +126,16 @@ tape_fault t cap s failed failed' old new e result w is = subst (Refuses (Normal
 
 -- ---- two sections
 
-module _ (t : Target) (a b : List ℕ) (one : IsShort t 2147483647 a) (other : IsShort t 2147483647 b) where
-  pub decides_meaning : (is : Bool) → ((ms ns : List Member) → AreMembers t a ms → AreMembers t b ns → Decides is (ms ≡ ns)) → Decides is (SameMeaning t a b)
+-- a test by what is written of two sections decides whether they say the same
+module _ (law : SameNormalForm) (t : Target) (a b : List ℕ) (one : IsShort t 2147483647 a) (other : IsShort t 2147483647 b) where
+  pub decides_meaning : (is : Bool) → ((ms ns : List Member) → AreMembers t a ms → AreMembers t b ns → Likens (ms ≡ ns) (canon t ms ≡ canon t ns) is) → Decides is (SameMeaning t a b)
   decides_meaning is h =
       let w = whole_of t 2147483647 a one in
       let v = whole_of t 2147483647 b other in
       let exactly = same_exactly t a b w.members v.members one.bytes other.bytes one.accepted other.accepted w.are v.are w.within v.within in
       let told = h w.members v.members w.are v.are in
-      (λ yes. exactly.0 (told.0 yes), λ same. told.1 (exactly.1 same))
+      let equal = law t a b (canon t w.members) (canon t v.members) one.bytes other.bytes w.is v.is w.within v.within in
+      (λ yes. equal.0 (told.1 yes), λ same. told.0 (exactly.1 same))
 
 -- an error over the first of two sections, or over the second
 pub first_fault : (t : Target) (a b : List ℕ) (e : ReadError) (result : SameError) → Refuses (CheckFault t a) e → result ≡ blamed First e → SameFault t 2147483647 a b result
@@ -192,11 +193,12 @@ second_too_long first second e result same one fault is = subst (LengthFault fir
     by_error read_error.OutOfMemory h = tt
     by_error (read_error.Refused r) h = (is_within first.target 2147483647 first.bytes one, subst (λ (u : Target). IsTooLong u 2147483647 second.bytes) (sym same) h.0, h.1)
 
-pub tables_decided : (first second one two : Section) → first.target ≡ second.target → one ≡ first → two ≡ second
+pub tables_decided : SameNormalForm → (first second one two : Section) → first.target ≡ second.target → one ≡ first → two ≡ second
     → IsShort first.target 2147483647 first.bytes → IsShort second.target 2147483647 second.bytes → (is : Bool)
-    → ((ms ns : List Member) → AreMembers one.target one.bytes ms → AreMembers two.target two.bytes ns → Decides is (ms ≡ ns))
+    → ((ms ns : List Member) → AreMembers one.target one.bytes ms → AreMembers two.target two.bytes ns → Likens (ms ≡ ns) (canon one.target ms ≡ canon two.target ns) is)
     → Decides is (SameMeaning first.target first.bytes second.bytes)
-tables_decided first second one two same e f h k is told =
-    decides_meaning first.target first.bytes second.bytes h (subst (λ (u : Target). IsShort u 2147483647 second.bytes) (sym same) k) is
-    (λ ms ns are here. told ms ns (subst (λ (x : Section). AreMembers x.target x.bytes ms) (sym e) are)
-    (subst (λ (x : Section). AreMembers x.target x.bytes ns) (sym f) (subst (λ (u : Target). AreMembers u second.bytes ns) same here)))
+tables_decided law first second one two same e f h k is told =
+    decides_meaning law first.target first.bytes second.bytes h (subst (λ (u : Target). IsShort u 2147483647 second.bytes) (sym same) k) is here
+  where
+    here : (ms ns : List Member) → AreMembers first.target first.bytes ms → AreMembers first.target second.bytes ns → Likens (ms ≡ ns) (canon first.target ms ≡ canon first.target ns) is
+    here = rw (e, f, sym same) at told

@@ -12,4 +12,3 @@ pub mod Puts
 pub mod Places
 pub mod Listed
 pub mod Answers
-pub mod Twins

@@ -1,11 +1,7 @@
 //! At most how long a normal form is, by the lengths of the section's programs: no program is run.
 
-ghost use Rattle.std.specs.Prelude.{◌≡◌, ℕ, ◌+◌, ◌*◌, ◌≤◌, ◌^◌, length, is_some, IsTrue, IfSome, Some};
+ghost use Rattle.std.specs.Prelude.{◌≡◌, ℕ, ◌+◌, ◌*◌, ◌≤◌, ◌^◌, is_some, IsTrue, IfSome, Some};
 ghost use Rattle.dw_canon.specs.Bound.{share};
-ghost use Rattle.dw_canon.specs.Inner.Canon.{canon};
-ghost use Rattle.dw_normal.specs.Inner.Listed.{OfMembers};
-
-use dw_section::{FdeRef, Table};
 
 // Longer programs are not judged by their lengths.
 const LONG: usize = 1_000_000;
@@ -22,8 +18,7 @@ fn share(own: usize, initial: usize) -> Option<u64>
     Some(spread * spread + 1320)
 }
 
-/// The shares of FDEs and of one more, by the lengths of its programs, or none once they are more than a cap lets. What an
-/// FDE's share is says that of `is_short`.
+/// The shares of FDEs and of one more, by the lengths of its programs, or none once they are more than a cap lets.
 pub(crate) fn add_share(total: Option<u64>, own: usize, initial: usize, cap: u64) -> Option<u64>
     requires cap { cap ≤ 2147483647 }
     requires low { IfSome total (λ n. n ≤ 24 * cap) }
@@ -37,21 +32,4 @@ pub(crate) fn add_share(total: Option<u64>, own: usize, initial: usize, cap: u64
         return None;
     }
     Some(sum)
-}
-
-/// Whether the lengths of a table's programs alone show that its normal form is within a cap. Takes no memory.
-pub(crate) fn is_short(table: &Table<'_>, cap: u64) -> bool
-    requires cap { cap ≤ 2147483647 }
-    ensures { IsTrue result → OfMembers table.now (λ ms. length (canon table.now.target ms) ≤ cap) }
-{
-    table.accepted();
-    let mut total = 0;
-    'fdes: for place in 0..table.fde_count() {
-        let opening = table.opening(FdeRef { place });
-        let Some(sum) = add_share(Some(total), opening.own, opening.initial, cap) else {
-            return false;
-        };
-        total = sum;
-    }
-    true
 }

@@ -1,12 +1,12 @@
 //! The initial row of each return address register, found in one pass over the FDEs.
 
 ghost use Rattle.std.specs.{Prelude.{◌≡◌, ℕ, [], ◌≤◌, length, take, None, Some, IfOk, IfSome, IsTrue, OnOk}, BTreeMap.{get, insert_entry}, Ordering.nat_cmp};
-ghost use Rattle.dw_cfa.specs.{RegisterSets.{AgreesBeside, SameBeside}, Rows.Rules};
+ghost use Rattle.dw_cfa.specs.{RegisterSets.AgreesBeside, Rows.Rules};
 ghost use Rattle.dw_cfa.specs.Inner.Agreement.{agreed};
 ghost use Rattle.dw_section.specs.{Changes.kept_by, Opening.{CieLeaves, OpensBehind}, declared.opening.CieRow.{CieRow as TheRow}};
 ghost use Rattle.dw_canon.specs.Inner.Canon.{canon};
 ghost use Rattle.dw_normal.specs.Inner.{ChangeWalk.{BehindFirst, IsShown, ShownBehind, shown_row}, Groups.{HasJoined, joined_by, with_member, initial_rows}};
-ghost use Rattle.dw_normal.specs.Inner.{Known.{Agree, HoldsAt, Notes}, Listed.{IsListed, OfFde, OfMember, OfMembers}};
+ghost use Rattle.dw_normal.specs.Inner.{Known.{Agree, HoldsAt, NotesAgree}, Listed.{AreInitial, IsListed, OfFde, OfMember, OfMembers}};
 
 use crate::bound::add_share;
 use crate::known::Known;
@@ -35,33 +35,20 @@ pub(crate) fn go_behind_first<'a>(
     changes.advance_behind(changed)
 }
 
-// Narrows the row of a group to what one more FDE shares with it, whose row at its begin is shown.
-fn share_with<'a>(shared: &mut Row<'a>, changes: &mut Changes<'a>) -> Result<(), AllocError>
-    requires shown { IsShown changes.old }
-    ensures row { (first : Rules) → changes.old.shown ≡ Some first → OnOk result (shared.new ≡ kept_by (agreed shared.old first) changes.old.to_come) }
-    ensures section { changes.new.section ≡ changes.old.section }
-{
-    let Some(first) = changes.row() else {
-        unreachable!();
-    };
-    shared.ascends();
-    shared.agree(first);
-    changes.narrow(shared)
-}
-
-// The same of an FDE whose CIE's program is long: the registers of the CIE are not gone over.
-fn share_behind<'a>(
+// Narrows the row of a group to what one more FDE shares with it, whose row at its begin is shown. Where the program of its CIE is long,
+// the registers of the CIE are not gone over.
+fn share_with<'a>(
     shared: &mut Row<'a>,
     changes: &mut Changes<'a>,
     known: &mut Known<'a>,
-    behind: Behind,
+    behind: Option<Behind>,
     register: u16,
 ) -> Result<(), AllocError>
     requires shown { IsShown changes.old }
-    requires stands { ShownBehind changes.old known.old.changed behind }
-    requires known { (row : Rules) → CieLeaves changes.old.section.target changes.old.section.bytes behind.cie_at row → HoldsAt (λ set. AgreesBeside set shared.old row) behind.cie_at register known.old.cies }
+    requires stands { IfSome behind (ShownBehind changes.old known.old.changed) }
+    requires known { IfSome behind (λ b. (row : Rules) → CieLeaves changes.old.section.target changes.old.section.bytes b.cie_at row → HoldsAt (λ set. AgreesBeside set shared.old row) b.cie_at register known.old.cies) }
     ensures row { (first : Rules) → changes.old.shown ≡ Some first → OnOk result (shared.new ≡ kept_by (agreed shared.old first) changes.old.to_come) }
-    ensures known { OnOk result (Notes (λ set. (row : Rules) → SameBeside known.old.changed row (shown_row changes.old) → AgreesBeside set shared.new row) behind.cie_at register known.old.cies known.new.cies) }
+    ensures known { OnOk result (NotesAgree behind register known.old (shown_row changes.old) shared.new known.new.cies) }
     ensures section { changes.new.section ≡ changes.old.section }
 {
     let Some(first) = changes.row() else {
@@ -69,25 +56,15 @@ fn share_behind<'a>(
     };
     shared.ascends();
     first.ascends();
+    let Some(behind) = behind else {
+        shared.agree(first);
+        return changes.narrow(shared);
+    };
     known.agree(shared, first, behind.cie_at, register)?;
     if behind.keeps {
         return Ok(());
     }
     changes.narrow_further(shared)
-}
-
-// The row of a group that begins with an FDE, whose row at its begin is shown.
-fn first_shared<'a>(changes: &mut Changes<'a>) -> Result<Row<'a>, AllocError>
-    requires shown { IsShown changes.old }
-    ensures row { (first : Rules) → changes.old.shown ≡ Some first → IfOk result (λ row. row ≡ kept_by first changes.old.to_come) }
-    ensures section { changes.new.section ≡ changes.old.section }
-{
-    let Some(first) = changes.row() else {
-        unreachable!();
-    };
-    let mut row = first.copied()?;
-    changes.narrow(&mut row)?;
-    Ok(row)
 }
 
 // Begins the group of a return address register with an FDE, whose row at its begin is shown. Apart from `add_fde`, since a row is
@@ -102,7 +79,11 @@ fn begin_group<'a>(
     ensures rows { (first : Rules) → changes.old.shown ≡ Some first → OnOk result (rows.new.entries ≡ insert_entry nat_cmp rows.old.entries register (kept_by first changes.old.to_come)) }
     ensures section { changes.new.section ≡ changes.old.section }
 {
-    let row = first_shared(changes)?;
+    let Some(first) = changes.row() else {
+        unreachable!();
+    };
+    let mut row = first.copied()?;
+    changes.narrow(&mut row)?;
     rows.insert(register, row)?;
     Ok(())
 }
@@ -133,10 +114,7 @@ fn add_fde<'a>(
         return begin_group(rows, changes, register);
     };
     shared.ascends();
-    match behind {
-        Some(behind) => share_behind(shared, changes, known, behind, register),
-        None => share_with(shared, changes),
-    }
+    share_with(shared, changes, known, behind, register)
 }
 
 /// A row that FDEs begin with, which the row of a group was narrowed to, and the return address register of the group.
@@ -228,19 +206,28 @@ fn gather<'a>(
     Ok(total.is_some())
 }
 
-/// The initial row of each return address register, in one pass over the FDEs, and whether the lengths of the programs alone show
-/// that the normal form is within a cap.
-pub(crate) fn initial_rows<'a>(
+/// A checked table with the initial row of each return address register, and whether the lengths of the programs alone show that
+/// its normal form is within a cap.
+#[derive(Drop)]
+pub(crate) struct Ready<'a> {
+    pub(crate) table: Table<'a>,
+    pub(crate) rows: BTreeMap<u16, Row<'a>>,
+    pub(crate) short: bool,
+}
+
+/// Finds the initial rows of a table in one pass over its FDEs.
+pub(crate) fn make_ready<'a>(
     alloc: Global,
-    table: &Table<'a>,
+    table: Table<'a>,
     cap: u64,
-) -> Result<(BTreeMap<u16, Row<'a>>, bool), AllocError>
+) -> Result<Ready<'a>, AllocError>
     requires cap { cap ≤ 2147483647 }
-    ensures rows { OfMembers table.now (λ ms. IfOk result (λ found. found.0.entries ≡ initial_rows ms)) }
-    ensures short { OfMembers table.now (λ ms. IfOk result (λ found. IsTrue found.1 → length (canon table.now.target ms) ≤ cap)) }
+    ensures table { IfOk result (λ ready. ready.table ≡ table.entry) }
+    ensures rows { IfOk result (λ ready. AreInitial table.entry ready.rows.entries) }
+    ensures short { IfOk result (λ ready. IsTrue ready.short → OfMembers table.entry (λ ms. length (canon table.entry.target ms) ≤ cap)) }
 {
     let mut rows = BTreeMap::new(alloc);
     let mut known = Known::none(alloc);
-    let short = gather(&mut rows, &mut table.no_changes(), &mut known, table, cap)?;
-    Ok((rows, short))
+    let short = gather(&mut rows, &mut table.no_changes(), &mut known, &table, cap)?;
+    Ok(Ready { table, rows, short })
 }

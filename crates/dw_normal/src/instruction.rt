@@ -1,12 +1,12 @@
 //! Instructions as the normal form spells them.
 
-ghost use Rattle.std.specs.{Prelude.{◌≡◌, ◌∷◌, ◌++◌, ◌<◌, ◌≤◌, neg_ℤ, unsigned_abs, if◌then◌else◌, OnOk}, Int.is_positive};
-ghost use Rattle.dw_num.specs.Shortest.{shortest_uleb, shortest_sleb};
-ghost use Rattle.dw_cfa.specs.{InstrSpells.IsOffset, Rows.rule};
-ghost use Rattle.dw_cfa.specs.declared.instr.Instr.TheVariants.{SetLoc, DefCfa, DefCfaRegister, DefCfaOffset, DefCfaExpression};
+ghost use Rattle.std.specs.{Prelude.{◌≡◌, ◌∷◌, ◌+◌, ◌++◌, ◌<◌, ◌≤◌, neg_ℤ, unsigned_abs, if◌then◌else◌, OnOk}, Int.is_positive, List.AllByRecursion};
+ghost use Rattle.dw_num.specs.{Shortest.{shortest_uleb, shortest_sleb}, Target.address_limit};
+ghost use Rattle.dw_cfa.specs.{InstrSpells.IsOffset, Rows.rule, declared.instr.Instr.TheVariants.DefCfaOffset};
+ghost use Rattle.dw_cfa.specs.Inner.Agreement.{same_cfa};
 ghost use Rattle.dw_section.specs.Fits.{HasBlock, RuleFits};
-ghost use Rattle.dw_canon.specs.Spelling.{advance_bytes, packed};
-ghost use Rattle.dw_canon.specs.Inner.{Fits.InstrFits, Spelling.{expression_bytes, rule_bytes, instr_bytes}};
+ghost use Rattle.dw_canon.specs.{Difference.move, Spelling.packed};
+ghost use Rattle.dw_canon.specs.Inner.{Difference.cfa_difference, Fits.InstrFits, Spelling.{expression_bytes, rule_bytes, instr_bytes, program_bytes}};
 
 use crate::opcode::{
     ADVANCE_LOC, ADVANCE_LOC1, ADVANCE_LOC2, ADVANCE_LOC4, DEF_CFA, DEF_CFA_EXPRESSION,
@@ -14,8 +14,8 @@ use crate::opcode::{
     OFFSET_EXTENDED, OFFSET_EXTENDED_SF, REGISTER, SAME_VALUE, SET_LOC, UNDEFINED, VAL_EXPRESSION,
     VAL_OFFSET, VAL_OFFSET_SF,
 };
-use dw_cfa::{RegRule, Row};
-use dw_num::{Order, Target, put_fixed, put_sleb, put_uleb};
+use dw_cfa::{CfaRule, RegRule, Row};
+use dw_num::{Target, put_fixed, put_sleb, put_uleb};
 use dw_op::ExprRef;
 use std::alloc::AllocError;
 
@@ -82,12 +82,15 @@ pub(crate) fn push_packed(
     push_uleb(out, u64::from(register))
 }
 
-// Apart from `push_advance`, whose advances are mostly short.
+// Appends what moves the location far. Apart from `push_move`, whose advances are mostly short.
 #[inline(never)]
-fn push_long_advance(out: &mut Vec<u8>, order: Order, delta: u32) -> Result<(), AllocError>
-    requires { 64 ≤ delta }
-    ensures { OnOk result (out.new.items ≡ out.old.items ++ advance_bytes order delta) }
+#[tactic(auto, unfolding(dw_canon::specs::Spelling::instr_bytes))]
+fn push_far_move(out: &mut Vec<u8>, from: u64, to: u64, target: Target) -> Result<(), AllocError>
+    requires far { from + 64 ≤ to }
+    requires in_space { to < address_limit target.size }
+    ensures { OnOk result (out.new.items ≡ out.old.items ++ instr_bytes target (move from to)) }
 {
+    let delta = to - from;
     if delta < 256 {
         out.reserve(2)?;
         out.push_reserved(ADVANCE_LOC1);
@@ -96,42 +99,35 @@ fn push_long_advance(out: &mut Vec<u8>, order: Order, delta: u32) -> Result<(), 
     }
     if delta < 65536 {
         out.push(ADVANCE_LOC2)?;
-        return put_fixed(out, order, 2, u64::from(delta));
+        return put_fixed(out, target.order, 2, delta);
     }
-    out.push(ADVANCE_LOC4)?;
-    put_fixed(out, order, 4, u64::from(delta))
+    if delta < 4294967296 {
+        out.push(ADVANCE_LOC4)?;
+        return put_fixed(out, target.order, 4, delta);
+    }
+    out.push(SET_LOC)?;
+    let width = usize::from(target.size.byte_count());
+    put_fixed(out, target.order, width, to)
 }
 
-/// Appends the shortest advance.
+/// Appends what moves the location, mostly by a few bytes.
 #[inline(always)]
-pub(crate) fn push_advance(out: &mut Vec<u8>, order: Order, delta: u32) -> Result<(), AllocError>
-    ensures { OnOk result (out.new.items ≡ out.old.items ++ advance_bytes order delta) }
-{
-    if delta < 64 {
-        out.push(ADVANCE_LOC + delta as u8)?;
-        return Ok(());
-    }
-    push_long_advance(out, order, delta)
-}
-
-/// Appends what moves the location to an address.
-#[inline(never)]
 #[tactic(auto, unfolding(dw_canon::specs::Spelling::instr_bytes))]
-pub(crate) fn push_set_loc(
+pub(crate) fn push_move(
     out: &mut Vec<u8>,
-    address: u64,
+    from: u64,
+    to: u64,
     target: Target,
 ) -> Result<(), AllocError>
-    requires { InstrFits target (SetLoc address) }
-    ensures { OnOk result (out.new.items ≡ out.old.items ++ instr_bytes target (SetLoc address)) }
+    requires rises { from < to }
+    requires in_space { to < address_limit target.size }
+    ensures { OnOk result (out.new.items ≡ out.old.items ++ instr_bytes target (move from to)) }
 {
-    out.push(SET_LOC)?;
-    put_fixed(
-        out,
-        target.order,
-        usize::from(target.size.byte_count()),
-        address,
-    )
+    if to - from < 64 {
+        out.push(ADVANCE_LOC + (to - from) as u8)?;
+        return Ok(());
+    }
+    push_far_move(out, from, to, target)
 }
 
 // Appends an expression behind its length.
@@ -222,50 +218,50 @@ pub(crate) fn push_cfa_offset(
     push_with(out, DEF_CFA_OFFSET, offset.unsigned_abs())
 }
 
-/// Appends what gives the CFA another register.
+// Whether nothing has to be changed.
 #[inline(always)]
-#[tactic(auto, unfolding(dw_canon::specs::Spelling::instr_bytes))]
-pub(crate) fn push_cfa_register(
-    out: &mut Vec<u8>,
-    register: u16,
-    target: Target,
-) -> Result<(), AllocError>
-    ensures { OnOk result (out.new.items ≡ out.old.items ++ instr_bytes target (DefCfaRegister register)) }
+fn stays(old: &CfaRule<'_>, new: &CfaRule<'_>) -> bool
+    ensures { result ≡ same_cfa old.now new.now }
 {
-    let _ = target;
-    push_with(out, DEF_CFA_REGISTER, u64::from(register))
+    old.is_same(new)
 }
 
-/// Appends what makes the CFA a register plus an offset.
+/// Appends what leads from one rule of the CFA to another.
+#[inline(never)]
 #[tactic(auto, unfolding(dw_canon::specs::Spelling::instr_bytes))]
-pub(crate) fn push_def_cfa(
+pub(crate) fn push_other_cfa(
     out: &mut Vec<u8>,
-    register: u16,
-    offset: i64,
+    old: &CfaRule<'_>,
+    new: &CfaRule<'_>,
     target: Target,
 ) -> Result<(), AllocError>
-    requires { InstrFits target (DefCfa register offset) }
-    ensures { OnOk result (out.new.items ≡ out.old.items ++ instr_bytes target (DefCfa register offset)) }
+    requires { AllByRecursion (InstrFits target) (cfa_difference old.now new.now) }
+    ensures { OnOk result (out.new.items ≡ out.old.items ++ program_bytes target (cfa_difference old.now new.now)) }
 {
-    let _ = target;
-    if offset < 0 {
-        push_with(out, DEF_CFA_SF, u64::from(register))?;
-        return push_sleb(out, -offset);
+    if stays(old, new) {
+        return Ok(());
     }
-    push_with(out, DEF_CFA, u64::from(register))?;
-    push_uleb(out, offset.unsigned_abs())
-}
-
-/// Appends what makes the CFA what an expression gives.
-#[tactic(auto, unfolding(dw_canon::specs::Spelling::instr_bytes))]
-pub(crate) fn push_cfa_expression(
-    out: &mut Vec<u8>,
-    expression: &ExprRef<'_>,
-    target: Target,
-) -> Result<(), AllocError>
-    requires { HasBlock target expression.now }
-    ensures { OnOk result (out.new.items ≡ out.old.items ++ instr_bytes target (DefCfaExpression expression.now)) }
-{
-    out.push(DEF_CFA_EXPRESSION)?;
-    push_expression(out, expression, target)
+    match new {
+        CfaRule::Unset => Ok(()),
+        CfaRule::Expression(expression) => {
+            out.push(DEF_CFA_EXPRESSION)?;
+            push_expression(out, expression, target)
+        }
+        CfaRule::Register { register, offset } => match old {
+            CfaRule::Register { register: r, .. } if *r == *register => {
+                push_cfa_offset(out, *offset, target)
+            }
+            CfaRule::Register { offset: n, .. } if *n == *offset => {
+                push_with(out, DEF_CFA_REGISTER, u64::from(*register))
+            }
+            _ if *offset < 0 => {
+                push_with(out, DEF_CFA_SF, u64::from(*register))?;
+                push_sleb(out, -*offset)
+            }
+            _ => {
+                push_with(out, DEF_CFA, u64::from(*register))?;
+                push_uleb(out, offset.unsigned_abs())
+            }
+        },
+    }
 }

@@ -5,14 +5,16 @@ ghost use Rattle.std.specs.{Prelude.{◌≡◌, ℕ, ◌<◌, ◌≤◌, ◌^◌
 ghost use Rattle.dw_cfa.specs.Rows.{Rules};
 ghost use Rattle.dw_canon.specs.Members.{Member, AreMembers};
 ghost use Rattle.dw_canon.specs.Inner.{Canon.{canon, cie_instrs}, Fits.InstrFits};
-ghost use Rattle.dw_normal.specs.Inner.{Begun.SharesIn, Lengths.{Leaves, MemberLeaves, Measures, cies_bytes, fdes_bytes}};
+ghost use Rattle.dw_normal.specs.Inner.{Begun.Walks, Lengths.{Leaves, MemberLeaves, Measures, cies_bytes, fdes_bytes}};
 ghost use Rattle.dw_normal.specs.Inner.Listed.{AreInitial, AreListed, IsListed, OfMembers};
 
 use crate::begun::{Begun, begin_fde, room_for};
-use crate::room::{behind_cie, behind_fde};
+use crate::contents::fill_cie;
+use crate::groups::Ready;
+use crate::room::{behind, behind_fde};
 use dw_cfa::Row;
 use dw_num::Target;
-use dw_section::{FdeRef, Table};
+use dw_section::FdeRef;
 use std::alloc::{AllocError, Global};
 use std::collections::BTreeMap;
 
@@ -28,7 +30,8 @@ fn behind_cies<'a>(
 {
     let mut left = room;
     'rows: for (register, initial) in rows.iter() {
-        let Some(rest) = behind_cie(left, out, *register, initial, target)? else {
+        fill_cie(out, *register, initial, target)?;
+        let Some(rest) = behind(left, out.len() as u128) else {
             return Ok(None);
         };
         left = rest;
@@ -41,30 +44,18 @@ fn behind_member<'r, 'a>(
     room: u128,
     out: &mut Vec<u8>,
     begun: &mut Begun<'r, 'a>,
-    rows: &'r BTreeMap<u16, Row<'a>>,
-    table: &Table<'a>,
     fde: FdeRef,
 ) -> Result<Option<u128>, AllocError>
     requires room { room < 2 ^ 32 }
-    requires place { IsListed table.now fde.place }
-    requires rows { AreInitial table.now rows.now.entries }
-    requires section { begun.old.changes.section ≡ table.now }
-    requires before { SharesIn rows.now.entries begun.old }
-    ensures leaves { (ms : List Member) → AreMembers table.now.target table.now.bytes ms → (d : Member) → IfOk result (MemberLeaves table.now.target ms (slice_index_or ms fde.place d) room) }
-    ensures section { begun.new.changes.section ≡ table.now }
-    ensures shares { OnOk result (SharesIn rows.now.entries begun.new) }
+    requires place { IsListed begun.old.ready.now.table fde.place }
+    requires walks { Walks begun.old }
+    ensures leaves { (ms : List Member) → AreMembers begun.old.ready.now.table.target begun.old.ready.now.table.bytes ms → (d : Member) → IfOk result (MemberLeaves begun.old.ready.now.table.target ms (slice_index_or ms fde.place d) room) }
+    ensures walks { OnOk result (Walks begun.new) }
+    ensures same { begun.new.ready ≡ begun.old.ready }
 {
-    begin_fde(begun, rows, table, fde)?;
-    let (listed, shared) = (begun.fde, begun.shared);
-    behind_fde(
-        room,
-        out,
-        &mut begun.changes,
-        &begun.apart,
-        shared,
-        u128::from(listed.begin),
-        table.target(),
-    )
+    begin_fde(begun, fde)?;
+    let target = begun.ready.table.target();
+    behind_fde(room, out, begun, target)
 }
 
 // What is left of room behind all FDEs, one after another in the room that is lent.
@@ -72,21 +63,17 @@ fn behind_all<'r, 'a>(
     room: u128,
     out: &mut Vec<u8>,
     begun: &mut Begun<'r, 'a>,
-    rows: &'r BTreeMap<u16, Row<'a>>,
-    table: &Table<'a>,
     count: usize,
 ) -> Result<Option<u128>, AllocError>
     requires room { room < 2 ^ 32 }
-    requires count { AreListed table.now count }
-    requires rows { AreInitial table.now rows.now.entries }
-    requires section { begun.old.changes.section ≡ table.now }
-    requires before { SharesIn rows.now.entries begun.old }
-    ensures { OfMembers table.now (λ ms. IfOk result (Leaves room (length (fdes_bytes table.now.target ms ms)))) }
+    requires count { AreListed begun.old.ready.now.table count }
+    requires walks { Walks begun.old }
+    ensures { OfMembers begun.old.ready.now.table (λ ms. IfOk result (Leaves room (length (fdes_bytes begun.old.ready.now.table.target ms ms)))) }
 {
-    table.accepted();
+    begun.ready.table.accepted();
     let mut left = room;
     'fdes: for place in 0..count {
-        let Some(rest) = behind_member(left, out, begun, rows, table, FdeRef { place })? else {
+        let Some(rest) = behind_member(left, out, begun, FdeRef { place })? else {
             return Ok(None);
         };
         left = rest;
@@ -98,42 +85,38 @@ fn behind_all<'r, 'a>(
 fn behind_fdes<'a>(
     room: u128,
     out: &mut Vec<u8>,
-    rows: &BTreeMap<u16, Row<'a>>,
-    table: &Table<'a>,
+    ready: &Ready<'a>,
 ) -> Result<Option<u128>, AllocError>
     requires room { room < 2 ^ 32 }
-    requires rows { AreInitial table.now rows.now.entries }
-    ensures { OfMembers table.now (λ ms. IfOk result (Leaves room (length (fdes_bytes table.now.target ms ms)))) }
+    requires rows { AreInitial ready.now.table ready.now.rows.entries }
+    ensures { OfMembers ready.now.table (λ ms. IfOk result (Leaves room (length (fdes_bytes ready.now.table.target ms ms)))) }
 {
-    table.accepted();
-    let count = table.fde_count();
+    let count = ready.table.fde_count();
     if count == 0 {
         return Ok(Some(room));
     }
-    let mut begun = room_for(*out.allocator(), rows, table);
-    behind_all(room, out, &mut begun, rows, table, count)
+    let mut begun = room_for(*out.allocator(), ready);
+    behind_all(room, out, &mut begun, count)
 }
 
-/// How many bytes the normal form of a table has, or none where that is more than `cap`. The rows are the initial ones of its
-/// groups.
+/// How many bytes the normal form of a table has, or none where that is more than `cap`.
 pub(crate) fn measured<'a>(
     alloc: Global,
-    table: &Table<'a>,
-    rows: &BTreeMap<u16, Row<'a>>,
+    ready: &Ready<'a>,
     cap: u64,
 ) -> Result<Option<u64>, AllocError>
     requires cap { cap ≤ 2147483647 }
-    requires rows { AreInitial table.now rows.now.entries }
-    ensures { OfMembers table.now (λ ms. IfOk result (Measures cap (length (canon table.now.target ms)))) }
+    requires rows { AreInitial ready.now.table ready.now.rows.entries }
+    ensures { OfMembers ready.now.table (λ ms. IfOk result (Measures cap (length (canon ready.now.table.target ms)))) }
 {
-    table.accepted();
-    let target = table.target();
+    ready.table.accepted();
+    let target = ready.table.target();
     let room = u128::from(cap);
     let mut out = Vec::new(alloc);
-    let Some(left) = behind_cies(room, &mut out, rows, target)? else {
+    let Some(left) = behind_cies(room, &mut out, &ready.rows, target)? else {
         return Ok(None);
     };
-    let Some(rest) = behind_fdes(left, &mut out, rows, table)? else {
+    let Some(rest) = behind_fdes(left, &mut out, ready)? else {
         return Ok(None);
     };
     Ok(Some((room - rest) as u64))

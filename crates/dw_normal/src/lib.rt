@@ -20,7 +20,6 @@ mod program;
 mod room;
 mod sink;
 mod tape;
-mod twins;
 
 pub use error::{SameError, Which, WriteError};
 pub use normal::{normal_length, normalise, normalise_to, same};

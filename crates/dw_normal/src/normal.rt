@@ -13,9 +13,10 @@ ghost use Rattle.dw_normal.specs.declared.error.SameError.TheVariants as TheSame
 use crate::entry::{PutError, write_entries};
 use crate::error::{SameError, Which, WriteError};
 use crate::likeness::same_tables;
-use crate::preparation::{measured_section, prepared, short_table};
+use crate::preparation::{measured_section, prepared, prepared_section};
 use crate::sink::Sink;
 use crate::tape::Tape;
+use dw_canon::normal_laws;
 use dw_num::{ReadError, Target, are_bytes};
 use dw_section::{Table, check, section_laws};
 use std::alloc::Global;
@@ -71,7 +72,7 @@ pub fn normal_length(
     are_bytes(bytes);
     section_laws();
     match measured_section(alloc, bytes, target, cap) {
-        Ok(measured) => Ok(measured.len),
+        Ok(len) => Ok(len),
         Err(error) => Err(error),
     }
 }
@@ -127,8 +128,8 @@ pub fn normalise_to<S: Sink>(
 {
     are_bytes(bytes);
     section_laws();
-    match prepared(alloc, bytes, target, cap) {
-        Ok(ready) => put_is(write_entries(alloc, sink, &ready.table, &ready.rows)),
+    match prepared_section(alloc, bytes, target, cap) {
+        Ok(ready) => put_is(write_entries(alloc, sink, &ready)),
         Err(error) => Err(unwritten(error)),
     }
 }
@@ -150,11 +151,12 @@ fn compared(alloc: Global, first: Table<'_>, second: Table<'_>) -> Result<bool, 
     ensures fit { IfOk result (λ b. FitsCap first.entry.target 2147483647 first.entry.bytes × FitsCap first.entry.target 2147483647 second.entry.bytes) }
     ensures refused { IfErr result (LengthFault first.entry.target 2147483647 first.entry.bytes second.entry.bytes) }
 {
-    let one = match short_table(alloc, first, LIMIT) {
+    normal_laws();
+    let one = match prepared(alloc, first, LIMIT) {
         Ok(one) => one,
         Err(error) => return Err(blamed(Which::First, error)),
     };
-    let two = match short_table(alloc, second, LIMIT) {
+    let two = match prepared(alloc, second, LIMIT) {
         Ok(two) => two,
         Err(error) => return Err(blamed(Which::Second, error)),
     };
@@ -169,8 +171,8 @@ fn same_as_itself(alloc: Global, table: Table<'_>) -> Result<bool, SameError>
     ensures found { IfOk result (λ b. (b ≡ true) × FitsCap table.entry.target 2147483647 table.entry.bytes) }
     ensures refused { IfErr result (LengthFault table.entry.target 2147483647 table.entry.bytes table.entry.bytes) }
 {
-    match short_table(alloc, table, LIMIT) {
-        Ok(_table) => Ok(true),
+    match prepared(alloc, table, LIMIT) {
+        Ok(_ready) => Ok(true),
         Err(error) => Err(blamed(Which::First, error)),
     }
 }

@@ -1,76 +1,22 @@
 //! Programs of the normal form, appended.
 
-ghost use Rattle.std.specs.{Prelude.{◌≡◌, ◌++◌, ◌<◌, OnOk}, List.AllByRecursion};
-ghost use Rattle.dw_num.specs.Target.{address_limit};
+ghost use Rattle.std.specs.{Prelude.{◌≡◌, ◌++◌, IfOk, OnOk}, List.AllByRecursion};
 ghost use Rattle.dw_cfa.specs.Rows.{rule};
-ghost use Rattle.dw_cfa.specs.Inner.Agreement.{same_cfa, same_rule};
-ghost use Rattle.dw_section.specs.Fits.{RuleFits};
-ghost use Rattle.dw_canon.specs.Difference.{move};
-ghost use Rattle.dw_canon.specs.Inner.{Difference.{difference, cfa_difference, rule_to}, Fits.InstrFits, Spelling.{instr_bytes, program_bytes, rule_bytes}};
-ghost use Rattle.dw_normal.specs.Inner.{Apart.StandsApart, ChangeWalk.{HasBefore, IsShown, Stand, later_bytes, row_or_blank, shown_row}};
-ghost use Rattle.dw_normal.specs.Inner.{Differences.Tells, RegisterWalk.rules_from};
+ghost use Rattle.dw_cfa.specs.Inner.Agreement.{same_rule};
+ghost use Rattle.dw_canon.specs.Inner.{Difference.{difference, cfa_difference, rule_to}, Fits.InstrFits, Spelling.{instr_bytes, program_bytes}};
+ghost use Rattle.dw_normal.specs.Inner.{Apart.StandsApart, ChangeWalk.{GoesOn, IsShown, Stand, shown_row}};
+ghost use Rattle.dw_normal.specs.Inner.{Differences.Tells};
 
 use crate::apart::Apart;
 use crate::differences::Differences;
 use crate::instruction::{
-    push_advance, push_cfa_expression, push_cfa_offset, push_cfa_register, push_def_cfa,
-    push_offset, push_packed, push_rule, push_set_loc,
+    push_cfa_offset, push_move, push_offset, push_other_cfa, push_packed, push_rule,
 };
 use crate::opcode::{RESTORE, RESTORE_EXTENDED};
 use dw_cfa::{CfaRule, Row};
 use dw_num::Target;
 use dw_section::Changes;
 use std::alloc::AllocError;
-
-// Whether nothing has to be changed.
-#[inline(always)]
-fn stays(old: &CfaRule<'_>, new: &CfaRule<'_>) -> bool
-    ensures { result ≡ same_cfa old.now new.now }
-{
-    old.is_same(new)
-}
-
-// Appends what leads from one rule of the CFA to another.
-#[inline(never)]
-fn push_other_cfa(
-    out: &mut Vec<u8>,
-    old: &CfaRule<'_>,
-    new: &CfaRule<'_>,
-    target: Target,
-) -> Result<(), AllocError>
-    requires { AllByRecursion (InstrFits target) (cfa_difference old.now new.now) }
-    ensures { OnOk result (out.new.items ≡ out.old.items ++ program_bytes target (cfa_difference old.now new.now)) }
-{
-    if stays(old, new) {
-        return Ok(());
-    }
-    match (old, new) {
-        (
-            CfaRule::Register { register, offset },
-            CfaRule::Register {
-                register: r,
-                offset: n,
-            },
-        ) => {
-            if *register == *r {
-                push_cfa_offset(out, *n, target)
-            } else if *offset == *n {
-                push_cfa_register(out, *r, target)
-            } else {
-                push_def_cfa(out, *r, *n, target)
-            }
-        }
-        (
-            _,
-            CfaRule::Register {
-                register: r,
-                offset: n,
-            },
-        ) => push_def_cfa(out, *r, *n, target),
-        (_, CfaRule::Expression(e)) => push_cfa_expression(out, e, target),
-        (_, CfaRule::Unset) => Ok(()),
-    }
-}
 
 // Appends what leads from the CFA's rule of one row to that of another: mostly another offset from the same register.
 #[inline(always)]
@@ -101,23 +47,6 @@ fn push_cfa<'a>(
     }
 }
 
-// Appends what gives a register the rule that a row gives it: mostly that it is saved, and then no rule is moved about.
-#[inline(always)]
-fn push_rule_of<'a>(
-    out: &mut Vec<u8>,
-    row: &Row<'a>,
-    register: u16,
-    target: Target,
-) -> Result<(), AllocError>
-    requires { RuleFits target (rule row.now register) }
-    ensures { OnOk result (out.new.items ≡ out.old.items ++ rule_bytes target register (rule row.now register)) }
-{
-    match row.offset_of(register) {
-        Some(offset) => push_offset(out, register, offset),
-        None => push_rule(out, row, register, target),
-    }
-}
-
 // Whether the rule of a register of a row is the initial one, which `Restore` gives it.
 #[inline(always)]
 fn is_restored(row: &Row<'_>, initial: &Row<'_>, register: u16) -> bool
@@ -126,7 +55,8 @@ fn is_restored(row: &Row<'_>, initial: &Row<'_>, register: u16) -> bool
     row.has_same_rule(initial, register)
 }
 
-// Appends what gives a register its rule of a row: `Restore` where it is the initial one.
+// Appends what gives a register its rule of a row: `Restore` where it is the initial one, and else mostly that it is saved, where no
+// rule is moved about.
 #[inline(always)]
 #[tactic(auto, unfolding(dw_canon::specs::Spelling::instr_bytes))]
 fn push_register<'a>(
@@ -142,29 +72,10 @@ fn push_register<'a>(
     if is_restored(row, shared, register) {
         return push_packed(out, RESTORE, RESTORE_EXTENDED, register);
     }
-    push_rule_of(out, row, register, target)
-}
-
-// Appends what gives each register whose rule differs its rule of another row.
-#[inline(always)]
-fn push_rules<'a>(
-    out: &mut Vec<u8>,
-    shared: &Row<'a>,
-    before: &Row<'a>,
-    after: &Row<'a>,
-    differences: &Differences<'_, 'a>,
-    target: Target,
-) -> Result<(), AllocError>
-    requires tells { Tells differences.now before.now after.now }
-    requires fits { AllByRecursion (InstrFits target) (rules_from shared.now before.now after.now 0) }
-    ensures { OnOk result (out.new.items ≡ out.old.items ++ program_bytes target (rules_from shared.now before.now after.now 0)) }
-{
-    let mut last = None;
-    'registers: while let Some(register) = differences.next(before, after, last) {
-        push_register(out, shared, after, register, target)?;
-        last = Some(register);
+    match row.offset_of(register) {
+        Some(offset) => push_offset(out, register, offset),
+        None => push_rule(out, row, register, target),
     }
-    Ok(())
 }
 
 /// Appends what leads from one row to another, where a third has the initial rules. It may leave some of it where memory
@@ -183,40 +94,12 @@ pub(crate) fn push_difference<'a>(
     ensures { OnOk result (out.new.items ≡ out.old.items ++ program_bytes target (difference shared.now before.now after.now)) }
 {
     push_cfa(out, before, after, target)?;
-    push_rules(out, shared, before, after, differences, target)
-}
-
-// Appends what moves the location far.
-#[inline(never)]
-#[tactic(auto, unfolding(dw_canon::specs::Spelling::instr_bytes))]
-fn push_far_move(out: &mut Vec<u8>, from: u128, to: u128, target: Target) -> Result<(), AllocError>
-    requires rises { from < to }
-    requires in_space { to < address_limit target.size }
-    ensures { OnOk result (out.new.items ≡ out.old.items ++ instr_bytes target (move from to)) }
-{
-    if to - from < 4294967296 {
-        return push_advance(out, target.order, (to - from) as u32);
+    let mut last = None;
+    'registers: while let Some(register) = differences.next(before, after, last) {
+        push_register(out, shared, after, register, target)?;
+        last = Some(register);
     }
-    push_set_loc(out, to as u64, target)
-}
-
-/// Appends what moves the location, mostly by a few bytes.
-#[inline(always)]
-#[tactic(auto, unfolding(dw_canon::specs::Spelling::instr_bytes))]
-pub(crate) fn push_move(
-    out: &mut Vec<u8>,
-    from: u128,
-    to: u128,
-    target: Target,
-) -> Result<(), AllocError>
-    requires rises { from < to }
-    requires in_space { to < address_limit target.size }
-    ensures { OnOk result (out.new.items ≡ out.old.items ++ instr_bytes target (move from to)) }
-{
-    if to - from < 64 {
-        return push_advance(out, target.order, (to - from) as u32);
-    }
-    push_far_move(out, from, to, target)
+    Ok(())
 }
 
 /// Appends what leads from an initial row to the one that is shown. Out of line: the loop over an FDE's changes is slower beside it.
@@ -239,49 +122,52 @@ pub(crate) fn push_first<'a>(
     push_difference(out, shared, shared, first, &apart.differences(), target)
 }
 
-/// Appends what leads to the row that is shown from the one before it.
+// Goes on to the next change, appends what leads to it from the row that is shown at an address, and answers its address.
 #[inline(always)]
-pub(crate) fn push_change<'a>(
+fn push_next<'a>(
     out: &mut Vec<u8>,
+    changes: &mut Changes<'a>,
     shared: &Row<'a>,
-    changes: &Changes<'a>,
+    at: u64,
     target: Target,
-) -> Result<(), AllocError>
-    requires before { HasBefore changes.now }
-    requires shown { IsShown changes.now }
-    requires fits { AllByRecursion (InstrFits target) (difference shared.now (row_or_blank changes.now.before) (shown_row changes.now)) }
-    ensures { OnOk result (out.new.items ≡ out.old.items ++ program_bytes target (difference shared.now (row_or_blank changes.now.before) (shown_row changes.now))) }
+) -> Result<Option<u64>, AllocError>
+    requires { Stand target shared.now at changes.old }
+    ensures goes { IfOk result (λ next. GoesOn target shared.now at changes.old out.old.items next changes.new out.new.items) }
+    ensures section { changes.new.section ≡ changes.old.section }
 {
+    let Some(to) = changes.advance()? else {
+        return Ok(None);
+    };
+    let address = to as u64;
+    push_move(out, at, address, target)?;
     let (Some(before), Some(row)) = (changes.before(), changes.row()) else {
         unreachable!();
     };
-    push_difference(
-        out,
-        shared,
-        before,
-        row,
-        &Differences::Altered(changes),
-        target,
-    )
+    let altered = Differences::Altered(changes);
+    push_difference(out, shared, before, row, &altered, target)?;
+    Ok(Some(address))
 }
 
-/// Appends the changes that are still to come behind an address, whose row is shown.
+/// Appends the changes that are still to come behind an address, whose row is shown, up to one behind which there are so many bytes,
+/// and answers its address; or none where all were appended.
 pub(crate) fn push_later<'a>(
     out: &mut Vec<u8>,
     changes: &mut Changes<'a>,
     shared: &Row<'a>,
-    begin: u128,
+    begin: u64,
     target: Target,
-) -> Result<(), AllocError>
+    most: usize,
+) -> Result<Option<u64>, AllocError>
     requires { Stand target shared.now begin changes.old }
-    ensures appends { OnOk result (out.new.items ≡ out.old.items ++ later_bytes target shared.now begin changes.old) }
+    ensures goes { IfOk result (λ next. GoesOn target shared.now begin changes.old out.old.items next changes.new out.new.items) }
     ensures section { changes.new.section ≡ changes.old.section }
 {
     let mut at = begin;
-    'changes: while let Some(address) = changes.advance()? {
-        push_move(out, at, address, target)?;
-        push_change(out, shared, changes, target)?;
+    'changes: while let Some(address) = push_next(out, changes, shared, at, target)? {
+        if out.len() >= most {
+            return Ok(Some(address));
+        }
         at = address;
     }
-    Ok(())
+    Ok(None)
 }

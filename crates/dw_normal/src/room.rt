@@ -1,17 +1,19 @@
 //! How much room the entries of the normal form leave: they are written, counted and forgotten, an FDE change by change. The room
 //! gets less with each, so that no sum wraps.
 
-ghost use Rattle.std.specs.{Prelude.{◌≡◌, ◌<◌, ◌^◌, length, IfOk}, List.AllByRecursion};
-ghost use Rattle.dw_canon.specs.Inner.{Canon.cie_instrs, Difference.difference, Fits.InstrFits, Spelling.program_bytes, Written.entry_bytes};
-ghost use Rattle.dw_normal.specs.Inner.{Apart.StandsApart, ChangeWalk.{IsShown, Stand, later_bytes, shown_row}, Lengths.{Leaves, FdeLeaves, cie_with}};
+ghost use Rattle.std.specs.Prelude.{◌≡◌, ◌<◌, ◌^◌, length, IfOk};
+ghost use Rattle.dw_normal.specs.Inner.{Begun.{IsReady, KeepsFde}, ChangeWalk.{Stand, later_bytes}, Lengths.{Leaves, FdeLeaves}};
 
-use crate::apart::Apart;
-use crate::contents::{fill_cie, filled_len};
-use crate::program::{push_change, push_first, push_move};
+use crate::begun::Begun;
+use crate::contents::filled_len;
+use crate::program::{push_first, push_later};
 use dw_cfa::Row;
 use dw_num::Target;
 use dw_section::Changes;
 use std::alloc::AllocError;
+
+// The changes of an FDE are written up to so many bytes at a time.
+const CHUNK: usize = 65_536;
 
 /// What so many bytes leave of room.
 pub(crate) fn behind(room: u128, len: u128) -> Option<u128>
@@ -23,14 +25,14 @@ pub(crate) fn behind(room: u128, len: u128) -> Option<u128>
     Some(room - len)
 }
 
-/// What is left of room behind the changes that are still to come behind an address, whose row is shown. A buffer holds one of
-/// them at a time.
-pub(crate) fn behind_later<'a>(
+// What is left of room behind the changes that are still to come behind an address, whose row is shown. A buffer holds few of
+// them at a time.
+fn behind_later<'a>(
     room: u128,
     out: &mut Vec<u8>,
     changes: &mut Changes<'a>,
     shared: &Row<'a>,
-    begin: u128,
+    begin: u64,
     target: Target,
 ) -> Result<Option<u128>, AllocError>
     requires { Stand target shared.now begin changes.old }
@@ -39,74 +41,40 @@ pub(crate) fn behind_later<'a>(
 {
     let mut left = room;
     let mut at = begin;
-    'changes: while let Some(address) = changes.advance()? {
+    'changes: loop {
         out.clear();
-        push_move(out, at, address, target)?;
-        push_change(out, shared, changes, target)?;
+        let next = push_later(out, changes, shared, at, target, CHUNK)?;
         let Some(rest) = behind(left, out.len() as u128) else {
             return Ok(None);
         };
         left = rest;
+        let Some(address) = next else {
+            return Ok(Some(left));
+        };
         at = address;
     }
-    Ok(Some(left))
 }
 
-/// What is left of room behind a CIE with an initial row, which a buffer holds then.
-pub(crate) fn behind_cie<'a>(
-    room: u128,
-    out: &mut Vec<u8>,
-    register: u16,
-    initial: &Row<'a>,
-    target: Target,
-) -> Result<Option<u128>, AllocError>
-    requires { AllByRecursion (InstrFits target) (cie_instrs initial.now) }
-    ensures { IfOk result (Leaves room (length (entry_bytes target (cie_with target (register, initial.now))))) }
-{
-    fill_cie(*out.allocator(), out, register, initial, target)?;
-    Ok(behind(room, out.len() as u128))
-}
-
-// What is left of room behind what leads from an initial row to the one that is shown, which a buffer holds then.
-fn behind_first<'a>(
-    room: u128,
-    out: &mut Vec<u8>,
-    shared: &Row<'a>,
-    changes: &Changes<'a>,
-    apart: &Apart<'a>,
-    target: Target,
-) -> Result<Option<u128>, AllocError>
-    requires shown { IsShown changes.now }
-    requires apart { StandsApart apart.now shared.now (shown_row changes.now) }
-    requires fits { AllByRecursion (InstrFits target) (difference shared.now shared.now (shown_row changes.now)) }
-    ensures { IfOk result (Leaves room (length (program_bytes target (difference shared.now shared.now (shown_row changes.now))))) }
-{
-    out.clear();
-    push_first(out, shared, changes, apart, target)?;
-    Ok(behind(room, out.len() as u128))
-}
-
-/// What is left of room behind an FDE: its row at its begin, which is shown, and the changes that are still to come.
+/// What is left of room behind an FDE that was begun.
 pub(crate) fn behind_fde<'a>(
     room: u128,
     out: &mut Vec<u8>,
-    changes: &mut Changes<'a>,
-    apart: &Apart<'a>,
-    shared: &Row<'a>,
-    begin: u128,
+    begun: &mut Begun<'_, 'a>,
     target: Target,
 ) -> Result<Option<u128>, AllocError>
     requires room { room < 2 ^ 32 }
-    requires apart { StandsApart apart.now shared.now (shown_row changes.old) }
-    requires first { AllByRecursion (InstrFits target) (difference shared.now shared.now (shown_row changes.old)) }
-    requires stand { Stand target shared.now begin changes.old }
-    ensures leaves { IfOk result (FdeLeaves target shared.now begin changes.old room) }
-    ensures section { changes.new.section ≡ changes.old.section }
+    requires ready { IsReady target begun.old }
+    ensures leaves { IfOk result (FdeLeaves target begun.old.shared.now begun.old.fde.begin begun.old.changes room) }
+    ensures section { begun.new.changes.section ≡ begun.old.changes.section }
+    ensures kept { KeepsFde begun.old begun.new }
 {
-    let Some(left) = behind_first(room, out, shared, changes, apart, target)? else {
+    let (begin, shared) = (begun.fde.begin, begun.shared);
+    out.clear();
+    push_first(out, shared, &begun.changes, &begun.apart, target)?;
+    let Some(left) = behind(room, out.len() as u128) else {
         return Ok(None);
     };
-    let Some(rest) = behind_later(left, out, changes, shared, begin, target)? else {
+    let Some(rest) = behind_later(left, out, &mut begun.changes, shared, begin, target)? else {
         return Ok(None);
     };
     let len = 8 + 2 * usize::from(target.size.byte_count()) + (room - rest) as usize;

@@ -4,7 +4,6 @@ pub mod FixedLaws
 pub mod Turned
 pub mod SlebLaws
 pub mod Steps
-pub mod ShortNumbers
 pub mod Shortest
 pub mod Stays
 pub mod Refusals

@@ -4,7 +4,7 @@ ghost use Rattle.std.specs.Prelude.{◌≡◌, ℕ, ℤ, ◌+◌, ◌<◌, ◌�
 ghost use Rattle.dw_num.specs.{Fixed.{Address, Fixed, IsWidth, SpellsLength, fixed_number}, Front.{Reads, fixed_at, take_at, register_at}};
 ghost use Rattle.dw_num.specs.{Front.{leb_len, uleb_at, sleb_at, address_at, unit_length_at}, Input.{AreBytes, Takes, behind}, Leb.{Register, Sleb, Uleb}, declared.refusal.Code.TheVariants.Truncated};
 
-use crate::leb::{count_bytes, short_sleb, short_uleb, signed_sum, unsigned_sum};
+use crate::leb::{read_signed, read_unsigned};
 use crate::refusal::{Code, Refusal};
 use crate::target::{Form, Order, Size, Target, UnitLength};
 use byteorder::{BigEndian, ByteOrder, LittleEndian};
@@ -188,15 +188,9 @@ impl<'a> Cursor<'a> {
     fn read_uleb(&mut self) -> Result<u64, Refusal>
         ensures { Reads (λ v. v) result self.old (uleb_at self.old) self.new }
     {
-        if let Some(byte) = short_uleb(self.bytes) {
-            self.pass(1);
-            return Ok(u64::from(byte));
-        }
-        let Some(len) = count_bytes(self.bytes) else {
-            return Err(self.refuse(Code::Truncated));
-        };
-        let Some(value) = unsigned_sum(&self.bytes[..len]) else {
-            return Err(self.refuse(Code::NumberTooLarge));
+        let (value, len) = match read_unsigned(self.bytes) {
+            Ok(read) => read,
+            Err(code) => return Err(self.refuse(code)),
         };
         self.pass(len);
         Ok(value)
@@ -293,15 +287,9 @@ impl<'a> Cursor<'a> {
     fn read_register(&mut self) -> Result<u16, Refusal>
         ensures { Reads (λ r. r) result self.old (register_at self.old) self.new }
     {
-        if let Some(byte) = short_uleb(self.bytes) {
-            self.pass(1);
-            return Ok(u16::from(byte));
-        }
-        let Some(len) = count_bytes(self.bytes) else {
-            return Err(self.refuse(Code::Truncated));
-        };
-        let Some(value) = unsigned_sum(&self.bytes[..len]) else {
-            return Err(self.refuse(Code::NumberTooLarge));
+        let (value, len) = match read_unsigned(self.bytes) {
+            Ok(read) => read,
+            Err(code) => return Err(self.refuse(code)),
         };
         if value > LAST_REGISTER {
             return Err(self.refuse(Code::RegisterTooLarge));
@@ -327,15 +315,9 @@ impl<'a> Cursor<'a> {
     fn read_sleb(&mut self) -> Result<i64, Refusal>
         ensures { Reads (λ v. v) result self.old (sleb_at self.old) self.new }
     {
-        if let Some(value) = short_sleb(self.bytes) {
-            self.pass(1);
-            return Ok(value);
-        }
-        let Some(len) = count_bytes(self.bytes) else {
-            return Err(self.refuse(Code::Truncated));
-        };
-        let Some(value) = signed_sum(&self.bytes[..len]) else {
-            return Err(self.refuse(Code::NumberTooLarge));
+        let (value, len) = match read_signed(self.bytes) {
+            Ok(read) => read,
+            Err(code) => return Err(self.refuse(code)),
         };
         self.pass(len);
         Ok(value)

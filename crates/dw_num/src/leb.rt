@@ -1,8 +1,10 @@
 //! The LEB128 number at the front of a slice.
 
-ghost use Rattle.std.specs.Prelude.{length, take, IfSome, MatchOption, Some, ⊤, ◌≡◌, ℕ, ◌+◌, ◌*◌, ◌<◌, ◌≤◌, ◌^◌};
+ghost use Rattle.std.specs.Prelude.{length, take, IfOk, MatchOption, Some, ⊤, ◌≡◌, ℕ, ◌+◌, ◌*◌, ◌<◌, ◌≤◌, ◌^◌};
 ghost use Rattle.dw_num.specs.{Front.leb_len, Leb.{groups, is_negative, signed_groups}, Shortest.turned};
-ghost use Rattle.dw_num.specs.Inner.Scan.{IsTotal, IsSignedTotal, turned_from};
+ghost use Rattle.dw_num.specs.Inner.Scan.{IsTotal, IsSignedTotal, signed_of, turned_from, unsigned_of};
+
+use crate::refusal::Code;
 
 // The last place of a group that 64 bits hold, and the greatest group there.
 const TOP_PLACE: usize = 9;
@@ -34,20 +36,8 @@ fn add_to(total: Option<u64>, place: usize, group: u8) -> Option<u64>
     }
 }
 
-/// The number at the front, where it has one byte, as most have.
-#[inline(always)]
-pub(crate) fn short_uleb(bytes: &[u8]) -> Option<u8>
-    ensures { IfSome result (λ b. (leb_len bytes.now ≡ Some 1) × (b ≡ groups (take 1 bytes.now)) × (1 ≤ length bytes.now)) }
-{
-    match bytes.first() {
-        Some(byte) if *byte < 128 => Some(*byte),
-        _ => None,
-    }
-}
-
-/// How many bytes the number at the front has. Out of line, since most have one.
-#[inline(never)]
-pub(crate) fn count_bytes(bytes: &[u8]) -> Option<usize>
+// How many bytes the number at the front has.
+fn count_bytes(bytes: &[u8]) -> Option<usize>
     ensures found { result ≡ leb_len bytes.now }
     ensures within { MatchOption result ⊤ (λ n. (0 < n) × (n ≤ length bytes.now)) }
 {
@@ -101,9 +91,8 @@ fn short_sum(spelling: &[u8]) -> u64
     total
 }
 
-/// The number that all the bytes spell, unless it passes 64 bits.
-#[inline(never)]
-pub(crate) fn unsigned_sum(spelling: &[u8]) -> Option<u64>
+// The number that all the bytes spell, unless it passes 64 bits.
+fn unsigned_sum(spelling: &[u8]) -> Option<u64>
     ensures { IsTotal (groups spelling.now) result }
 {
     if spelling.len() > 9 {
@@ -112,9 +101,8 @@ pub(crate) fn unsigned_sum(spelling: &[u8]) -> Option<u64>
     Some(short_sum(spelling))
 }
 
-/// The signed number that all the bytes spell, unless it passes 64 bits.
-#[inline(never)]
-pub(crate) fn signed_sum(spelling: &[u8]) -> Option<i64>
+// The signed number that all the bytes spell, unless it passes 64 bits.
+fn signed_sum(spelling: &[u8]) -> Option<i64>
     requires { 0 < length spelling.now }
     ensures { IsSignedTotal (signed_groups spelling.now) result }
 {
@@ -132,14 +120,67 @@ pub(crate) fn signed_sum(spelling: &[u8]) -> Option<i64>
     }
 }
 
-/// The number at the front, where it has one byte, as most have.
+// A number of any length. Out of line, since most have one byte.
+#[inline(never)]
+fn read_long_unsigned(bytes: &[u8]) -> Result<(u64, usize), Code>
+    ensures exact { result ≡ unsigned_of (leb_len bytes.now) bytes.now }
+    ensures within { IfOk result (λ r. r.1 ≤ length bytes.now) }
+{
+    let len = count_bytes(bytes).ok_or(Code::Truncated)?;
+    let value = unsigned_sum(&bytes[..len]).ok_or(Code::NumberTooLarge)?;
+    Ok((value, len))
+}
+
+// The same in line: the room for its answer is cleared only where it is called.
 #[inline(always)]
-pub(crate) fn short_sleb(bytes: &[u8]) -> Option<i64>
-    ensures { IfSome result (λ v. (leb_len bytes.now ≡ Some 1) × (v ≡ signed_groups (take 1 bytes.now)) × (1 ≤ length bytes.now)) }
+fn longer_unsigned(bytes: &[u8]) -> Result<(u64, usize), Code>
+    ensures exact { result ≡ unsigned_of (leb_len bytes.now) bytes.now }
+    ensures within { IfOk result (λ r. r.1 ≤ length bytes.now) }
+{
+    read_long_unsigned(bytes)
+}
+
+/// The number at the front and how many bytes it has, or what is wrong with it.
+#[inline(always)]
+pub(crate) fn read_unsigned(bytes: &[u8]) -> Result<(u64, usize), Code>
+    ensures exact { result ≡ unsigned_of (leb_len bytes.now) bytes.now }
+    ensures within { IfOk result (λ r. r.1 ≤ length bytes.now) }
 {
     match bytes.first() {
-        Some(byte) if *byte < 64 => Some(i64::from(*byte)),
-        Some(byte) if *byte < 128 => Some(i64::from(*byte) - 128),
-        _ => None,
+        Some(byte) if *byte < 128 => Ok((u64::from(*byte), 1)),
+        _ => longer_unsigned(bytes),
+    }
+}
+
+// A signed number of any length.
+#[inline(never)]
+fn read_long_signed(bytes: &[u8]) -> Result<(i64, usize), Code>
+    ensures exact { result ≡ signed_of (leb_len bytes.now) bytes.now }
+    ensures within { IfOk result (λ r. r.1 ≤ length bytes.now) }
+{
+    let len = count_bytes(bytes).ok_or(Code::Truncated)?;
+    let value = signed_sum(&bytes[..len]).ok_or(Code::NumberTooLarge)?;
+    Ok((value, len))
+}
+
+// The same in line: the room for its answer is cleared only where it is called.
+#[inline(always)]
+fn longer_signed(bytes: &[u8]) -> Result<(i64, usize), Code>
+    ensures exact { result ≡ signed_of (leb_len bytes.now) bytes.now }
+    ensures within { IfOk result (λ r. r.1 ≤ length bytes.now) }
+{
+    read_long_signed(bytes)
+}
+
+/// The signed number at the front and how many bytes it has, or what is wrong with it.
+#[inline(always)]
+pub(crate) fn read_signed(bytes: &[u8]) -> Result<(i64, usize), Code>
+    ensures exact { result ≡ signed_of (leb_len bytes.now) bytes.now }
+    ensures within { IfOk result (λ r. r.1 ≤ length bytes.now) }
+{
+    match bytes.first() {
+        Some(byte) if *byte < 64 => Ok((i64::from(*byte), 1)),
+        Some(byte) if *byte < 128 => Ok((i64::from(*byte) - 128, 1)),
+        _ => longer_signed(bytes),
     }
 }

@@ -90,6 +90,9 @@ check_end profile i ops w read h e = located_is profile i (Ok ops) read (ops_all
 pub check_shorter : (w v : Walker) (op : Op) → WalkSo w → Walked w v op → length v.here.bytes < length w.here.bytes
 check_shorter w v op h s = step_shorter Location w.here s.step v.here h.here.within.bytes s.read
 
+-- what a walk needs that judges a block
+pub ruleset judging = (check_shorter, check_bad, check_end, located_none, decoded_fault)
+
 -- ---- what an accepted block stands for
 
 pub ops_are : (t : Target) (bytes : List ℕ) (ops : List Op) → decode_at Frame (block_input t bytes) ≡ Ok ops → ops_of t bytes ≡ ops

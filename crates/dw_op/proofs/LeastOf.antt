@@ -1,6 +1,6 @@
 -- The table of least spellings gives the least of all spellings.
 use Rattle.dw_op.specs.Inner.LeastOf.{address}
-use Rattle.dw_op.proofs.Words.{◌≡◌, ℕ, ◌+◌, ◌%◌, ◌^◌, ◌<◌, ◌≤◌, suc, List, [], ◌∷◌, ◌++◌, length, refl, sym, ap, subst, ◌∙◌, inl, inr, arith, ℤ, FitsSigned, ◌⊎◌, None, Some, w64, cases_lt, length-append, mod-eq_of_lt, Target}
+use Rattle.dw_op.proofs.Words.{◌≡◌, ℕ, ◌+◌, ◌%◌, ◌^◌, ◌<◌, ◌≤◌, suc, List, [], ◌∷◌, ◌++◌, length, refl, sym, ap, subst, ◌∙◌, inl, inr, arith, ℤ, FitsSigned, ◌⊎◌, None, Some, Result, Ok, Err, OnOk, append_assoc, w64, cases_lt, length-append, mod-eq_of_lt, Target}
 use Rattle.dw_op.proofs.Words.{Order, Size, Four, Eight, byte_count, fixed_bytes, Fixed, Uleb, Sleb, Register, length-fixed, shortest_uleb, shortest_sleb, shortest_uleb-spells, shortest_uleb-least, shortest_uleb-only}
 use Rattle.dw_op.proofs.Words.{shortest_sleb-least, leb_some, Op, Addr, Const, Pick, PlusUconst, Bra, Skip, Reg, Breg, Fbreg, Piece, DerefSize, BitPiece, Implicit, Spelling, Code, Both, AnyTwo, IsSpelled, Counted}
 use Rattle.dw_op.proofs.{Words.{AtMost, Least, operand_bytes, spelling_bytes, register_form, register_offset, least_spelling, least_bytes, bare, branch_target, Displaced, InRange, bits_of}, Branches.bytes_of_two}
@@ -147,6 +147,11 @@ only t all len k (Skip i) b r l d = branch_only t.order 0x2f all k i b (by_table
 only t all len k other b r l d = (table_best t 0 other r.bytes (by_table t other r.bytes r.spelled) refl).only b l
 
 -- ---- the table and what the code does with it
+
+-- what is appended behind what was appended
+pub behind : {A E : Type 0} (r : Result A E) (P : Type 0) (old mid new front back : List ℕ) → OnOk r P → (P → new ≡ mid ++ back) → mid ≡ old ++ front → OnOk r (new ≡ old ++ (front ++ back))
+behind (Ok x) P old mid new front back h f e = f h ∙ ap (λ (l : List ℕ). l ++ back) e ∙ append_assoc old front back
+behind (Err x) P old mid new front back h f e = tt
 
 -- where the bytes of a block lie is no matter
 pub bare_bytes : (t : Target) (d : ℕ) (op : Op) → least_bytes t d (bare op) ≡ least_bytes t d op

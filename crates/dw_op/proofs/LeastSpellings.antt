@@ -3,7 +3,7 @@ use Rattle.dw_op.proofs.Words.{◌≡◌, ℕ, suc, ◌+◌, ◌<◌, ◌^◌, L
 use Rattle.dw_op.proofs.Words.{branch_target, start, bits_of, blank_parts, BranchFits, EachFits, least_len, least_bytes, least_block, LeastBlock, IsAppended, weight, sum_in, step_length, IsNear, bits_to, index_in, op_of, StepSpells}
 use Rattle.dw_op.proofs.Words.{resolve, end_of, block_input, block_of, WalkSo, Walked, IsAccepted, ops_of}
 use Rattle.dw_op.proofs.Lent.{Blocks.{answered, same_ops, first_of_all}, EncodeLaws.{IsGoing, going_none, going_more, going_all, front_more}, LeastBlocks.{block_fits, least_block_exists}, LeastOne.{least_block_length, least_len_within}}
-use Rattle.dw_op.proofs.{Lent.ReadingLaws.step_found, Judgement.{accepted_block, accepted_all, same_input, left_first}, Splits.walk_end, Sums.{begins, Alike, alike, same_len, sums_are}, Walkers.walked_block}
+use Rattle.dw_op.proofs.{Lent.ReadingLaws.step_found, Judgement.{accepted_block, accepted_all, accepted_read, check_shorter, same_input, left_first}, Splits.walk_end, Sums.{begins, Alike, alike, same_len, sums_are}, Walkers.walked_block}
 
 -- ---- the operations of an accepted block
 
@@ -146,3 +146,6 @@ put_end t bytes old w out h e =
     let find = index_in Location (block_input t bytes) in
     let none : answered [] ≡ answered h.rest = sym (ap (λ (y : Walk). resolve find y.items) (walk_end Location w.here (ap length e))) ∙ h.left in
     going_all t (ops_of t bytes) old h.number out (subst (λ (l : List Op). IsGoing t (ops_of t bytes) old h.number l out) (sym (same_ops [] h.rest none)) h.going)
+
+-- what a walk needs that writes
+pub ruleset putting = (accepted_read, check_shorter, put_start, put_next)

@@ -1,4 +1,5 @@
 pub mod Words
+pub mod Barred
 pub mod LeastConst
 pub mod LeastOf
 pub mod Shorter

@@ -1,19 +1,53 @@
-//! Blocks as lists of operations.
+//! Blocks: judged without memory, and as lists of operations.
 
-ghost use Rattle.std.specs.Prelude.{◌≡◌, List, map, MatchResult, IfOk, IfErr, ◌⊎◌, Ok, Err};
+ghost use Rattle.std.specs.Prelude.{◌≡◌, List, map, MatchResult, IfOk, IfErr, ◌⊎◌, None, Some, Ok, Err, false};
 ghost use Rattle.dw_num.specs.{Refusals.Refuses, declared.refusal.Refusal.Refusal};
-ghost use Rattle.dw_op.specs.{Expression.bare, Faults.{IsBlock, BlockFault, IsWithin}, Inner.Walk.{block_input, decode_at}, declared.op.Op.Op};
+ghost use Rattle.dw_op.specs.{Expression.bare, Faults.{IsBlock, BlockFault, IsWithin}, declared.op.Op.Op, declared.profile.Profile.TheVariants.Frame};
+ghost use Rattle.dw_op.specs.Inner.{Accepted.{IsAccepted, IsDecoded}, Walk.{walk, block_input, decode_at}};
 
-use crate::judged_block::has_branch;
 use crate::list::OpList;
 use crate::op::Op;
+use crate::operation::{Step, next_step};
 use crate::profile::Profile;
 use crate::walk::{Measure, Walker};
-use dw_num::{ReadError, Target, are_bytes};
+use dw_num::{Cursor, ReadError, Refusal, Target, are_bytes};
 use std::alloc::Global;
 
+/// Reads a block to its end, and says whether it has a branch.
+#[tactic(auto, using(crate::proofs::Splits::step_shorter))]
+fn has_branch(bytes: &[u8], target: Target, profile: Profile) -> Result<bool, Refusal>
+    ensures read { IfOk result (λ b. (walk profile (block_input target bytes.now)).fault ≡ None) }
+    ensures plain { IfOk result (λ b. b ≡ false → IsDecoded profile target bytes.now) }
+    ensures first { IfErr result (λ r. (walk profile (block_input target bytes.now)).fault ≡ Some r) }
+{
+    are_bytes(bytes);
+    let mut cursor = Cursor::new(bytes, 0, target);
+    let mut found = false;
+    'ops: while cursor.left() > 0 {
+        match next_step(&mut cursor, profile)? {
+            Step::Plain(_) => {}
+            Step::Jump(_, _) => found = true,
+        }
+    }
+    Ok(found)
+}
+
+/// Whether bytes are a block of the frame profile, or their first fault. Only branches need a walker.
+#[tactic(auto, using(crate::proofs::Judgement::judging))]
+pub(crate) fn judge(bytes: &[u8], target: Target) -> Result<(), Refusal>
+    ensures found { IfOk result (λ _. IsAccepted target bytes.now) }
+    ensures first { IfErr result (λ r. decode_at Frame (block_input target bytes.now) ≡ Err r) }
+{
+    if !has_branch(bytes, target, Profile::Frame)? {
+        return Ok(());
+    }
+    let mut walker = Walker::new(bytes, target, Measure::Operations);
+    'ops: while let Some(_) = walker.next_op()? {}
+    Ok(())
+}
+
 // The operations of a block, or its first fault.
-#[tactic(auto, using(crate::proofs::Judgement::check_shorter, crate::proofs::Judgement::check_bad, crate::proofs::Judgement::check_end, crate::proofs::Splits::located_none, crate::proofs::Lent::Blocks::decoded_fault))]
+#[tactic(auto, using(crate::proofs::Judgement::judging))]
 fn decode_ops<'a>(
     alloc: Global,
     bytes: &'a [u8],
@@ -57,7 +91,7 @@ pub fn decode<'a>(
 {
     are_bytes(bytes);
     let ops = decode_ops(alloc, bytes, target, profile)?;
-    Ok(OpList::of_range(ops, target))
+    Ok(OpList { target, ops })
 }
 
 /// The first fault of a block is one, and a block with operations has none, as it has one list of them.

@@ -1,9 +1,9 @@
 //! Equality of expressions, and their hash.
 
-ghost use Rattle.std.specs.{Prelude.{◌≡◌, ◌++◌, [], pos, IsTrue, ◌↔◌, map}, List.fold};
+ghost use Rattle.std.specs.{Prelude.{◌≡◌, ◌++◌, [], IsTrue, ◌↔◌, map}, List.fold};
 ghost use Rattle.std.specs.Hash as fed;
 ghost use Rattle.dw_op.specs.Expression.{bare};
-ghost use Rattle.dw_op.specs.Inner.Equality.{line, alone, op_line, order_number, target_line, sign_of, size_of, line_fed, lines_fed, line_of};
+ghost use Rattle.dw_op.specs.Inner.Equality.{line, op_line, target_line, sign_of, size_of, line_fed, lines_fed, line_of, SameLine};
 
 use crate::expression::OpSteps;
 use crate::op::{Op, alone_code};
@@ -20,7 +20,7 @@ pub(crate) struct Line<'a> {
     pub(crate) bytes: &'a [u8],
 }
 
-fn with_offset<'a>(kind: u8, first: u64, signed: i64) -> Line<'a>
+fn new_line<'a>(kind: u8, first: u64, signed: i64) -> Line<'a>
     ensures { line_of result ≡ line kind first 0 signed [] }
 {
     Line {
@@ -32,47 +32,35 @@ fn with_offset<'a>(kind: u8, first: u64, signed: i64) -> Line<'a>
     }
 }
 
-fn with_number<'a>(kind: u8, first: u64) -> Line<'a>
-    ensures { line_of result ≡ line kind first 0 (pos 0) [] }
-{
-    with_offset(kind, first, 0)
-}
-
-fn alone<'a>(kind: u8) -> Line<'a>
-    ensures { line_of result ≡ alone kind }
-{
-    with_number(kind, 0)
-}
-
 fn in_line<'a>(op: Op<'a>) -> Line<'a>
     ensures { line_of result ≡ op_line op.entry }
 {
     match op {
-        Op::Addr(address) => with_number(0x03, address),
-        Op::Const(value) => with_number(0x08, value),
-        Op::Pick(index) => with_number(0x15, u64::from(index)),
-        Op::PlusUconst(number) => with_number(0x23, number),
-        Op::Bra(index) => with_number(0x28, index as u64),
-        Op::Skip(index) => with_number(0x2f, index as u64),
-        Op::Reg(register) => with_number(0x50, u64::from(register)),
-        Op::Breg(register, offset) => with_offset(0x70, u64::from(register), offset),
-        Op::Fbreg(offset) => with_offset(0x91, 0, offset),
-        Op::Piece(size) => with_number(0x93, size),
-        Op::DerefSize(size) => with_number(0x94, u64::from(size)),
+        Op::Addr(address) => new_line(0x03, address, 0),
+        Op::Const(value) => new_line(0x08, value, 0),
+        Op::Pick(index) => new_line(0x15, u64::from(index), 0),
+        Op::PlusUconst(number) => new_line(0x23, number, 0),
+        Op::Bra(index) => new_line(0x28, index as u64, 0),
+        Op::Skip(index) => new_line(0x2f, index as u64, 0),
+        Op::Reg(register) => new_line(0x50, u64::from(register), 0),
+        Op::Breg(register, offset) => new_line(0x70, u64::from(register), offset),
+        Op::Fbreg(offset) => new_line(0x91, 0, offset),
+        Op::Piece(size) => new_line(0x93, size, 0),
+        Op::DerefSize(size) => new_line(0x94, u64::from(size), 0),
         Op::BitPiece(size, offset) => Line {
             second: offset,
-            ..with_number(0x9d, size)
+            ..new_line(0x9d, size, 0)
         },
         Op::Implicit(bytes) => Line {
             bytes,
-            ..alone(0x9e)
+            ..new_line(0x9e, 0, 0)
         },
-        _ => alone(alone_code(&op)),
+        _ => new_line(alone_code(&op), 0, 0),
     }
 }
 
 fn same_line(a: Line<'_>, b: Line<'_>) -> bool
-    ensures { IsTrue result ↔ (a.entry.kind ≡ b.entry.kind) × (a.entry.first ≡ b.entry.first) × (a.entry.second ≡ b.entry.second) × (a.entry.signed ≡ b.entry.signed) × (a.entry.bytes.now ≡ b.entry.bytes.now) }
+    ensures { IsTrue result ↔ SameLine a.entry b.entry }
 {
     a.kind == b.kind
         && a.first == b.first
@@ -104,20 +92,14 @@ pub(crate) fn same_steps(mut a: OpSteps<'_>, mut b: OpSteps<'_>) -> bool
     }
 }
 
-fn order_in(order: Order) -> u8
-    ensures { result ≡ order_number order }
-{
-    match order {
-        Order::Little => 0,
-        Order::Big => 1,
-    }
-}
-
 pub(crate) fn feed_target<H: Hasher>(target: Target, state: &mut H)
     ensures { state.new ≡ fold H.write state.old (line_fed (target_line target)) }
 {
     state.write_u8(target.size.byte_count());
-    state.write_u8(order_in(target.order));
+    match target.order {
+        Order::Little => state.write_u8(0),
+        Order::Big => state.write_u8(1),
+    }
 }
 
 // A sign and a number.

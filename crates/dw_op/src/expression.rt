@@ -5,10 +5,9 @@ ghost use Rattle.std.specs.Iterator.{YieldsFirstBy, item_count};
 ghost use Rattle.dw_op.specs.{Block.FrameBlock, Expression.bare, Faults.{BlockFault, IsWithin}, Least.LeastBlock, LeastBlock.IsAppended};
 ghost use Rattle.dw_op.specs.{declared.op.Op.Op, declared.profile.Profile.TheVariants.Frame, Inner.Accepted.{IsAccepted, ops_of}};
 
-use crate::block::decode;
+use crate::block::{decode, judge};
 use crate::equality::{feed_steps, feed_target, same_steps};
-use crate::judged_block::judge;
-use crate::least_expression::{put_block, steps_len};
+use crate::least_block::{put_block, steps_len};
 use crate::list::OpList;
 use crate::op::Op;
 use crate::profile::Profile;
@@ -61,16 +60,6 @@ impl<'a> Model for OpSteps<'a> {
 }
 
 impl<'a> OpSteps<'a> {
-    #[tactic(auto, using(crate::proofs::Judgement::accepted_read, crate::proofs::Judgement::steps_all))]
-    fn new(bytes: &'a [u8], target: Target) -> OpSteps<'a>
-        requires { IsAccepted target bytes.now }
-        ensures { result ≡ ops_of target bytes.entry.now }
-    {
-        OpSteps {
-            walker: Walker::new(bytes, target, Measure::Operations),
-        }
-    }
-
     // The next operation, or none at the end.
     #[tactic(auto, using(crate::proofs::Judgement::steps_after, crate::proofs::Judgement::steps_answer))]
     pub(crate) fn step(&mut self) -> Option<Op<'a>>
@@ -130,10 +119,13 @@ impl<'a> ExprRef<'a> {
     }
 
     /// A walk over the operations (2.5.1). Takes no memory.
+    #[tactic(auto, using(crate::proofs::Judgement::accepted_read, crate::proofs::Judgement::steps_all))]
     pub fn steps(&self) -> OpSteps<'a>
         ensures { result ≡ self.now.ops }
     {
-        OpSteps::new(self.bytes, self.target)
+        OpSteps {
+            walker: Walker::new(self.bytes, self.target, Measure::Operations),
+        }
     }
 
     /// The operations (2.5.1) as a list, or want of memory.
@@ -141,10 +133,7 @@ impl<'a> ExprRef<'a> {
     pub fn ops(&self, alloc: Global) -> Result<OpList<'a>, AllocError>
         ensures { IfOk result (λ list. list ≡ self.now) }
     {
-        match decode(alloc, self.bytes, self.target, Profile::Frame) {
-            Ok(list) => Ok(list),
-            Err(_) => Err(AllocError),
-        }
+        decode(alloc, self.bytes, self.target, Profile::Frame).map_err(|_| AllocError)
     }
 
     /// Whether two expressions (2.5) have equal targets and equal lists of operations, which blocks of

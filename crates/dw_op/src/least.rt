@@ -2,7 +2,7 @@
 
 ghost use Rattle.std.specs.Prelude.{◌≡◌, ◌++◌, OnOk, OnErr, take, ℕ, ◌-◌, ◌<◌, ◌^◌, negsuc, length};
 ghost use Rattle.dw_num.specs.{Shortest.{shortest_uleb, shortest_sleb}, Target.address_limit, declared.target.Order.Order};
-ghost use Rattle.dw_op.specs.{Expression.bare, Inner.LeastOf.{spelling, address, operand_bytes, spelling_bytes, least_bytes}};
+ghost use Rattle.dw_op.specs.{Expression.bare, Inner.LeastOf.{spelling, address, operand_bytes, least_bytes}};
 ghost use Rattle.dw_op.specs.Inner.LeastOf.{constant, long_constant, longest_constant, register_form, register_offset, least_spelling};
 
 use crate::op::{Op, alone_code};
@@ -109,22 +109,6 @@ fn constant<'a>(value: u64, under: u64) -> Spelling<'a>
     }
 }
 
-// How far a constant is below the greatest one.
-fn under_limit(value: u64, size: Size) -> u64
-    ensures { result ≡ address_limit size - 1 - value }
-{
-    last_address(size).saturating_sub(value)
-}
-
-fn address<'a>(value: u64, size: Size) -> Spelling<'a>
-    ensures { result ≡ address size value }
-{
-    match size {
-        Size::Four => spell(0x03, Operand::Word((value % (1 << 32)) as u32)),
-        Size::Eight => spell(0x03, Operand::Double(value)),
-    }
-}
-
 fn register<'a>(register: u16) -> Spelling<'a>
     ensures { result ≡ register_form register }
 {
@@ -152,8 +136,11 @@ pub(crate) fn least_spelling<'a>(op: &Op<'a>, displacement: u16, target: Target)
     ensures { result ≡ least_spelling target displacement op.now }
 {
     match *op {
-        Op::Addr(value) => address(value, target.size),
-        Op::Const(value) => constant(value, under_limit(value, target.size)),
+        Op::Addr(value) => match target.size {
+            Size::Four => spell(0x03, Operand::Word((value % (1 << 32)) as u32)),
+            Size::Eight => spell(0x03, Operand::Double(value)),
+        },
+        Op::Const(value) => constant(value, last_address(target.size).saturating_sub(value)),
         Op::Pick(index) => spell(0x15, Operand::Byte(index)),
         Op::PlusUconst(number) => spell(0x23, Operand::Unsigned(number)),
         Op::Bra(_) => spell(0x28, Operand::Half(displacement)),
@@ -242,17 +229,8 @@ fn push_operand(out: &mut Vec<u8>, order: Order, operand: Operand<'_>) -> Result
     }
 }
 
-fn push_spelling(out: &mut Vec<u8>, order: Order, spelling: Spelling<'_>) -> Result<(), AllocError>
-    ensures ok { OnOk result (out.new.items ≡ out.old.items ++ spelling_bytes order spelling.entry) }
-    ensures front { take (length out.old.items) out.new.items ≡ out.old.items }
-{
-    out.push(spelling.code)?;
-    push_operand(out, order, spelling.operand)
-}
-
-/// Appends the least spelling of an operation, with these sixteen bits for a branch's displacement.
-/// Where memory runs out nothing is appended.
-#[tactic(auto, using(crate::proofs::LeastOf::least_spelled))]
+/// Appends the least spelling of an operation, with these sixteen bits for a branch's displacement. It may leave some of it
+/// where memory runs out.
 pub(crate) fn put_op(
     out: &mut Vec<u8>,
     op: &Op<'_>,
@@ -260,12 +238,9 @@ pub(crate) fn put_op(
     target: Target,
 ) -> Result<(), AllocError>
     ensures ok { OnOk result (out.new.items ≡ out.old.items ++ least_bytes target displacement (bare op.now)) }
-    ensures err { OnErr result (out.new.items ≡ out.old.items) }
+    ensures front { take (length out.old.items) out.new.items ≡ out.old.items }
 {
-    let start = out.len();
-    let result = push_spelling(out, target.order, least_spelling(op, displacement, target));
-    if result.is_err() {
-        out.truncate(start);
-    }
-    result
+    let spelling = least_spelling(op, displacement, target);
+    out.push(spelling.code)?;
+    push_operand(out, target.order, spelling.operand)
 }

@@ -1,15 +1,17 @@
-//! Writing lists of operations.
+//! Blocks of least spellings: of a list of operations, and of a block.
 
-ghost use Rattle.std.specs.Prelude.{◌≡◌, ℕ, ◌+◌, ◌-◌, ◌-ℤ◌, ◌<◌, List, length, map, pos, FitsSigned, ◌++◌, take, MatchOption, IfOk, IfErr, OnOk};
-ghost use Rattle.std.specs.Int.{w16, cast_unsigned};
-ghost use Rattle.dw_op.specs.{Block.{Block, branch_target}, Expression.bare, Least.LeastBlock, LeastBlock.{IsAppended, IsEncodeError}};
+ghost use Rattle.std.specs.Prelude.{◌≡◌, ℕ, ◌+◌, ◌-◌, ◌<◌, ◌^◌, ◌++◌, List, length, map, take, Some, MatchOption, IfOk, IfErr, OnOk};
+ghost use Rattle.dw_op.specs.{Block.{Block, branch_target}, Expression.bare, Least.LeastBlock, LeastBlock.IsEncodeError};
 ghost use Rattle.dw_op.specs.{Ranges.{AllInRange, TargetWithin}, declared.least_block.EncodeError.TheVariants.OutOfMemory};
-ghost use Rattle.dw_op.specs.Inner.LeastBlock.{blank_parts, least_block, AreStarts, AreBits, EachFits};
+ghost use Rattle.dw_op.specs.Inner.{Accepted.{IsAccepted, ops_of}, LeastBlock.{blank_parts, least_block, least_len, AreStarts, AreBits, IsWritten}};
+ghost use Rattle.dw_op.specs.Inner.Sums.{IsNear, bits_to};
 
+use crate::expression::OpSteps;
 use crate::least::{op_least_len, put_op};
 use crate::list::OpList;
 use crate::op::Op;
-use dw_num::Target;
+use crate::walk::{Measure, Walker};
+use dw_num::{Target, are_bytes};
 use std::alloc::{AllocError, Global};
 use thiserror::Error;
 
@@ -34,7 +36,7 @@ impl From<AllocError> for EncodeError {
     }
 }
 
-pub(crate) fn branch_target(op: &Op<'_>) -> Option<usize>
+fn branch_target(op: &Op<'_>) -> Option<usize>
     ensures { result ≡ branch_target (bare op.now) }
 {
     match *op {
@@ -45,8 +47,8 @@ pub(crate) fn branch_target(op: &Op<'_>) -> Option<usize>
 }
 
 // The sixteen bits of a displacement, unless it does not fit them.
-pub(crate) fn displacement_bits(from: usize, to: usize) -> Option<u16>
-    ensures { MatchOption result (FitsSigned w16 (pos to -ℤ pos from) → ⊥) (λ bits. FitsSigned w16 (pos to -ℤ pos from) × (bits ≡ cast_unsigned w16 (pos to -ℤ pos from))) }
+fn displacement_bits(from: usize, to: usize) -> Option<u16>
+    ensures { MatchOption result (IsNear from (Some to) → ⊥) (λ bits. IsNear from (Some to) × (bits ≡ bits_to from (Some to))) }
 {
     if from <= to && to - from <= 0x7fff {
         Some((to - from) as u16)
@@ -95,9 +97,8 @@ fn push_ops(
 ) -> Result<(), EncodeError>
     requires in_range { AllInRange target (map bare ops.now) }
     requires starts { AreStarts (blank_parts target (map bare ops.now)) (length ops.now) starts.now }
-    ensures ok { let all = map bare ops.now in OnOk result (EachFits (blank_parts target all) 0 all × (out.new.items ≡ out.old.items ++ least_block target all)) }
+    ensures ok { OnOk result (IsWritten target (map bare ops.now) out.old.items out.new.items) }
     ensures err { IfErr result (IsEncodeError target (map bare ops.now)) }
-    ensures front { take (length out.old.items) out.new.items ≡ out.old.items }
 {
     for (index, op) in ops.iter().enumerate() {
         let Some(bits) = branch_bits(op, index, starts) else {
@@ -108,23 +109,11 @@ fn push_ops(
     Ok(())
 }
 
-// Appends the least block, and may leave some of it.
-#[tactic(auto, using(crate::proofs::Lent::EncodeLaws::on_ok, crate::proofs::Lent::LeastBlocks::least_block_is))]
-fn push_list(out: &mut Vec<u8>, list: &OpList<'_>) -> Result<(), EncodeError>
-    ensures ok { OnOk result (IsAppended (LeastBlock list.now.target list.now.ops) out.old.items out.new.items) }
-    ensures far { IfErr result (IsEncodeError list.now.target list.now.ops) }
-    ensures front { take (length out.old.items) out.new.items ≡ out.old.items }
-{
-    let target = list.target();
-    let ops = list.ops();
-    let starts = least_starts(*out.allocator(), ops, target)?;
-    push_ops(out, ops, target, &starts)
-}
-
 /// The block of the operations' least spellings: no block of the same operations is shorter.
 /// `BranchTooFar` names the first branch whose displacement does not fit 16 signed bits; the
 /// operations then have no block at all. Takes memory for the block and for a number an operation.
 /// (DWARF 5, 2.5 and 7.7.1.)
+#[tactic(auto, using(crate::proofs::Lent::LeastBlocks::least_block_is))]
 pub fn encode(alloc: Global, list: &OpList<'_>) -> Result<Vec<u8>, EncodeError>
     // What is answered is the least block.
     ensures ok { IfOk result (λ block. LeastBlock list.now.target list.now.ops block.items) }
@@ -133,9 +122,54 @@ pub fn encode(alloc: Global, list: &OpList<'_>) -> Result<Vec<u8>, EncodeError>
     // Operations that have a block are refused for memory alone.
     ensures only { (bytes : List ℕ) → Block list.now.target list.now.ops bytes → IfErr result (λ error. error ≡ OutOfMemory) }
 {
+    let target = list.target();
+    let ops = list.ops();
+    let starts = least_starts(alloc, ops, target)?;
     let mut block = Vec::new(alloc);
-    match push_list(&mut block, list) {
+    match push_ops(&mut block, ops, target, &starts) {
         Ok(()) => Ok(block),
         Err(error) => Err(error),
     }
+}
+
+/// How long the least spellings of the operations of a walk are together.
+pub(crate) fn steps_len(mut steps: OpSteps<'_>, target: Target) -> usize
+    requires { least_len target steps < 2 ^ 63 }
+    ensures { result ≡ least_len target steps.entry }
+{
+    let mut total = 0usize;
+    'ops: while let Some(op) = steps.step() {
+        total += op_least_len(&op, target);
+    }
+    total
+}
+
+// The sixteen bits of the displacement of a branch that ends here and has where it goes, 0 for another operation.
+fn near_bits(end: usize, op: &Op<'_>) -> u16
+    requires { IsNear end (branch_target (bare op.now)) }
+    ensures { result ≡ bits_to end (branch_target (bare op.now)) }
+{
+    match branch_target(op) {
+        Some(start) => displacement_bits(end, start).unwrap_or(0),
+        None => 0,
+    }
+}
+
+/// Appends the least spellings of the operations of a block. It may leave some of them where memory runs out.
+#[tactic(auto, using(crate::proofs::LeastSpellings::putting))]
+pub(crate) fn put_block(bytes: &[u8], target: Target, out: &mut Vec<u8>) -> Result<(), AllocError>
+    requires { IsAccepted target bytes.now }
+    ensures all { OnOk result (out.new.items ≡ out.old.items ++ least_block target (ops_of target bytes.now)) }
+    ensures front { take (length out.old.items) out.new.items ≡ out.old.items }
+{
+    are_bytes(bytes);
+    let mut walker = Walker::new(bytes, target, Measure::LeastBytes);
+    'ops: while let Ok(next) = walker.next_op() {
+        let Some(op) = next else {
+            return Ok(());
+        };
+        put_op(out, &op, near_bits(walker.count, &op), target)?;
+    }
+    // A branch that leads nowhere, which no accepted block has.
+    Err(AllocError)
 }

@@ -4,13 +4,10 @@
 mod block;
 mod equality;
 mod expression;
-mod judged_block;
 mod laws;
 mod least;
 mod least_block;
-mod least_expression;
 mod list;
-mod marks;
 mod op;
 mod operation;
 mod profile;

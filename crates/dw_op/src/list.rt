@@ -16,8 +16,8 @@ use thiserror::Error;
 /// its end. A block (7.7.1) of an `exprloc` spells such a list.
 #[derive(Drop)]
 pub struct OpList<'a> {
-    target: Target,
-    ops: Vec<Op<'a>>,
+    pub(crate) target: Target,
+    pub(crate) ops: Vec<Op<'a>>,
 }
 
 impl<'a> Model for OpList<'a> {
@@ -60,23 +60,10 @@ fn is_in_range(op: &Op<'_>, target: Target, len: usize) -> bool
     fits(op, target, len)
 }
 
-// The first operation that is out of range.
-#[tactic(auto, using(crate::proofs::Lent::Ranges::first_bad))]
-fn first_bad(ops: &[Op<'_>], target: Target) -> Option<usize>
-    ensures { MatchOption result (AllInRange target (map bare ops.now)) (FirstBadOperand target (map bare ops.now)) }
-{
-    for (index, op) in ops.iter().enumerate() {
-        if !is_in_range(op, target, ops.len()) {
-            return Some(index);
-        }
-    }
-    None
-}
-
 impl<'a> OpList<'a> {
     /// A list of these operations (2.5.1, 2.6.1), or the first one that is out of range for the target. A list that
     /// is refused is dropped. Takes no memory.
-    #[tactic(auto, using(crate::proofs::Lent::Ranges::not_in_range))]
+    #[tactic(auto, using(crate::proofs::Lent::Ranges::first_bad))]
     pub fn from_ops(ops: Vec<Op<'a>>, target: Target) -> Result<OpList<'a>, BadOperand>
         // What is answered is the list, and it is in range.
         ensures found { IfOk result (λ list. (list ≡ record { target = target; ops = map bare ops.entry.items }) × AllInRange target (map bare ops.entry.items)) }
@@ -85,18 +72,12 @@ impl<'a> OpList<'a> {
         // A refusal names the first operation out of range.
         ensures first { IfErr result (λ error. FirstBadOperand target (map bare ops.entry.items) error.index) }
     {
-        match first_bad(&ops, target) {
-            Some(index) => Err(BadOperand { index }),
-            None => Ok(OpList { target, ops }),
+        for (index, op) in ops.iter().enumerate() {
+            if !is_in_range(op, target, ops.len()) {
+                return Err(BadOperand { index });
+            }
         }
-    }
-
-    // A list that is known to be in range.
-    pub(crate) fn of_range(ops: Vec<Op<'a>>, target: Target) -> OpList<'a>
-        requires { AllInRange target (map bare ops.items) }
-        ensures { result ≡ record { target = target; ops = map bare ops.entry.items } }
-    {
-        OpList { target, ops }
+        Ok(OpList { target, ops })
     }
 
     /// The target that the operations are for: the size of their addresses (`DW_OP_addr`, 2.5.1.1), and the order of their bytes.

@@ -1,6 +1,6 @@
 //! Operations of DWARF expressions.
 
-ghost use Rattle.std.specs.Prelude.{◌≡◌, ◌<◌, ◌^◌, length};
+ghost use Rattle.std.specs.Prelude.{◌≡◌, ◌<◌, ◌^◌};
 ghost use Rattle.dw_op.specs.Inner.{Codes.alone_code, Ranges.IsTyped};
 
 /// An operation (2.5.1, 2.6.1, 7.7.1). A branch names the operation that it goes to by its index in the list, which is
@@ -133,31 +133,22 @@ fn is_number(number: u64)
     let _ = number;
 }
 
-fn is_block(bytes: &[u8])
-    ensures { length bytes.now < 2 ^ 64 }
-{
-    let _ = bytes.len();
-}
-
 // The operands of an operation are of their types.
 pub(crate) fn are_typed(op: &Op<'_>)
     ensures { IsTyped op.now }
 {
     match *op {
-        Op::Addr(number) => is_number(number),
-        Op::Const(number) => is_number(number),
-        Op::Pick(index) => is_byte(index),
-        Op::PlusUconst(number) => is_number(number),
+        Op::Addr(number) | Op::Const(number) | Op::PlusUconst(number) | Op::Piece(number) =>
+            is_number(number),
+        Op::Pick(number) | Op::DerefSize(number) => is_byte(number),
         Op::Reg(register) => is_half(register),
         Op::Breg(_register, _offset) => (),
         Op::Fbreg(_offset) => (),
-        Op::Piece(size) => is_number(size),
-        Op::DerefSize(size) => is_byte(size),
         Op::BitPiece(size, offset) => {
             is_number(size);
             is_number(offset);
         }
-        Op::Implicit(bytes) => is_block(bytes),
+        Op::Implicit(bytes) => is_number(bytes.len() as u64),
         _ => (),
     }
 }

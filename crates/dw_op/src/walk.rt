@@ -1,15 +1,16 @@
-//! The operations of a block one after another, without memory.
+//! The operations of a block one after another, without memory, with marks that a search for one of them begins at.
 
-ghost use Rattle.std.specs.Prelude.{◌≡◌, ◌≤◌, ◌<◌, ◌-◌, ◌^◌, None, Some, IfSome, length};
-ghost use Rattle.dw_num.specs.Input.{AreBytes};
+ghost use Rattle.std.specs.Prelude.{◌≡◌, ◌≤◌, ◌<◌, ◌-◌, ◌^◌, None, Some, IfSome, length, slice_get};
+ghost use Rattle.dw_num.specs.Input.{AreBytes, behind};
 ghost use Rattle.dw_op.specs.{Expression.bare, declared.profile.Profile.TheVariants.Location, Inner.FrontOp.bare_step, Inner.Sums.{weight, sum_in}};
-ghost use Rattle.dw_op.specs.Inner.{Walk.{walk, end_of, goes_to, find_at, branch_to, block_input}, Windows.{Shifted, block_of, WalkSo, SoughtSo, Walks}};
+ghost use Rattle.dw_op.specs.Inner.Walk.{walk, end_of, goes_to, find_at, branch_to, block_input};
+ghost use Rattle.dw_op.specs.Inner.Windows.{AreMarks, Shifted, block_of, WalkSo, SoughtSo, Stays, Walks};
 
 use crate::least::op_least_len;
-use crate::marks::{APART, Marks, ROOM, fill, sum_by};
 use crate::op::Op;
 use crate::operation::{Branch, Step, next_step};
 use crate::profile::Profile;
+use arrayvec::ArrayVec;
 use dw_num::{Code, Cursor, Refusal, Target, are_bytes};
 
 // Where a branch that ends here goes to: DWARF 5, 2.5.1.5.
@@ -17,15 +18,23 @@ fn goal(end: u64, number: u16) -> Option<u64>
     requires { end < 2 ^ 64 - 65536 }
     ensures { result ≡ goes_to end number }
 {
-    let number = u64::from(number);
-    if number < 32768 {
-        Some(end + number)
-    } else if end + number < 65536 {
-        None
-    } else {
-        Some(end + number - 65536)
-    }
+    end.checked_add_signed(i64::from(number.cast_signed()))
 }
+
+/// How many bytes marks are apart.
+pub(crate) const APART: u64 = 512;
+/// How many marks there are room for.
+pub(crate) const ROOM: u64 = 192;
+
+/// An operation, by how many bytes are before it, and by what the operations there add.
+#[derive(Clone, Copy, Default)]
+pub(crate) struct Mark {
+    pub(crate) bytes: u32,
+    pub(crate) count: u32,
+}
+
+/// Up to 192 marks, which are kept in place.
+pub(crate) type Marks = ArrayVec<Mark, 192>;
 
 // How far back a branch leads.
 const REACH: u64 = 32768;
@@ -79,7 +88,7 @@ pub(crate) struct Walker<'a> {
 }
 
 /// A second cursor at the same place.
-pub(crate) fn copied<'a>(cursor: &Cursor<'a>) -> Cursor<'a>
+fn copied<'a>(cursor: &Cursor<'a>) -> Cursor<'a>
     ensures { result ≡ cursor.now }
 {
     Cursor::new(cursor.rest(), cursor.at(), cursor.target())
@@ -87,7 +96,7 @@ pub(crate) fn copied<'a>(cursor: &Cursor<'a>) -> Cursor<'a>
 
 /// Goes on to the first operation that does not begin below the place, and says what those add that it passes.
 #[tactic(auto, using(crate::proofs::WalkStarts::never_stuck, crate::proofs::Splits::step_shorter))]
-pub(crate) fn advance(window: &mut Cursor<'_>, measure: Measure, low: u64) -> usize
+fn advance(window: &mut Cursor<'_>, measure: Measure, low: u64) -> usize
     requires bytes { AreBytes window.old.bytes }
     requires read { (walk Location window.old).fault ≡ None }
     requires low { low ≤ end_of window.old }
@@ -107,7 +116,7 @@ pub(crate) fn advance(window: &mut Cursor<'_>, measure: Measure, low: u64) -> us
 
 /// What the operations from the cursor on add before the one that begins at the place, or before the end.
 #[tactic(auto, using(crate::proofs::WalkStarts::count_behind))]
-pub(crate) fn sum_from(cursor: &Cursor<'_>, measure: Measure, place: u64) -> Option<usize>
+fn sum_from(cursor: &Cursor<'_>, measure: Measure, place: u64) -> Option<usize>
     requires bytes { AreBytes cursor.now.bytes }
     requires read { (walk Location cursor.now).fault ≡ None }
     ensures exact { result ≡ sum_in measure Location cursor.now place }
@@ -123,6 +132,67 @@ pub(crate) fn sum_from(cursor: &Cursor<'_>, measure: Measure, place: u64) -> Opt
     } else {
         None
     }
+}
+
+fn mark_at(marks: &Marks, k: usize) -> Mark
+    requires { k < length marks.now.items }
+    ensures { slice_get marks.now.items k ≡ Some result }
+{
+    marks.as_slice()[k]
+}
+
+/// Marks what a cursor has left, as far as there is room.
+#[tactic(auto, using(crate::proofs::Marked::fill_none))]
+fn fill(window: &Cursor<'_>, measure: Measure, marks: &mut Marks)
+    requires bytes { AreBytes window.now.bytes }
+    requires read { (walk Location window.now).fault ≡ None }
+    ensures { AreMarks measure window.now marks.new.items }
+{
+    marks.clear();
+    let left = window.left();
+    let end = window.at() + left as u64;
+    let mut cursor = copied(window);
+    let mut count = 0;
+    let mut low = window.at() + APART;
+    'marks: while marks.len() < 192 {
+        if end < low {
+            return;
+        }
+        count += advance(&mut cursor, measure, low);
+        // Operations that are four gigabytes away have no marks.
+        match (u32::try_from(left - cursor.left()), u32::try_from(count)) {
+            (Ok(bytes), Ok(count)) => marks.push(Mark { bytes, count }),
+            _ => return,
+        }
+        low += APART;
+    }
+}
+
+/// A cursor behind so many bytes of another.
+fn cursor_behind<'a>(window: &Cursor<'a>, bytes: usize) -> Cursor<'a>
+    requires { bytes ≤ length window.now.bytes }
+    ensures { result ≡ behind bytes window.now }
+{
+    let (_, rest) = window.rest().split_at(bytes);
+    Cursor::new(rest, window.at() + bytes as u64, window.target())
+}
+
+/// What the operations from the cursor on add before the one that begins at the place, or before the end.
+fn sum_by(window: &Cursor<'_>, measure: Measure, marks: &Marks, place: u64) -> Option<usize>
+    requires bytes { AreBytes window.now.bytes }
+    requires read { (walk Location window.now).fault ≡ None }
+    requires marks { AreMarks measure window.now marks.now.items }
+    ensures exact { result ≡ sum_in measure Location window.now place }
+    ensures few { IfSome result (λ i. i ≤ length window.now.bytes) }
+{
+    let far = place.saturating_sub(window.at()) / APART;
+    let k = marks.len().min(far as usize);
+    if k == 0 {
+        return sum_from(window, measure, place);
+    }
+    let mark = mark_at(marks, k - 1);
+    let more = sum_from(&cursor_behind(window, mark.bytes as usize), measure, place)?;
+    Some(mark.count as usize + more)
 }
 
 impl<'a> Walker<'a> {
@@ -143,7 +213,7 @@ impl<'a> Walker<'a> {
             count: 0,
             window: Cursor::new(bytes, 0, target),
             window_count: 0,
-            marks: Marks::new(),
+            marks: ArrayVec::new(),
             limit: APART,
         }
     }
@@ -152,10 +222,7 @@ impl<'a> Walker<'a> {
     fn reach(&mut self, end: u64, place: u64)
         requires { SoughtSo end self.old }
         ensures so { SoughtSo end self.new }
-        ensures here { self.new.here ≡ self.old.here }
-        ensures count { self.new.count ≡ self.old.count }
-        ensures bytes { self.new.bytes.now ≡ self.old.bytes.now }
-        ensures measure { self.new.measure ≡ self.old.measure }
+        ensures stays { Stays self.old self.new }
     {
         if place < self.limit {
             return;
@@ -172,10 +239,7 @@ impl<'a> Walker<'a> {
         requires { SoughtSo end self.old }
         ensures exact { result ≡ find_at (sum_in self.old.measure Location (block_of self.old)) (goes_to end number) }
         ensures so { SoughtSo end self.new }
-        ensures here { self.new.here ≡ self.old.here }
-        ensures count { self.new.count ≡ self.old.count }
-        ensures bytes { self.new.bytes.now ≡ self.old.bytes.now }
-        ensures measure { self.new.measure ≡ self.old.measure }
+        ensures stays { Stays self.old self.new }
     {
         let place = goal(end, number)?;
         if end <= place && place - end < APART {

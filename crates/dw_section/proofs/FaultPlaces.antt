@@ -54,10 +54,10 @@ headers_within target s r (inr (ps, cies, w)) =
 
 -- ---- headers
 
-abbrev Good : ℕ → Head → Type 0
+abbrev pub Good : ℕ → Head → Type 0
 Good end h = ((head_at h ≤ end) × ((head_program h).at + length (head_program h).bytes ≤ end)) × HasBytes h
 
-has_good : (target : Target) (places : List ℕ) (end : ℕ) (p : Piece) (h : Head) → EndsBy end p → HasBytes h → Has target places p h → Good end h
+pub has_good : (target : Target) (places : List ℕ) (end : ℕ) (p : Piece) (h : Head) → EndsBy end p → HasBytes h → Has target places p h → Good end h
 has_good target places end p h ends bytes (inl c) = let e = fields_end target p _ c.0 c.1 c.2.1 in (rw (c.3) (ends.0, omega (arith, e, ends.1)), bytes)
 has_good target places end p h ends bytes (inr c) = let e = fields_end target p _ c.0 c.1 c.2.1 in (rw (c.3) (ends.0, omega (arith, e, ends.1)), bytes)
 

@@ -1,7 +1,8 @@
 -- An item at the front, and items in a row.
-use Rattle.dw_section.proofs.Words.{eqb, false, inl, inr, ◌≡◌, ℕ, ◌+◌, add-zero, zero-add, ◌<◌, ◌≤◌, Result, Ok, Err, List, [], ◌∷◌, ◌++◌, length, map, Option, Some, None, refl, sym, ap, subst, ◌∙◌, append_assoc, arith, le-ltb}
-use Rattle.dw_section.proofs.Words.{AllByRecursion, cons_option, length-append, append-nil, map-append, take_at, drop_at, ne_eqb, length-fixed, unit_length_only, length_bytes, Form, Target, Refusal, Pieces, Kind, CutFault, Order, Dwarf32}
-use Rattle.dw_section.proofs.{Words.{Dwarf64, Input, Takes, Item, gap, entry, IsItem, item_bytes, is_cie, id_width, all_bytes, Piece, piece_of, pieces, fixed_bytes, ok_is, entry_of, item_at, IsStuck, Four, Cut}, Stages.all_push}
+use Rattle.dw_section.proofs.Words.{Placed, IsPlaced, item_of, piece_in, eqb, false, inl, inr, ◌≡◌, ℕ, ◌+◌, add-zero, zero-add, ◌<◌, ◌≤◌, Result, Ok, Err, List, [], ◌∷◌, ◌++◌, length, map, Option, Some, None, refl, sym, ap, subst, ◌∙◌}
+use Rattle.dw_section.proofs.Words.{append_assoc, arith, le-ltb, AllByRecursion, cons_option, length-append, append-nil, map-append, take_at, drop_at, ne_eqb, length-fixed, unit_length_only, length_bytes, Form, Target, Refusal, Pieces}
+use Rattle.dw_section.proofs.Words.{CutFault, Order, Dwarf32, Dwarf64, Input, Takes, Item, gap, entry, IsItem, item_bytes, id_width, all_bytes, Piece, piece_of, pieces, fixed_bytes, ok_is, entry_of, item_at, IsStuck, Four, Cut}
+use Rattle.dw_section.proofs.Stages.{all_push}
 use Rattle.dw_section.specs.declared.entry.Entry.{Entry}
 use Rattle.dw_num.specs.declared.target.Order.TheVariants.{Little, Big}
 
@@ -52,10 +53,9 @@ walked_more target s old new found item w is t =
       are = ap (λ (g : Target). found ++ cons_option (piece_of g.order old.at item) []) w.same ∙ ap (λ (es : List Piece). es ++ cons_option (piece_of order old.at item) []) w.are ∙ ap (λ (n : ℕ). pieces order 0 w.items ++ cons_option (piece_of order n item) []) (w.place ∙ sym (zero-add _)) ∙ sym (pieces-push order 0 w.items item);
     }
 
-pub walked_entry : (target : Target) (s : List ℕ) (old new : Input) (found : List Piece) (form : Form) (kind : Kind) (at place : ℕ) (body : List ℕ) → IsWalked target s old found
-    → IsItem (entry form body) → Takes old (item_bytes old.target.order (entry form body)) new → at ≡ old.at → kind ≡ is_cie form body → place ≡ old.at + length (length_bytes old.target.order form (length body))
-    → IsWalked target s new (found ++ record { at = at; form = form; kind = kind; contents = record { at = place; bytes = body } } ∷ [])
-walked_entry target s old new found form kind at place body w is t at-is kind-is place-is = rw (at-is, kind-is, place-is) (walked_more target s old new found (entry form body) w is t)
+pub walked_entry : (target : Target) (s : List ℕ) (old new : Input) (found : List Piece) (p : Placed) → IsWalked target s old found → IsItem (item_of (Some p)) → Takes old (item_bytes old.target.order (item_of (Some p))) new → IsPlaced old (Some p)
+    → IsWalked target s new (found ++ piece_in p ∷ [])
+walked_entry target s old new found p w is t placed = rw (placed.0, placed.1, placed.2) (walked_more target s old new found (item_of (Some p)) w is t)
 
 -- an item has bytes
 pub item_some : (order : Order) (item : Item) → 4 ≤ length (item_bytes order item)
@@ -166,16 +166,13 @@ pub record IsListed (target : Target) (s : List ℕ) (now : Input) (found : List
   pub walked : IsWalked target s now parts
   pub are : found ≡ map entry_of parts
 
-pub listed_entry : (target : Target) (s : List ℕ) (old new : Input) (found : List Entry) (form : Form) (kind : Kind) (at place : ℕ) (body : List ℕ) → IsListed target s old found
-    → IsItem (entry form body) → Takes old (item_bytes old.target.order (entry form body)) new → at ≡ old.at → kind ≡ is_cie form body → place ≡ old.at + length (length_bytes old.target.order form (length body))
-    → IsListed target s new (found ++ record { at = at; kind = kind; form = form; length = length body } ∷ [])
-listed_entry target s old new found form kind at place body w is t at-is kind-is place-is =
-    let part : Piece = record { at = at; form = form; kind = kind; contents = record { at = place; bytes = body } } in
-    record {
-      parts = w.parts ++ part ∷ [];
-      walked = walked_entry target s old new w.parts form kind at place body w.walked is t at-is kind-is place-is;
-      are = ap (λ (es : List Entry). es ++ entry_of part ∷ []) w.are ∙ sym (map-append entry_of w.parts (part ∷ []));
-    }
+pub listed_entry : (target : Target) (s : List ℕ) (old new : Input) (found : List Entry) (p : Placed) → IsListed target s old found → IsItem (item_of (Some p)) → Takes old (item_bytes old.target.order (item_of (Some p))) new → IsPlaced old (Some p)
+    → IsListed target s new (found ++ record { at = p.at; kind = p.kind; form = p.form; length = length p.contents.bytes.now } ∷ [])
+listed_entry target s old new found p w is t placed = record {
+  parts = w.parts ++ piece_in p ∷ [];
+  walked = walked_entry target s old new w.parts p w.walked is t placed;
+  are = ap (λ (es : List Entry). es ++ entry_of (piece_in p) ∷ []) w.are ∙ sym (map-append entry_of w.parts (piece_in p ∷ []));
+}
 
 pub listed_gap : (target : Target) (s : List ℕ) (old new : Input) (found : List Entry) → IsListed target s old found → Takes old (item_bytes old.target.order gap) new → IsListed target s new found
 listed_gap target s old new found w t = record { parts = w.parts; walked = rw append-nil at (walked_more target s old new w.parts gap w.walked tt t); are = w.are }

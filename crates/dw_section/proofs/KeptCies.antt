@@ -1,9 +1,8 @@
 -- What is kept of CIEs as they are read, and what running their programs tells.
+use Rattle.dw_section.proofs.Words.{◌≡◌, ◌≤◌, ℕ, List, [], ◌∷◌, length, refl, sym, ap, ◌∙◌, subst, arith, inl, inr, map, cons_option, AllByRecursion, AllZip, Target, Refusal, Kind, Piece, CieHead, Head, cie, fde, Has, Headers, Pieces}
+use Rattle.dw_section.proofs.Words.{cie_places, place_if, place_of, CieHolds, CieStuck, CieRuns, CieBroken, FirstStuck, IsAmong, Initial, initial_in, cie_pieces, if_cie, IsRead, AreAmong, AreCies, AreOf, cie_ats, StandsIn}
+use Rattle.dw_section.proofs.{Between.{Between, between_among}, Items.one_pieces, Lent.{HeaderLaws.{has_cie, has_one}, Heads.has_at}, Stages.{all_from_zip, here_or_later, stuck_here, later, none_first}, StandLaws.stands_in}
 use Rattle.dw_section.specs.declared.entry.Kind.TheVariants as kind
-use Rattle.dw_section.proofs.Words.{◌≡◌, ◌≤◌, ℕ, List, [], ◌∷◌, length, refl, sym, ap, ◌∙◌, subst, arith, inl, inr, map, cons_option, AllByRecursion, AllZip, Target, Refusal, Kind, Piece, CieHead, Head, cie, fde, Has}
-use Rattle.dw_section.proofs.Words.{Headers, Pieces, cie_places, place_if, place_of, CieHolds, CieStuck, CieRuns, CieBroken, FirstStuck, IsAmong, Initial, initial_in, cie_pieces, if_cie, IsRead, AreAmong, AreCies, AreOf, cie_ats}
-use Rattle.dw_section.proofs.{Words.StandsIn, Between.{Between, between_among}, Items.one_pieces, Lent.HeaderLaws.{has_cie, has_one}, Lent.Heads.has_at, Stages.{all_from_zip, here_or_later, stuck_here, later, none_first}}
-use Rattle.dw_section.proofs.StandLaws.{stands_in}
 
 -- ---- as they are read
 

@@ -1,7 +1,7 @@
 -- A walk over a section that has a cut gives its pieces, and one over a section that has headers gives these.
 use Rattle.dw_section.specs.Inner.Left.{Stays}
-use Rattle.dw_section.proofs.Words.{◌≡◌, ℕ, ◌+◌, ◌<◌, ◌≤◌, List, [], ◌∷◌, length, Err, refl, sym, ap, subst, ◌∙◌, arith, length-append, AllZip, cons_option, Form, Order, Target, Refusal, length_bytes, Input, Takes, Kind, Item}
-use Rattle.dw_section.proofs.{Words.{gap, entry, IsItem, item_bytes, is_cie, Piece, piece_of, pieces, item_at, Pieces, cie_places, Head, Has, Headers, PiecesLeft, HeadsLeft}, Items.{item_some, stuck_before, left_by, none_by}}
+use Rattle.dw_section.proofs.Words.{Some, Placed, IsPlaced, item_of, piece_in, ◌≡◌, ℕ, ◌<◌, ◌≤◌, List, [], ◌∷◌, length, Err, refl, sym, ap, subst, ◌∙◌, arith, length-append, AllZip, cons_option, Order, Target, Refusal, Input, Takes, Item}
+use Rattle.dw_section.proofs.{Words.{gap, IsItem, item_bytes, Piece, piece_of, pieces, item_at, Pieces, cie_places, Head, Has, Headers, PiecesLeft, HeadsLeft}, Items.{item_some, stuck_before, left_by, none_by}}
 
 pub left_item : (old new : Input) (item : Item) (ps : List Piece) → IsItem item → Takes old (item_bytes old.target.order item) new → PiecesLeft old ps
     → (rest : List Piece) × (ps ≡ cons_option (piece_of old.target.order old.at item) rest) × PiecesLeft new rest
@@ -16,10 +16,9 @@ left_item old new item ps is t w =
 pub left_gap : (old new : Input) (ps : List Piece) → Takes old (item_bytes old.target.order gap) new → PiecesLeft old ps → PiecesLeft new ps
 left_gap old new ps t w = let q = left_item old new gap ps tt t w in subst (PiecesLeft new) (sym q.1) q.2
 
-pub left_entry : (old new : Input) (form : Form) (kind : Kind) (at place : ℕ) (body : List ℕ) (ps : List Piece) → IsItem (entry form body) → Takes old (item_bytes old.target.order (entry form body)) new
-    → at ≡ old.at → kind ≡ is_cie form body → place ≡ old.at + length (length_bytes old.target.order form (length body)) → PiecesLeft old ps
-    → (rest : List Piece) × (ps ≡ record { at = at; form = form; kind = kind; contents = record { at = place; bytes = body } } ∷ rest) × PiecesLeft new rest
-left_entry old new form kind at place body ps is t at-is kind-is place-is w = rw (at-is, kind-is, place-is) (left_item old new (entry form body) ps is t w)
+pub left_entry : (old new : Input) (p : Placed) (ps : List Piece) → IsItem (item_of (Some p)) → Takes old (item_bytes old.target.order (item_of (Some p))) new → IsPlaced old (Some p) → PiecesLeft old ps
+    → (rest : List Piece) × (ps ≡ piece_in p ∷ rest) × PiecesLeft new rest
+left_entry old new p ps is t placed w = rw (placed.0, placed.1, placed.2) (left_item old new (item_of (Some p)) ps is t w)
 
 pub left_none : (i : Input) (ps : List Piece) → length i.bytes ≤ 0 → PiecesLeft i ps → ps ≡ []
 left_none i ps none w = w.are ∙ ap (pieces i.target.order i.at) (none_by i.target.order w.items i.bytes w.cut.whole none)

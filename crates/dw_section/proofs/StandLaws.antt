@@ -1,9 +1,9 @@
 -- Entries that stand at their places in bytes.
-use Rattle.dw_section.proofs.Words.{◌≡◌, ℕ, ◌+◌, ◌-◌, ◌≤◌, true, List, [], ◌∷◌, ◌++◌, length, take, drop, Some, Err, refl, sym, ap, subst, ◌∙◌, append_assoc, arith, inl, inr, AllByRecursion, Form, Order, Target, Refusal, Input, Takes, Span}
-use Rattle.dw_section.proofs.Words.{length_bytes, Kind, Item, gap, entry, IsItem, Piece, item_bytes, piece_of, pieces, is_cie, all_bytes, CieFields, FdeFields, FoundFde, item_at, address_limit, is_among, CieHead, FdeHead, Head, Has}
-use Rattle.dw_section.proofs.Words.{Headers, IsCie, IsFde, cie, fde, cie_head, cie_at, fde_at, IsFound, Returns, Range, cie_places, IsAmong, StandsIn, FoundStands, StandsAt, Pieces, eq-eqb, eqb_tells}
-use Rattle.dw_section.proofs.Words.{length-append, drop_at, length-drop, length-take-le, take-append-drop, take_all, FdeStands, entry_head, entry_in, initial_head, initial_in, some_is}
-use Rattle.dw_section.proofs.{Lent.FieldTable.fde_said, Lent.HeaderLaws.{has_one, cie_at_again, fde_at_again}, Lent.Heads.{cie_or, fde_or, has_at}, Items.{front_item, item_again}, Lent.Index.zip_right}
+use Rattle.dw_section.proofs.Words.{Placed, IsPlaced, item_of, piece_in, ◌≡◌, ℕ, ◌+◌, ◌-◌, ◌≤◌, true, List, [], ◌∷◌, ◌++◌, length, take, drop, Some, Ok, Err, refl, sym, ap, subst, ◌∙◌, append_assoc, arith, inl, inr, AllByRecursion, Order}
+use Rattle.dw_section.proofs.Words.{Target, Refusal, Input, Takes, Span, length_bytes, Item, gap, entry, IsItem, Piece, item_bytes, piece_of, pieces, all_bytes, CieFields, FdeFields, FoundFde, item_at, address_limit, is_among, CieHead}
+use Rattle.dw_section.proofs.Words.{FdeHead, Head, Has, Headers, IsCie, IsFde, cie, fde, cie_head, cie_at, fde_at, IsFound, Returns, Range, cie_places, IsAmong, StandsIn, FoundStands, StandsAt, Pieces, eq-eqb, eqb_tells, length-append}
+use Rattle.dw_section.proofs.{Words.{drop_at, length-drop, length-take-le, take-append-drop, take_all, FdeStands, entry_head, entry_in, initial_head, initial_in, some_is, ok_is}, Lent.{FieldTable.fde_said, HeaderLaws.has_one}}
+use Rattle.dw_section.proofs.{Lent.{HeaderLaws.{cie_at_again, fde_at_again}, Heads.{cie_or, fde_or, has_at}, Index.zip_right}, Items.{front_item, item_again}}
 use Rattle.dw_section.specs.declared.entry.Kind.TheVariants as kind
 
 -- ---- the entries of a section stand at their places
@@ -45,19 +45,24 @@ one_piece order s p q v w e =
 pub never_stuck : (target : Target) (s : List ℕ) (p : Piece) (at : ℕ) (i : Input) (r : Refusal) → i ≡ record { at = at; bytes = drop at s; target = target } → item_at i ≡ Err r → StandsIn target.order s p → p.at ≡ at → ⊥
 never_stuck target s p at i r is stuck w e = let bad = sym (item_again p.at target w.item w.rest w.is) ∙ rw (is, ← e, left_behind target.order s p w) at stuck in cc
 
-pub stands_here : (target : Target) (s : List ℕ) (at : ℕ) (i new : Input) (form : Form) (kind : Kind) (place : ℕ) (body : List ℕ) → i ≡ record { at = at; bytes = drop at s; target = target } → at ≤ length s
-    → IsItem (entry form body) → Takes i (item_bytes i.target.order (entry form body)) new → kind ≡ is_cie form body → place ≡ i.at + length (length_bytes i.target.order form (length body))
-    → StandsIn target.order s (record { at = at; form = form; kind = kind; contents = record { at = place; bytes = body } })
-stands_here target s at i new form kind place body is inside item takes kind-is place-is =
+pub never_gap : (target : Target) (s : List ℕ) (p : Piece) (at : ℕ) (i new : Input) → i ≡ record { at = at; bytes = drop at s; target = target } → item_at i ≡ Ok (gap, new) → StandsIn target.order s p → p.at ≡ at → ⊥
+never_gap target s p at i new is read w e =
+    let again = sym (item_again p.at target w.item w.rest w.is) ∙ rw (is, ← e, left_behind target.order s p w) at read in
+    let same = ap (λ (x : Item × Input). x.0) (ok_is _ _ again) in
+    let none = sym (ap (piece_of target.order (length w.front)) same) ∙ w.piece in absurd cc
+
+pub stands_here : (target : Target) (s : List ℕ) (at : ℕ) (i new : Input) (p : Placed) → i ≡ record { at = at; bytes = drop at s; target = target } → at ≤ length s
+    → IsItem (item_of (Some p)) → Takes i (item_bytes i.target.order (item_of (Some p))) new → IsPlaced i (Some p) → StandsIn target.order s (piece_in p)
+stands_here target s at i new p is inside item takes placed =
     let len = length-take-le at s inside in
     let t = rw is at takes.bytes in
     record {
-      item = entry form body;
+      item = item_of (Some p);
       front = take at s;
       rest = new.bytes;
       is = item;
       whole = sym (take-append-drop at s) ∙ ap (λ (l : List ℕ). take at s ++ l) t;
-      piece = rw (kind-is, place-is, is, len) refl;
+      piece = rw (placed.0, placed.1, placed.2, is, len) refl;
     }
 
 -- ---- an FDE that stands, and its CIE
@@ -72,10 +77,10 @@ cie_from target places p h (inl c) = (c.0, c.1, c.2, c.3)
 cie_from target places p h (inr c) = let a = c.3 in absurd cc
 
 -- the CIE that it names stands where its pointer leads
-pub named_of : (target : Target) (s : List ℕ) (p : Piece) (w : StandsAt target s p.at) → StandsIn target.order s p → (pointer : ℕ) → ((places : List ℕ) (h : FdeHead) → Has target places p (fde h) → pointer ≡ h.cie_at)
+pub named_of : (target : Target) (s : List ℕ) (at : ℕ) (p : Piece) (w : StandsAt target s at) → (p.at ≡ at) × StandsIn target.order s p → (pointer : ℕ) → ((places : List ℕ) (h : FdeHead) → Has target places p (fde h) → pointer ≡ h.cie_at)
     → (w.2.named_piece.at ≡ pointer) × (w.2.named_piece.kind ≡ kind.Cie) × Has target (pointer ∷ []) p (fde w.0)
-named_of target s p w stands pointer only =
-    let same = one_piece target.order s w.2.piece p w.2.stands stands (sym (has_at target (w.0.cie_at ∷ []) w.2.piece (fde w.0) w.2.own_is) ∙ w.3) in
+named_of target s at p w stands pointer only =
+    let same = one_piece target.order s w.2.piece p w.2.stands stands.1 (sym (has_at target (w.0.cie_at ∷ []) w.2.piece (fde w.0) w.2.own_is) ∙ w.3 ∙ sym stands.0) in
     let own = subst (λ (x : Piece). Has target (w.0.cie_at ∷ []) x (fde w.0)) same w.2.own_is in
     let is = only (w.0.cie_at ∷ []) w.0 own in (
       sym (has_at target [] w.2.named_piece (cie w.1) w.2.named_is) ∙ sym w.2.names ∙ sym is,

@@ -1,5 +1,5 @@
 -- The words of specs and of std that the proofs cite, passed on from one place. Declares nothing.
-pub use Rattle.std.specs.{List.{AllByRecursion, AllZip, IsDistinct, cons_option}, List.Sorted.{IsNonDecreasingBy, IsStableByKey}}
+pub use Rattle.std.specs.{Bool.then_some, Option.option_or, List.{AllByRecursion, AllZip, IsDistinct, cons_option}, List.Sorted.{IsNonDecreasingBy, IsStableByKey}}
 pub use Rattle.std.proofs.Common.{BTreeMap, Bool, Decides, Equal, Err, FitsSigned, Greater, IfErr, IfOk, IfSome, IsErrAnd, IsPermutation, IsSome, IsSortedByKey, IsTrue, List, MatchBool, MatchOption, MatchResult, None, Ok, OnErr, OnOk}
 pub use Rattle.std.proofs.Common.{Option, Result, Some, [], add-one, add-zero, ap, append-nil, append_assoc, arith, cond, count_by, drop, drop_at, eq-eqb, eqb, false, filter, get_or, get_or-append-add, if◌then◌else◌, inl, inr, is_lt}
 pub use Rattle.std.proofs.Common.{is_ok, le-leb, le-ltb, leb-false, leb-true, length, length-append, length-drop, length-take-le, lt-ltb, ltb-false, ltb-true, map, mul-zero, nat_cmp, nat_eq, nat_le, nat_lt, ne_eqb, not, position}
@@ -36,10 +36,10 @@ pub use Rattle.dw_section.specs.{Headers.{HasFields, Head, Headers, HeadersFault
 pub use Rattle.dw_section.specs.{Meaning.{AreFdes, ChangesOf, Covers, FdeSays, HasLengths, Lists, NoneCovers, Returns, RowStarts, RulesAt, Starts, total}, Meanings.SameMeaning, Opening.{AreChanged, CieLeaves, OpensBehind}}
 pub use Rattle.dw_section.specs.{Overlap.{AreApart, Ascends, FirstOverlap, IsIndex, Precedes, Range, end_of, nonempty, range_of, with_range}, Pieces.{Entries, Pieces, entry_of}, Places.{cie_places, place_if}, Programs.CieBroken}
 pub use Rattle.dw_section.specs.{Programs.{CieRuns, FdeBroken, FdeRuns, HasCfa, HasRules, InitialInstrs, Instrs, LacksCfa, LacksRule, factors_of}, Ranges.{AreIndexed, IsRanged, IsTable, fde_in, range_in}, Stage.{FirstStuck, Then}}
-pub use Rattle.dw_section.specs.{StandingFde.{BothStuck, FdeStands, LookUpFault, NamesCieAt, RefusesAs, Ruled, RulesOf, StandingFault, StandsAs, StandsIn}, Table.Section, declared.entry.Kind.Kind, declared.fde_range.Ranged.Ranged}
+pub use Rattle.dw_section.specs.{StandingFde.{BothStuck, FdeStands, LookUpFault, NamesCieAt, RefusesAs, Ruled, RulesOf, StandingFault, StandsAs, StandsIn}, Table.Section, declared.entry.{Kind.Kind, Placed.Placed}, declared.fde_range.Ranged.Ranged}
 pub use Rattle.dw_section.specs.declared.{fields.CieFields.CieFields, fields.FdeFields.FdeFields, header.FdeEntry.FdeEntry, header.Initial.Initial, listed_fde.FoundFde.FoundFde, lookup.Fde.Fde, opening.CieRow.CieRow}
 pub use Rattle.dw_section.specs.Inner.{Agree.{Agree, AgreeAt}, Changes.{Among, Before, Passed, ShownBehind, Shows, changes_among, changing, is_before, repeats}, Counted.{StartsOf, moves_in}, Fields.{Passes, behind_id}}
 pub use Rattle.dw_section.specs.Inner.{Fields.fields_at, Heads.{FdeFits, HasBytes, HeadsRise, cie_at_of, cie_ats, head_at, head_program}, Index.{AreJudged, EndsAt, IsFound, PlacesRise}}
-pub use Rattle.dw_section.specs.Inner.{Initials.{AreAmong, AreCies, AreOf, FirstLacking, HasOrLacks, IsRead, cie_pieces, if_cie, or_place, place_of}, Left.{HeadsLeft, PiecesLeft}}
+pub use Rattle.dw_section.specs.Inner.{Initials.{AreAmong, AreCies, AreOf, FirstLacking, HasOrLacks, IsRead, cie_pieces, if_cie, place_of}, Left.{HeadsLeft, PiecesLeft}}
 pub use Rattle.dw_section.specs.Inner.{Lookup.{AreRowsOf, IsFoundIn, RunsSo, fde_of}, NarrowRow.{ChangesKeep, NarrowedBy}, PieceHeader.{SaysFde, Tells, cie_of_piece, contents_of, entry_head, entry_in, fde_of_piece}}
-pub use Rattle.dw_section.specs.Inner.{PieceHeader.{initial_head, initial_in, program_of}, Pieces.piece_in, Places.{IsAt, RiseBy, Rises}, Shown.{shown_if, shown_of}, StandingFde.{FoundStands, LiesInPrograms, StandsAt}, Walks.{AreAway, AreLed, LedTo, led_by}}
+pub use Rattle.dw_section.specs.Inner.{PieceHeader.{initial_head, initial_in, program_of}, Pieces.{IsPlaced, item_of, piece_in}, Places.{IsAt, RiseBy, Rises}, Shown.{shown_if, shown_of}, StandingFde.{FoundStands, StandsAt}, Walks.{AreAway, AreLed, LedTo, led_by}}

@@ -1,18 +1,18 @@
-//! The addresses at which the rules of an FDE change (6.4.3), one at a time.
+//! The addresses at which the rules of an FDE change (6.4.3), one at a time, and a row narrowed to the registers that all changes
+//! specify.
 
-ghost use Rattle.std.specs.Prelude.{◌≡◌, ◌+◌, ◌<◌, ◌↔◌, ℕ, List, [], IsTrue, Ok, Some, None, true, IsErr, IfOk, IfSome, OnErr, OnOk, MatchOption};
+ghost use Rattle.std.specs.Prelude.{◌⊎◌, ◌≡◌, ◌+◌, ◌<◌, ◌↔◌, ℕ, List, [], IsTrue, Ok, Some, None, true, IsErr, IfOk, IfSome, OnErr, OnOk, MatchOption};
 ghost use Rattle.dw_num.specs.{Input.AreBytes, Target.address_limit};
-ghost use Rattle.dw_cfa.specs.{Agreement.kept, Behind.LeavesTo, Difference.{FirstDifference, place_behind}, RegisterSets.{SameBeside, has}};
-ghost use Rattle.dw_cfa.specs.{RowWalk.{AllKeep, StandsOn}, Rows.{AreSpecified, Rules, is_specified, rule}, declared.execution.LocatedRow.LocatedRow};
-ghost use Rattle.dw_section.specs.{Changes.{GivesAddress, GivesChange, GoesOn, before_then, kept_by}, Opening.{AreChanged, CieLeaves}};
-ghost use Rattle.dw_section.specs.Inner.Changes.{Before, FindsChange, FindsFirst, ShownBehind, changing};
-ghost use Rattle.dw_section.specs.{Among.IsAmong, Headers.{Head, Headers}};
-ghost use Rattle.dw_section.specs.Inner.{Lookup.AreRowsOf, NarrowRow.ChangesKeep, PieceHeader.initial_in, Shown.{shown_if, shown_of}};
+ghost use Rattle.dw_cfa.specs.{Agreement.kept, Difference.{FirstDifference, place_behind}, RegisterSets.{SameBeside, has}, RowWalk.{AllKeep, StandsOn}};
+ghost use Rattle.dw_cfa.specs.{Rows.{AreSpecified, Rules, is_specified, rule}, declared.execution.LocatedRow.LocatedRow};
+ghost use Rattle.dw_section.specs.{Among.IsAmong, Changes.{GivesAddress, GivesChange, GoesOn, before_then, behind_all, kept_by}, Headers.{Head, Headers}};
+ghost use Rattle.dw_section.specs.{Opening.{AreChanged, CieLeaves}, Inner.{Changes.{Before, FindsChange, FindsFirst, ShownBehind, changing}, Lookup.AreRowsOf}};
+ghost use Rattle.dw_section.specs.Inner.{NarrowRow.NarrowedBy, PieceHeader.initial_in, Shown.{shown_if, shown_of}};
 
-use crate::listed_fde::{FoundFde, go_to_rows};
+use crate::listed_fde::FoundFde;
 use crate::walks::Walks;
 use dw_cfa::{RegisterSet, Row, RowWalk};
-use dw_num::Target;
+use dw_num::{Target, are_bytes};
 use std::alloc::{AllocError, Global};
 use std::marker::Model;
 
@@ -96,21 +96,6 @@ fn next_change(
     find_change(steps, *kept, end)
 }
 
-// Keeps the row of the CIE where no row was gone on to yet, which it says, and goes on to the first change.
-fn first_change(steps: &mut RowWalk<'_>, end: u128) -> Result<(Option<u128>, bool), AllocError>
-    requires { steps.old.steps.outcome.fault ≡ None }
-    ensures finds { FindsFirst end steps.old.steps result steps.new.steps }
-    ensures kept { IfOk result (λ found. IsTrue found.1 → LeavesTo steps.old.led.factors steps.old.led.program (Ok steps.new.kept)) }
-    ensures led { steps.new.led ≡ steps.old.led }
-    ensures stands { OnOk result (StandsOn steps.new.led steps.new.steps.outcome steps.new.initial) }
-{
-    let Ok(kept) = steps.keep_initial() else {
-        return Err(AllocError);
-    };
-    let change = find_change(steps, false, end)?;
-    Ok((change, kept))
-}
-
 // Whether a register that the row that is lent specifies is specified in the row that was kept too.
 fn is_kept_at(steps: &RowWalk<'_>, register: u16) -> bool
     ensures { result ≡ true → is_specified (rule steps.now.steps.current register) ≡ true → is_specified (rule steps.now.kept register) ≡ true }
@@ -146,7 +131,8 @@ pub struct Behind {
     pub keeps: bool,
 }
 
-// Goes on to the first change, and lists how it stands to the row of the CIE at a place, where that was kept.
+// Keeps the row of the CIE at a place, where no row was gone on to yet, and goes on to the first change: then how that stands to
+// the row of the CIE.
 #[tactic(auto, using(crate::proofs::BehindCie::stands_kept))]
 fn show_behind<'a>(
     steps: &mut RowWalk<'a>,
@@ -161,7 +147,10 @@ fn show_behind<'a>(
     ensures beside { IfOk result (λ found. IfSome found.1 (λ _. ShownBehind steps.new changed.new)) }
     ensures keeps { IfOk result (λ found. IfSome found.1 (λ behind. IsTrue behind.keeps → AreBytes steps.new.led.program.bytes → AllKeep steps.new.steps.current steps.new.steps.outcome.rows)) }
 {
-    let (change, kept) = first_change(steps, end)?;
+    let Ok(kept) = steps.keep_initial() else {
+        return Err(AllocError);
+    };
+    let change = find_change(steps, false, end)?;
     if !kept || change.is_none() {
         return Ok((change, None));
     }
@@ -196,6 +185,26 @@ impl<'a> Model for Changes<'a> {
     ghost invariant = { λ c. ChangesSo (record { target = c.target; bytes = c.bytes.now }) c.walks };
 }
 
+// Drops from a row, which was narrowed by the row before a change, the registers that the change leaves Unspecified. It looks at
+// the registers that the change alters alone.
+fn drop_altered<'a>(shared: &mut Row<'a>, changes: &Changes<'a>)
+    requires narrowed { NarrowedBy shared.old changes.now.before }
+    requires shown { (row : Rules) × (changes.now.shown ≡ Some row) }
+    ensures { (row : Rules) → changes.now.shown ≡ Some row → shared.new ≡ kept shared.old row }
+{
+    let Some(row) = changes.row() else {
+        unreachable!();
+    };
+    shared.ascends();
+    let mut last = None;
+    'registers: while let Some(register) = changes.next_difference(last) {
+        if !row.rule(register).is_specified() {
+            shared.drop_register(register);
+        }
+        last = Some(register);
+    }
+}
+
 impl<'a> Changes<'a> {
     // No change of a section is to come until `go_on` names an FDE.
     pub(crate) fn none(alloc: Global, bytes: &'a [u8], target: Target) -> Changes<'a>
@@ -222,7 +231,10 @@ impl<'a> Changes<'a> {
         requires among { (hs : List Head) → Headers self.old.section.target self.old.section.bytes hs → IsAmong (initial_in fde.now.cie) hs }
         ensures { (rows : List LocatedRow) → AreRowsOf self.old.section.target fde.now rows → self.new ≡ changing self.old.section rows (fde.now.own.begin + fde.now.own.range) }
     {
-        go_to_rows(&mut self.walks, fde, self.target);
+        self.walks.lead(&fde.cie, self.target);
+        are_bytes(fde.cie.program.bytes);
+        are_bytes(fde.own.program.bytes);
+        self.walks.walk.go_to(fde.own.program, fde.own.begin);
         self.lent = false;
         self.kept = false;
         self.end = u128::from(fde.own.begin) + u128::from(fde.own.range);
@@ -307,23 +319,6 @@ impl<'a> Changes<'a> {
         None
     }
 
-    /// The least register to which the change that is shown gives another rule (6.4.1) than the change before it, of those behind
-    /// a given one where there is such; or none. Takes no memory.
-    #[inline(always)]
-    pub fn next_difference(&self, behind: Option<u16>) -> Option<u16>
-        ensures first { (before after : Rules) → self.now.before ≡ Some before → self.now.shown ≡ Some after → FirstDifference (place_behind behind) before.registers after.registers result }
-        ensures none { self.now.before ≡ None → result ≡ None }
-        ensures ascending { (before : Rules) → self.now.before ≡ Some before → AreSpecified 0 before.registers }
-        ensures other_ascending { (after : Rules) → self.now.shown ≡ Some after → AreSpecified 0 after.registers }
-    {
-        self.walks.walk.row().ascends();
-        self.walks.walk.kept().ascends();
-        if self.lent && self.kept {
-            return self.walks.walk.next_difference(behind);
-        }
-        None
-    }
-
     /// The next change with its row (6.4.1), or none behind the last one. Want of memory is answered from then on.
     pub fn next(&mut self) -> Result<Option<(u128, Row<'a>)>, AllocError>
         ensures gives { GivesChange self.old result self.new }
@@ -346,12 +341,62 @@ impl<'a> Changes<'a> {
         }
     }
 
-    // Whether each change still to come is known to specify every register that a row specifies: what a CIE's program
-    // specifies stays so. `false` says nothing.
-    #[tactic(auto, using(crate::proofs::ChangesAmong::changes_keep))]
-    pub(crate) fn keeps(&self, row: &Row<'_>) -> bool
-        ensures { IsTrue result → ChangesKeep row.now self.now.to_come }
+    /// The least register to which the change that is shown gives another rule (6.4.1) than the change before it, of those behind
+    /// a given one where there is such; or none. Takes no memory.
+    #[inline(always)]
+    pub fn next_difference(&self, behind: Option<u16>) -> Option<u16>
+        ensures first { (before after : Rules) → self.now.before ≡ Some before → self.now.shown ≡ Some after → FirstDifference (place_behind behind) before.registers after.registers result }
+        ensures none { self.now.before ≡ None → result ≡ None }
+        ensures ascending { (before : Rules) → self.now.before ≡ Some before → AreSpecified 0 before.registers }
+        ensures other_ascending { (after : Rules) → self.now.shown ≡ Some after → AreSpecified 0 after.registers }
     {
-        self.walks.walk.keeps(row)
+        self.walks.walk.row().ascends();
+        self.walks.walk.kept().ascends();
+        if self.lent && self.kept {
+            return self.walks.walk.next_difference(behind);
+        }
+        None
+    }
+
+    /// Goes on behind the last change, and drops from a row the registers that one of the changes still to come leaves
+    /// Unspecified. Where the CIE's row shows that none does, it may stay where it is. Behind want of memory, which `advance`
+    /// and `next` answer from then on, some of them are dropped.
+    // No change drops a register that the CIE's program specifies, so most rows need no walk.
+    #[tactic(auto, using(crate::proofs::ChangesAmong::changes_keep, crate::proofs::Dropped::none_dropped, crate::proofs::Dropped::next_of, crate::proofs::Dropped::kept_again))]
+    pub fn narrow(&mut self, row: &mut Row<'a>) -> Result<(), AllocError>
+        ensures row { OnOk result (row.new ≡ kept_by row.old self.old.to_come) }
+        ensures behind { OnOk result ((self.new ≡ self.old) ⊎ (self.new ≡ behind_all self.old)) }
+        ensures failed { OnErr result (self.new.failed ≡ true) }
+        ensures stays { self.old.failed ≡ true → self.new.failed ≡ true }
+        ensures section { self.new.section ≡ self.old.section }
+    {
+        if self.walks.walk.keeps(row) {
+            return Ok(());
+        }
+        let Some(_) = self.advance()? else {
+            return Ok(());
+        };
+        let Some(first) = self.row() else {
+            unreachable!();
+        };
+        row.keep(first);
+        self.narrow_further(row)
+    }
+
+    /// The same of a row that specifies no register that the change which is shown leaves Unspecified, always behind the last
+    /// change. It looks at the registers that changes alter, and at no others of the row.
+    #[tactic(auto, using(crate::proofs::Dropped::next_of, crate::proofs::Dropped::before_is, crate::proofs::Dropped::kept_again))]
+    pub fn narrow_further(&mut self, row: &mut Row<'a>) -> Result<(), AllocError>
+        requires { (shown : Rules) × (self.old.shown ≡ Some shown) × (kept row.old shown ≡ row.old) }
+        ensures row { OnOk result (row.new ≡ kept_by row.old self.old.to_come) }
+        ensures behind { OnOk result (self.new ≡ behind_all self.old) }
+        ensures failed { OnErr result (self.new.failed ≡ true) }
+        ensures stays { self.old.failed ≡ true → self.new.failed ≡ true }
+        ensures section { self.new.section ≡ self.old.section }
+    {
+        'changes: while let Some(_) = self.advance()? {
+            drop_altered(row, self);
+        }
+        Ok(())
     }
 }

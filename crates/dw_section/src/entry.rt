@@ -1,12 +1,11 @@
 //! Cutting a section into its entries (6.4.1, 7.4).
 
-ghost use Rattle.std.specs.{Prelude.{◌≡◌, ℕ, ◌+◌, ◌<◌, ◌≤◌, ◌==◌, List, [], ◌∷◌, ◌++◌, length, take, MatchResult, IfOk, IfErr, IfSome, OnOk}, List.list_all};
-ghost use Rattle.dw_num.specs.{Input.Takes, Refusals.Refuses, declared.error.ReadError.TheVariants.OutOfMemory};
-ghost use Rattle.dw_num.specs.declared.refusal.Code.TheVariants.{SectionTooLarge};
+ghost use Rattle.std.specs.{List.list_all, Prelude.{◌≡◌, ◌+◌, ◌<◌, ◌≤◌, ◌==◌, List, [], ◌∷◌, ◌++◌, length, MatchResult, IfOk, IfErr, IfSome, OnOk}};
+ghost use Rattle.dw_num.specs.{Input.Takes, Refusals.Refuses, declared.{error.ReadError.TheVariants.OutOfMemory, refusal.Code.TheVariants.SectionTooLarge}};
 ghost use Rattle.dw_op.specs.Faults.{IsWithin};
-ghost use Rattle.dw_section.specs.{Cut.{IsItem, Piece, item_bytes, is_cie, id_width}, Faults.{item_at, CutFault}};
-ghost use Rattle.dw_section.specs.{Pieces.{Pieces, Entries}, declared.entry.Entry.Entry};
+ghost use Rattle.dw_section.specs.{Cut.{IsItem, Piece, item_bytes, is_cie, id_width}, Faults.{item_at, CutFault}, Pieces.{Pieces, Entries}};
 ghost use Rattle.dw_section.specs.Inner.{Left.{PiecesLeft, GivesPiece, GoesOn}, Pieces.{ArePlaced, IsPlaced, item_of}, Reads.Gives};
+ghost use Rattle.dw_section.specs.declared.entry.Entry.{Entry};
 
 use dw_num::{Code, Cursor, Form, Program, ReadError, Refusal, Target};
 use std::alloc::{AllocError, Global};
@@ -42,6 +41,13 @@ pub struct EntryCounts {
     pub fdes: usize,
 }
 
+#[inline(always)]
+pub(crate) fn refusal(code: Code, at: u64) -> Refusal
+    ensures { result ≡ record { code = code; at = at } }
+{
+    Refusal { code, at }
+}
+
 // The longest section that is read.
 pub(crate) const MOST: usize = 2_147_483_647;
 
@@ -62,35 +68,17 @@ fn all_ones(bytes: &[u8]) -> bool
     bytes.iter().all(|b| *b == 0xff)
 }
 
-// Whether an entry begins with a CIE_id. By widths that are known where this is compiled, so that it is no loop.
+// By widths that are known where this is compiled, so that it is no loop.
 #[inline(always)]
-fn has_cie_id(form: Form, body: &[u8]) -> bool
-    requires { id_width form ≤ length body.now }
-    ensures { result ≡ list_all (λ b. b == 255) (take (id_width form) body.now) }
-{
-    match form {
-        Form::Dwarf32 => all_ones(&body[..4]),
-        Form::Dwarf64 => all_ones(&body[..8]),
-    }
-}
-
-#[inline(always)]
-pub(crate) fn kind_in(form: Form, body: &[u8]) -> Kind
+fn kind_in(form: Form, body: &[u8]) -> Kind
     requires { id_width form ≤ length body.now }
     ensures { result ≡ is_cie form body.now }
 {
-    if has_cie_id(form, body) {
-        Kind::Cie
-    } else {
-        Kind::Fde
+    match form {
+        Form::Dwarf32 if all_ones(&body[..4]) => Kind::Cie,
+        Form::Dwarf64 if all_ones(&body[..8]) => Kind::Cie,
+        _ => Kind::Fde,
     }
-}
-
-/// What stands in a section: a gap, or an entry.
-#[derive(Clone, Copy)]
-pub(crate) enum Part<'a> {
-    Gap,
-    Entry(Form, Program<'a>),
 }
 
 /// An entry with its place, and its contents with theirs.
@@ -102,34 +90,35 @@ pub(crate) struct Placed<'a> {
     pub(crate) contents: Program<'a>,
 }
 
-// The item at the front.
+/// What stands at the front of a section: an entry, or none where it is a gap.
 #[tactic(auto, unfolding(crate::specs::Faults::item_at, dw_num::specs::Front::take_at))]
 #[inline(always)]
-pub(crate) fn next_part<'a>(cursor: &mut Cursor<'a>) -> Result<Part<'a>, Refusal>
+pub(crate) fn next_item<'a>(cursor: &mut Cursor<'a>) -> Result<Option<Placed<'a>>, Refusal>
     requires { cursor.old.at + length cursor.old.bytes ≤ 2147483647 }
-    ensures found { IfOk result (λ p. IsItem (item_of p) × Takes cursor.old (item_bytes cursor.old.target.order (item_of p)) cursor.new × IsPlaced cursor.old p) }
+    ensures found { IfOk result (λ p. IsItem (item_of p) × Takes cursor.old (item_bytes cursor.old.target.order (item_of p)) cursor.new) }
+    ensures placed { IfOk result (IsPlaced cursor.old) }
     ensures exact { Gives item_of result (item_at cursor.old) cursor.new }
 {
     let at = cursor.at();
     let unit = cursor.unit_length()?;
-    if unit.length == 0 && unit.form == Form::Dwarf32 {
-        return Ok(Part::Gap);
+    let form = unit.form;
+    if unit.length == 0 && form == Form::Dwarf32 {
+        return Ok(None);
     }
     if (cursor.left() as u64) < unit.length {
-        return Err(Refusal {
-            code: Code::EntryPastEnd,
-            at,
-        });
+        return Err(refusal(Code::EntryPastEnd, at));
     }
-    if unit.length < width_of(unit.form) as u64 {
-        return Err(Refusal {
-            code: Code::Truncated,
-            at: cursor.at(),
-        });
+    let place = cursor.at();
+    if unit.length < width_of(form) as u64 {
+        return Err(refusal(Code::Truncated, place));
     }
-    let at = cursor.at();
     let bytes = cursor.take(unit.length as usize)?;
-    Ok(Part::Entry(unit.form, Program { bytes, at }))
+    Ok(Some(Placed {
+        at,
+        form,
+        kind: kind_in(form, bytes),
+        contents: Program { bytes, at: place },
+    }))
 }
 
 // The next entry of a section that has a cut, or none behind the last one.
@@ -142,17 +131,9 @@ pub(crate) fn next_piece<'a>(cursor: &mut Cursor<'a>) -> Option<Placed<'a>>
     ensures below { IfSome result (λ p. p.at ≤ 2147483647) }
 {
     'gaps: while cursor.left() > 0 {
-        let at = cursor.at();
-        match next_part(cursor) {
-            Ok(Part::Gap) => {}
-            Ok(Part::Entry(form, contents)) => {
-                return Some(Placed {
-                    at,
-                    form,
-                    kind: kind_in(form, contents.bytes),
-                    contents,
-                });
-            }
+        match next_item(cursor) {
+            Ok(None) => {}
+            Ok(Some(piece)) => return Some(piece),
             Err(_) => return None,
         }
     }
@@ -165,10 +146,7 @@ fn start<'a>(bytes: &'a [u8], target: Target) -> Result<Cursor<'a>, Refusal>
     ensures stuck { IfErr result (λ r. (2147483647 < length bytes.now) × (r ≡ record { code = SectionTooLarge; at = 0 })) }
 {
     if bytes.len() > MOST {
-        return Err(Refusal {
-            code: Code::SectionTooLarge,
-            at: 0,
-        });
+        return Err(refusal(Code::SectionTooLarge, 0));
     }
     Ok(Cursor::new(bytes, 0, target))
 }
@@ -204,12 +182,9 @@ pub(crate) fn cut(alloc: Global, bytes: &[u8], target: Target) -> Result<EntryPl
         fdes: 0,
     };
     'items: while cursor.left() > 0 {
-        let at = cursor.at();
-        match next_part(&mut cursor)? {
-            Part::Gap => {}
-            Part::Entry(form, contents) => {
-                keep_entry(&mut places, kind_in(form, contents.bytes), at)?;
-            }
+        match next_item(&mut cursor)? {
+            None => {}
+            Some(piece) => keep_entry(&mut places, piece.kind, piece.at)?,
         }
     }
     Ok(places)
@@ -223,14 +198,13 @@ fn all_entries(alloc: Global, bytes: &[u8], target: Target) -> Result<Vec<Entry>
     let mut cursor = start(bytes, target)?;
     let mut found = Vec::new(alloc);
     'items: while cursor.left() > 0 {
-        let at = cursor.at();
-        match next_part(&mut cursor)? {
-            Part::Gap => {}
-            Part::Entry(form, contents) => found.push(Entry {
-                at,
-                kind: kind_in(form, contents.bytes),
-                form,
-                length: contents.bytes.len() as u64,
+        match next_item(&mut cursor)? {
+            None => {}
+            Some(piece) => found.push(Entry {
+                at: piece.at,
+                kind: piece.kind,
+                form: piece.form,
+                length: piece.contents.bytes.len() as u64,
             })?,
         }
     }

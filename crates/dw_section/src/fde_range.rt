@@ -1,19 +1,19 @@
-//! Nonempty FDEs in the order of their begins, and those that share an address.
+//! Running the programs of a section (6.4.2, 6.4.3), and its nonempty FDEs in the order of their begins.
 
-ghost use Rattle.std.specs.Prelude.{◌≡◌, ◌+◌, ◌<◌, ◌≤◌, ℕ, true, None, List, [], ◌∷◌, ◌++◌, length, slice_index_or};
-ghost use Rattle.std.specs.{Prelude.{map, IfOk, IfErr, IfSome, OnOk, MatchOption}, List.AllByRecursion};
-ghost use Rattle.dw_num.specs.{Refusals.Refuses, Target.address_limit, declared.refusal.Code.TheVariants.Overlap, declared.target.Target.{Target as TheTarget}};
-ghost use Rattle.dw_section.specs.{Accepted.{CiesRun, RulesFault}, Among.IsAmong, Cut.Piece, Headers.Head};
-ghost use Rattle.dw_section.specs.{Overlap.{nonempty, AreApart, FirstOverlap}, Pieces.Pieces, Programs.{CieRuns, FdeBroken}};
-ghost use Rattle.dw_section.specs.{Ranges.{AreIndexed, IsRanged, range_in}, declared.fde_range.Ranged.{Ranged as TheRanged}};
-ghost use Rattle.dw_section.specs.Inner.{Index.{AreJudged, AreRanges}, PieceHeader.{Tells, entry_in, initial_in}, Places.{IsAt, Rises}, Walks.AreLed};
-ghost use Rattle.dw_section.specs.Inner.Initials.{place_of, or_place, AreAmong, AreCies, AreOf};
+ghost use Rattle.std.specs.{List.AllByRecursion, Prelude.{◌≡◌, ◌<◌, true, List, map, IfOk, IfErr, OnOk, ◌+◌, ◌≤◌, ℕ, None, [], ◌∷◌, ◌++◌, length}};
+ghost use Rattle.std.specs.Prelude.{slice_index_or, MatchOption};
+ghost use Rattle.dw_num.specs.{Refusals.Refuses, Target.address_limit, declared.{refusal.Code.TheVariants.Overlap, target.Target.{Target as TheTarget}}};
+ghost use Rattle.dw_section.specs.{Accepted.{CiesRun, RulesFault}, Among.IsAmong, Cut.Piece, Headers.Head, Overlap.{nonempty, AreApart, FirstOverlap}};
+ghost use Rattle.dw_section.specs.{Pieces.Pieces, Programs.{CieRuns, CieBroken}, Ranges.{AreIndexed, IsRanged, range_in}, Stage.FirstStuck};
+ghost use Rattle.dw_section.specs.Inner.{Index.{JudgesOne, BreaksOne, AreJudged, AreRanges}, Initials.{place_of, AreAmong, AreOf, AreCies}};
+ghost use Rattle.dw_section.specs.Inner.{PieceHeader.{entry_in, initial_in}, Places.{Rises, IsAt}, Walks.AreLed};
+ghost use Rattle.dw_section.specs.declared.fde_range.Ranged.{Ranged as TheRanged};
 
 use crate::entry::next_piece;
 use crate::header::{Cies, FdeEntry, Initial, fde_of, or_fields_fault};
-use crate::program::run_behind;
 use crate::walks::Walks;
-use dw_num::{Cursor, ReadError, Target};
+use dw_cfa::Row;
+use dw_num::{Cursor, ReadError, Target, are_bytes};
 use std::alloc::{AllocError, Global};
 
 /// A nonempty FDE as an index lists it: its first address (`initial_location`), how many addresses it covers
@@ -39,19 +39,20 @@ pub(crate) struct Judged {
     pub(crate) lacking: Option<u64>,
 }
 
-// What is kept of an FDE and of its CIE.
-fn range_of(fde: &FdeEntry<'_>, cie: &Initial<'_>) -> Ranged
-    requires names { cie.now.at ≡ fde.now.cie_at }
-    requires below { fde.now.at ≤ 2147483647 }
-    ensures range { range_in result ≡ record { at = fde.now.at; begin = fde.now.begin; range = fde.now.range } }
-    ensures is { (hs : List Head) → IsAmong (initial_in cie.now) hs → IsAmong (entry_in fde.now) hs → IsRanged hs result }
+/// Runs the programs of CIEs.
+pub(crate) fn run_cies(
+    alloc: Global,
+    initials: &[Initial<'_>],
+    target: Target,
+) -> Result<(), ReadError>
+    ensures found { (hs : List Head) → AreOf hs initials.now → OnOk result (AllByRecursion (CieRuns target) hs) }
+    ensures first { (hs : List Head) → AreOf hs initials.now → IfErr result (Refuses (FirstStuck (CieRuns target) (CieBroken target) hs)) }
 {
-    Ranged {
-        begin: fde.begin,
-        range: fde.range,
-        at: fde.at as u32,
-        return_register: cie.return_register,
+    let mut row = Row::blank(alloc);
+    for cie in initials {
+        row.become_initial(cie.program, cie.factors, target)?;
     }
+    Ok(())
 }
 
 // Lists an FDE that is not empty.
@@ -66,63 +67,40 @@ fn keep_range(
     ensures each { (hs : List Head) → IsAmong (initial_in cie.now) hs → IsAmong (entry_in fde.now) hs → AllByRecursion (IsRanged hs) list.old.items → OnOk result (AllByRecursion (IsRanged hs) list.new.items) }
 {
     if fde.range > 0 {
-        list.push(range_of(fde, cie))?;
+        list.push(Ranged {
+            begin: fde.begin,
+            range: fde.range,
+            at: fde.at as u32,
+            return_register: cie.return_register,
+        })?;
     }
     Ok(())
 }
 
-// The first place of these and the next.
-fn or_place(place: Option<u64>, lacks: bool, at: u64) -> Option<u64>
-    ensures { result ≡ or_place place lacks at }
-{
-    match place {
-        Some(place) => Some(place),
-        None if lacks => Some(at),
-        None => None,
-    }
-}
-
-// Runs the program of an FDE behind that of its CIE, and keeps what is found.
+// Runs the program of an FDE behind that of its CIE, which stands at a place among the initials, and keeps what is found.
+#[inline(always)]
 fn judge<'a>(
     walks: &mut Walks<'a>,
     judged: &mut Judged,
     fde: &FdeEntry<'a>,
-    cie: &Initial<'a>,
-    target: Target,
-) -> Result<(), ReadError>
-    requires names { cie.now.at ≡ fde.now.cie_at }
-    requires begin { fde.now.begin < address_limit target.size }
-    requires below { fde.now.at ≤ 2147483647 }
-    requires each { (hs : List Head) × IsAmong (initial_in cie.now) hs × AreLed target hs walks.old }
-    ensures found { (hs front : List Head) → IsAmong (initial_in cie.now) hs → AllByRecursion (CieRuns target) hs → AreLed target hs walks.old → IsAmong (entry_in fde.now) hs → AreJudged target hs front judged.old.lacking judged.old.list.items → OnOk result (AreJudged target hs (front ++ entry_in fde.now ∷ []) judged.new.lacking judged.new.list.items) }
-    ensures stuck { (hs : List Head) → IsAmong (initial_in cie.now) hs → AllByRecursion (CieRuns target) hs → AreLed target hs walks.old → IfErr result (Refuses (FdeBroken target hs (entry_in fde.now))) }
-    ensures led { (hs : List Head) → IsAmong (initial_in cie.now) hs → AreLed target hs walks.old → AreLed target hs walks.new }
-{
-    let lacks = run_behind(walks, cie, fde, target)?;
-    judged.lacking = or_place(judged.lacking, lacks, fde.at);
-    Ok(keep_range(&mut judged.list, fde, cie)?)
-}
-
-// The same of a piece that may be a CIE, of which nothing is to be found. The FDE's CIE stands at a place among the initials.
-#[inline(always)]
-fn judge_next<'a>(
-    walks: &mut Walks<'a>,
-    judged: &mut Judged,
-    fde: &Option<FdeEntry<'a>>,
     initials: &[Initial<'a>],
     found: usize,
     target: Target,
 ) -> Result<(), ReadError>
-    requires fits { IfSome fde.now (λ f. (f.at ≤ 2147483647) × (f.begin < address_limit target.size) × IsAt (map place_of initials.now) found f.cie_at) }
+    requires fits { (fde.now.at ≤ 2147483647) × (fde.now.begin < address_limit target.size) × IsAt (map place_of initials.now) found fde.now.cie_at }
     requires each { (hs : List Head) × AreAmong hs initials.now × AreLed target hs walks.old }
-    ensures found { (hs front : List Head) (h : Head) → Tells fde.now h → AreAmong hs initials.now → AllByRecursion (CieRuns target) hs → AreLed target hs walks.old → IsAmong h hs → AreJudged target hs front judged.old.lacking judged.old.list.items → OnOk result (AreJudged target hs (front ++ h ∷ []) judged.new.lacking judged.new.list.items) }
-    ensures stuck { (hs : List Head) (h : Head) → Tells fde.now h → AreAmong hs initials.now → AllByRecursion (CieRuns target) hs → AreLed target hs walks.old → IfErr result (Refuses (FdeBroken target hs h)) }
+    ensures found { JudgesOne target initials.now walks.old (entry_in fde.now) judged.old result judged.new }
+    ensures stuck { BreaksOne target initials.now walks.old (entry_in fde.now) result }
     ensures led { (hs : List Head) → AreAmong hs initials.now → AreLed target hs walks.old → AreLed target hs walks.new }
 {
-    match fde {
-        None => Ok(()),
-        Some(fde) => judge(walks, judged, fde, &initials[found], target),
-    }
+    let cie = &initials[found];
+    walks.lead(cie, target);
+    are_bytes(fde.program.bytes);
+    walks.walk.go_to(fde.program, fde.begin);
+    let end = u128::from(fde.begin) + u128::from(fde.range);
+    let lacks = walks.walk.lacks_rule(end)?;
+    judged.lacking = judged.lacking.or(lacks.then_some(fde.at));
+    Ok(keep_range(&mut judged.list, fde, cie)?)
 }
 
 // Judges the FDEs of a section that has a cut, behind the CIEs.
@@ -145,8 +123,10 @@ fn run_on<'a>(
     let mut cursor = Cursor::new(bytes, 0, target);
     let mut found = 0;
     'pieces: while let Some(piece) = next_piece(&mut cursor) {
-        let fde = fde_of(&piece, places, &mut found, target)?;
-        if let Err(broken) = judge_next(walks, judged, &fde, initials, found, target) {
+        let Some(fde) = fde_of(&piece, places, &mut found, target)? else {
+            continue;
+        };
+        if let Err(broken) = judge(walks, judged, &fde, initials, found, target) {
             return Err(or_fields_fault(&mut cursor, target, places, broken));
         }
     }

@@ -1,12 +1,12 @@
 //! The fields of CIEs and FDEs.
 
-ghost use Rattle.std.specs.Prelude.{◌≡◌, nat_le, ◌+◌, ◌||◌, ℕ, true, Ok, position, ◌==◌, IfOk};
+ghost use Rattle.std.specs.Prelude.{◌≡◌, ◌+◌, ◌||◌, ℕ, true, Ok, position, ◌==◌, IfOk};
 ghost use Rattle.dw_num.specs.{Target.address_limit, declared.refusal.Code.TheVariants.BadVersion};
 ghost use Rattle.dw_section.specs.Fields.{Fields, fde_fields, field, fixed, unless, empty_string, sizes, return_register, factors, is_among};
-ghost use Rattle.dw_section.specs.declared.fields.CieFields.{CieFields as TheCieFields};
 ghost use Rattle.dw_section.specs.Inner.{Fields.{Passes, behind_id, fields_at}, Places.{IsAt, Rises}, Reads.Gives};
+ghost use Rattle.dw_section.specs.declared.fields.CieFields.{CieFields as TheCieFields};
 
-use crate::entry::width_of;
+use crate::entry::{refusal, width_of};
 use dw_num::{Code, Cursor, Form, Refusal, Size};
 
 /// What the fields of a CIE say.
@@ -47,10 +47,7 @@ fn read_version(cursor: &mut Cursor<'_>) -> Result<u8, Refusal>
     if matches!(version, 1 | 3 | 4) {
         Ok(version)
     } else {
-        Err(Refusal {
-            code: Code::BadVersion,
-            at,
-        })
+        Err(refusal(Code::BadVersion, at))
     }
 }
 
@@ -68,18 +65,12 @@ fn empty_string(cursor: &mut Cursor<'_>) -> Result<(), Refusal>
 {
     let at = cursor.at();
     match string_len(cursor.rest()) {
-        None => Err(Refusal {
-            code: Code::Truncated,
-            at,
-        }),
+        None => Err(refusal(Code::Truncated, at)),
         Some(0) => {
             let _ = cursor.take(1)?;
             Ok(())
         }
-        Some(_) => Err(Refusal {
-            code: Code::Augmentation,
-            at,
-        }),
+        Some(_) => Err(refusal(Code::Augmentation, at)),
     }
 }
 
@@ -151,14 +142,6 @@ fn has_place(places: &[u64], place: u64, found: &mut usize) -> bool
     }
 }
 
-// Whether a range ends in the address space.
-#[inline(always)]
-fn in_space(size: Size, begin: u64, range: u64) -> bool
-    ensures { result ≡ nat_le (begin + range) (address_limit size) }
-{
-    u128::from(begin) + u128::from(range) <= size.address_limit()
-}
-
 #[tactic(auto, unfolding(dw_num::specs::Front::address_at))]
 #[inline(always)]
 pub(crate) fn read_fde(
@@ -175,24 +158,18 @@ pub(crate) fn read_fde(
     let at = cursor.at();
     let cie_at = cursor.fixed(width_of(form))?;
     if !has_place(places, cie_at, found) {
-        return Err(Refusal {
-            code: Code::NoSuchCie,
-            at,
-        });
+        return Err(refusal(Code::NoSuchCie, at));
     }
     let begin = cursor.address()?;
     let at = cursor.at();
     let range = cursor.address()?;
-    if in_space(size, begin, range) {
+    if u128::from(begin) + u128::from(range) <= size.address_limit() {
         Ok(FdeFields {
             cie_at,
             begin,
             range,
         })
     } else {
-        Err(Refusal {
-            code: Code::RangeTooLarge,
-            at,
-        })
+        Err(refusal(Code::RangeTooLarge, at))
     }
 }

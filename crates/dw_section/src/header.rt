@@ -1,12 +1,12 @@
 //! The headers of a section: the fields of its entries.
 
-ghost use Rattle.std.specs.{Prelude.{◌≡◌, ◌⊎◌, ℕ, ◌+◌, ◌≤◌, List, length, map, IfOk, IfErr, IfSome, MatchResult}, List.AllByRecursion};
+ghost use Rattle.std.specs.{List.AllByRecursion, Prelude.{◌≡◌, ◌⊎◌, ◌+◌, ◌≤◌, List, length, map, IfOk, IfErr, IfSome, MatchResult}};
 ghost use Rattle.dw_num.specs.{Refusals.Refuses, Span.span_of, declared.error.ReadError.TheVariants.OutOfMemory};
 ghost use Rattle.dw_op.specs.Faults.{IsWithin};
-ghost use Rattle.dw_section.specs.{Counts.AreCounts, Cut.Piece, Headers.{Head, Has, Headers, head_in, CieHolds, CieStuck, CiesHold, FdeHolds}};
-ghost use Rattle.dw_section.specs.{Headers.{FdeStuck, CieFieldsFault, HeadersFault}, Pieces.Pieces};
-ghost use Rattle.dw_section.specs.{Places.cie_places, Stage.FirstStuck, StandingFde.StandsIn, Inner.Initials.{AreCies, IsRead}, Inner.Left.PiecesLeft};
-ghost use Rattle.dw_section.specs.Inner.{PieceHeader.{SaysFde, cie_at, fde_at, initial_in, entry_in, program_of}, Pieces.piece_in, Places.{IsAt, Rises}, Stage.Answers};
+ghost use Rattle.dw_section.specs.{Counts.AreCounts, Cut.Piece, Headers.{Head, Has, Headers, head_in, CieHolds, CieStuck, CiesHold, FdeHolds, FdeStuck}};
+ghost use Rattle.dw_section.specs.{Headers.{CieFieldsFault, HeadersFault}, Pieces.Pieces, Places.cie_places, Stage.FirstStuck, StandingFde.StandsIn};
+ghost use Rattle.dw_section.specs.Inner.{Initials.{AreCies, IsRead}, Left.PiecesLeft, PieceHeader.{SaysFde, cie_at, fde_at, initial_in, entry_in, program_of}};
+ghost use Rattle.dw_section.specs.Inner.{Pieces.piece_in, Places.{IsAt, Rises}, Stage.Answers};
 ghost use Rattle.dw_section.specs.declared.entry.Kind.TheVariants as kind;
 
 use crate::entry::{EntryCounts, Kind, Placed, cut, next_piece, width_of};
@@ -141,53 +141,6 @@ pub(crate) fn read_entry<'a>(
     })
 }
 
-// A CIE as it is told.
-fn cie_header<'a>(cie: Initial<'a>) -> Header<'a>
-    ensures { head_in result ≡ initial_in cie.entry }
-{
-    Header::Cie {
-        at: cie.at,
-        form: cie.form,
-        code_factor: cie.factors.code_factor,
-        data_factor: cie.factors.data_factor,
-        return_register: cie.return_register,
-        program: cie.program,
-    }
-}
-
-// The header of an entry whose fields hold if it is a CIE.
-#[tactic(auto, using(crate::proofs::Lent::HeaderLaws::fde_faulty))]
-#[inline(always)]
-fn header_of<'a>(
-    piece: &Placed<'a>,
-    places: &[u64],
-    found: &mut usize,
-    target: Target,
-) -> Result<Header<'a>, Refusal>
-    requires holds { CieHolds target (piece_in piece.now) }
-    requires ascending { Rises 0 places.now }
-    ensures found { IfOk result (λ h. Has target places.now (piece_in piece.now) (head_in h)) }
-    ensures stuck { IfErr result (FdeStuck target places.now (piece_in piece.now)) }
-{
-    match piece.kind {
-        Kind::Cie => match read_initial(piece, target) {
-            Ok(cie) => Ok(cie_header(cie)),
-            Err(refusal) => Err(refusal),
-        },
-        Kind::Fde => match read_entry(piece, places, found, target) {
-            Ok(fde) => Ok(Header::Fde {
-                at: fde.at,
-                form: fde.form,
-                cie_at: fde.cie_at,
-                begin: fde.begin,
-                range: fde.range,
-                program: fde.program,
-            }),
-            Err(refusal) => Err(refusal),
-        },
-    }
-}
-
 /// How many entries a section has, where its CIEs stand, and what these say.
 #[derive(Drop)]
 pub(crate) struct Cies<'a> {
@@ -268,6 +221,46 @@ pub(crate) fn or_fields_fault(
         }
     }
     broken
+}
+
+// A CIE as it is told.
+fn cie_header<'a>(cie: Initial<'a>) -> Header<'a>
+    ensures { head_in result ≡ initial_in cie.entry }
+{
+    Header::Cie {
+        at: cie.at,
+        form: cie.form,
+        code_factor: cie.factors.code_factor,
+        data_factor: cie.factors.data_factor,
+        return_register: cie.return_register,
+        program: cie.program,
+    }
+}
+
+// The header of an entry whose fields hold if it is a CIE.
+#[inline(always)]
+fn header_of<'a>(
+    piece: &Placed<'a>,
+    places: &[u64],
+    found: &mut usize,
+    target: Target,
+) -> Result<Header<'a>, Refusal>
+    requires holds { CieHolds target (piece_in piece.now) }
+    requires ascending { Rises 0 places.now }
+    ensures found { IfOk result (λ h. Has target places.now (piece_in piece.now) (head_in h)) }
+    ensures stuck { IfErr result (FdeStuck target places.now (piece_in piece.now)) }
+{
+    let Some(fde) = fde_of(piece, places, found, target)? else {
+        return Ok(cie_header(read_initial(piece, target)?));
+    };
+    Ok(Header::Fde {
+        at: fde.at,
+        form: fde.form,
+        cie_at: fde.cie_at,
+        begin: fde.begin,
+        range: fde.range,
+        program: fde.program,
+    })
 }
 
 // Reads the fields of the entries of a section that has a cut, behind those of its CIEs.

@@ -1,42 +1,26 @@
-//! The FDEs of a table, read again at their places.
+//! The FDEs of a table, read again at their places, and how many rows their programs start (6.4.3).
 
-ghost use Rattle.std.specs.Prelude.{◌≡◌, ◌<◌, ℕ, List, length, slice_index_or, None};
-ghost use Rattle.dw_num.specs.{Span.{Span, span_of}, Target.address_limit};
-ghost use Rattle.dw_cfa.specs.declared.execution.LocatedRow.{LocatedRow};
-ghost use Rattle.dw_section.specs.{Among.IsAmong, Headers.{Head, Headers, IsFde}, Meaning.AreFdes, Ranges.{IsRanged, fde_in}};
+ghost use Rattle.std.specs.{List.{AllByRecursion, AllZip}, Prelude.{◌≡◌, ◌+◌, ◌≤◌, ℕ, List, length, map, ◌<◌, true, slice_index_or}};
+ghost use Rattle.dw_num.specs.Span.{Span, span_of};
+ghost use Rattle.dw_section.specs.{Accepted.RulesHold, Among.IsAmong, Fields.is_among, Headers.{Head, Headers, IsFde}, Meaning.{RowStarts, Starts, total}};
+ghost use Rattle.dw_section.specs.{Meaning.AreFdes, Ranges.{IsRanged, range_in, fde_in}, Inner.{Counted.{IsProgram, StartsOf}, Index.IsFound, Initials.AreOf}};
+ghost use Rattle.dw_section.specs.Inner.{Initials.{place_of, AreAmong}, Lookup.{fde_of, IsFoundIn}, PieceHeader.initial_in, Pieces.piece_in, Places.Rises};
 ghost use Rattle.dw_section.specs.declared.{fields.FdeFields.FdeFields, lookup.Fde.{Fde as TheFde}};
-ghost use Rattle.dw_section.specs.Inner.{Index.IsFound, Initials.AreOf, Lookup.{AreRowsOf, fde_of, IsFoundIn}, PieceHeader.initial_in, Pieces.piece_in, Walks.AreLed};
 
 use crate::entry::{Placed, width_of};
 use crate::fde_range::Ranged;
 use crate::header::{FdeEntry, Initial};
 use crate::lookup::FdeRef;
-use crate::program::initial_at;
 use crate::standing_fde::{piece_at, pointer_of};
 use crate::table::Table;
-use crate::walks::Walks;
-use dw_num::{Program, Target, are_bytes};
+use dw_cfa::{Instr, Instructions};
+use dw_num::{Program, Target};
 
 /// A nonempty FDE, and the CIE that it names.
 #[derive(Clone, Copy)]
 pub(crate) struct FoundFde<'a> {
     pub(crate) own: FdeEntry<'a>,
     pub(crate) cie: Initial<'a>,
-}
-
-/// Goes to the rows of an FDE of a section, whose programs are known to give rows.
-pub(crate) fn go_to_rows<'a>(walks: &mut Walks<'a>, fde: &FoundFde<'a>, target: Target)
-    requires in_space { fde.now.own.begin < address_limit target.size }
-    requires known { (rows : List LocatedRow) × AreRowsOf target fde.now rows }
-    requires led { (s : List ℕ) × (hs : List Head) × Headers target s hs × IsAmong (initial_in fde.now.cie) hs × AreLed target hs walks.old }
-    ensures rows { (rows : List LocatedRow) → AreRowsOf target fde.now rows → walks.new.walk.steps.outcome.rows ≡ rows }
-    ensures no_fault { walks.new.walk.steps.outcome.fault ≡ None }
-    ensures led { (hs : List Head) → IsAmong (initial_in fde.now.cie) hs → AreLed target hs walks.old → AreLed target hs walks.new }
-{
-    walks.lead(&fde.cie, target);
-    are_bytes(fde.cie.program.bytes);
-    are_bytes(fde.own.program.bytes);
-    walks.walk.go_to(fde.own.program, fde.own.begin);
 }
 
 // The program of an FDE whose fields hold: what stands behind its pointer and its two addresses.
@@ -51,6 +35,17 @@ fn program_behind<'a>(own: &Placed<'a>, target: Target) -> Program<'a>
         bytes: &contents.bytes[fields..],
         at: contents.at + fields as u64,
     }
+}
+
+// What the FDEs of the CIE at a place begin with.
+#[inline(always)]
+fn initial_at<'c, 'a>(initials: &'c [Initial<'a>], place: u64) -> &'c Initial<'a>
+    requires ascending { Rises 0 (map place_of initials.now) }
+    requires among { is_among place (map place_of initials.now) ≡ true }
+    ensures place { result.now.at ≡ place }
+    ensures is { (hs : List Head) → AreAmong hs initials.now → IsAmong (initial_in result.now) hs }
+{
+    &initials[initials.partition_point(|initial| initial.at < place)]
 }
 
 /// The FDE of an entry of the list, read again at its place. What the entry says of it is known, so of its fields the pointer
@@ -89,6 +84,41 @@ pub(crate) fn found_fde<'a>(
     }
 }
 
+// How many rows an FDE's program starts.
+#[tactic(auto, using(crate::proofs::Counts::starts_so, crate::proofs::Counts::answers_few))]
+fn starts_of(fde: &FoundFde<'_>, target: Target) -> u64
+    requires { IsProgram target fde.now }
+    ensures bound { result ≤ 2147483648 }
+    ensures counted { StartsOf target fde.now result }
+{
+    let mut instrs = Instructions::new(fde.own.program, fde.cie.factors, target);
+    let mut starts: u64 = 1;
+    'instrs: while let Some(answer) = instrs.next() {
+        if matches!(answer, Ok(Instr::SetLoc(_) | Instr::Advance(_))) {
+            starts += 1;
+        }
+    }
+    starts
+}
+
+fn sum_starts<'a>(
+    bytes: &'a [u8],
+    target: Target,
+    initials: &[Initial<'a>],
+    index: &[Ranged],
+) -> u64
+    requires few { length index.now ≤ 2147483647 }
+    requires headers { (hs : List Head) × RulesHold target bytes.now hs × AreOf hs initials.now × AllByRecursion (IsRanged hs) index.now }
+    ensures { (hs : List Head) → RulesHold target bytes.now hs → AreOf hs initials.now → AllByRecursion (IsRanged hs) index.now → (counts : List ℕ) × AllZip (Starts target bytes.now) (map range_in index.now) counts × (result ≡ total counts) }
+{
+    let mut sum = 0;
+    for fde in index {
+        let found = found_fde(bytes, target, initials, fde);
+        sum += starts_of(&found, target);
+    }
+    sum
+}
+
 impl<'a> Table<'a> {
     // An entry of the index.
     #[inline(always)]
@@ -101,21 +131,21 @@ impl<'a> Table<'a> {
         self.index()[fde.place]
     }
 
-    // What its FDEs begin with.
-    #[inline(always)]
-    pub(crate) fn initials(&self) -> &[Initial<'a>]
-        ensures { (hs : List Head) → Headers self.now.target self.now.bytes hs → AreOf hs result.now }
-    {
-        &self.initials
-    }
-
-    /// An FDE of the list of `fdes`, with its program and what its CIE says.
+    /// A nonempty FDE, with its program and what its CIE says.
     #[inline(always)]
     pub(crate) fn found(&self, fde: FdeRef) -> FoundFde<'a>
         requires { (fs : List TheFde) → AreFdes self.now.target self.now.bytes fs → fde.place < length fs }
         ensures found { IsFoundIn self.now.target self.now.bytes result }
         ensures listed { (fs : List TheFde) → AreFdes self.now.target self.now.bytes fs → (d : TheFde) → fde_of result ≡ slice_index_or fs fde.place d }
     {
-        found_fde(self.bytes, self.target, self.initials(), &self.listed(fde))
+        found_fde(self.bytes, self.target, &self.initials, &self.listed(fde))
+    }
+
+    /// How many rows the programs of all nonempty FDEs start, one each and one for each instruction that moves the
+    /// location. Takes no memory.
+    pub fn row_starts(&self) -> u64
+        ensures { RowStarts self.now.target self.now.bytes result }
+    {
+        sum_starts(self.bytes, self.target, &self.initials, self.index())
     }
 }

@@ -1,8 +1,8 @@
 //! How long the programs of an FDE are, and how its own begins.
 
-ghost use Rattle.std.specs.{Prelude.{◌≡◌, ◌<◌, List, length, slice_index_or, IfSome}, Option.IsSome};
-ghost use Rattle.dw_section.specs.{Meaning.{AreFdes, HasLengths}, Opening.OpensBehind, declared.lookup.Fde.{Fde as TheFde}};
-ghost use Rattle.dw_section.specs.{declared.opening.CieRow.{CieRow as TheRow}, Inner.Opening.row_behind};
+ghost use Rattle.std.specs.{Option.IsSome, Prelude.{◌≡◌, ◌<◌, List, length, slice_index_or, IfSome}};
+ghost use Rattle.dw_section.specs.{Meaning.{AreFdes, HasLengths}, Opening.OpensBehind, Inner.Opening.row_behind, declared.lookup.Fde.{Fde as TheFde}};
+ghost use Rattle.dw_section.specs.declared.opening.CieRow.{CieRow as TheRow};
 
 use crate::lookup::FdeRef;
 use crate::table::Table;
@@ -45,7 +45,7 @@ fn row_behind(cie_at: u64, first: FirstRow) -> Option<CieRow>
 }
 
 impl<'a> Table<'a> {
-    /// How long the program of an FDE of the list of `fdes` and that of its CIE are, and how its own begins: its fields are read
+    /// How long the program of an FDE and that of its CIE are, and how its own begins: its fields are read
     /// once. Takes no memory.
     #[inline(always)]
     pub fn opening(&self, fde: FdeRef) -> Opening

@@ -1,20 +1,18 @@
 //! FDEs that are read at their places in bytes that were not checked (6.4.1).
 
-ghost use Rattle.std.specs.Prelude.{◌≡◌, ◌+◌, ◌^◌, ◌<◌, ◌≤◌, ℕ, List, length, map, slice_index_or, Some, None, IfOk};
-ghost use Rattle.std.specs.{Prelude.{IfErr, IfSome, IsSome, OnOk, MatchOption, MatchResult}, Bool.MatchBool};
-ghost use Rattle.dw_num.specs.{Refusals.Refuses, Span.{span_of, input_of}, Target.address_limit, declared.refusal.Refusal.{Refusal as TheRefusal}};
+ghost use Rattle.std.specs.{Bool.MatchBool, Prelude.{◌≡◌, ◌+◌, ◌^◌, ◌<◌, ◌≤◌, ℕ, List, length, map, slice_index_or, Some, None, IfOk, IfErr, IfSome, IsSome}};
+ghost use Rattle.std.specs.Prelude.{MatchOption, MatchResult};
+ghost use Rattle.dw_num.specs.declared.refusal.Refusal.{Refusal as TheRefusal};
 ghost use Rattle.dw_op.specs.Faults.{IsWithin};
-ghost use Rattle.dw_cfa.specs.{Faults.{FaultUpTo, NoFaultUpTo}, RuleAt.last_at, Runs.Outcome};
-ghost use Rattle.dw_section.specs.{Accepted.RulesHold, Among.IsAmong, Cut.{Piece, id_width}, Fits.RowFits, Headers.{FdeHead, Has, Head, fde}};
-ghost use Rattle.dw_section.specs.{Meaning.{AreFdes, Covers, NoneCovers, Returns, RulesAt}, Overlap.{Ascends, Range}};
-ghost use Rattle.dw_section.specs.{Ranges.{IsEntry, LeadsTo, Uncovered, fde_in, range_in, IsTable}, Stage.Then, StandingFde.ItemFault};
-ghost use Rattle.dw_section.specs.StandingFde.{LookUpFault, Misleads, NamesCieAt, NoneStands, PairFault, RefusesAs, RulesOf, StandingFault, StandsAs, StandsIn};
-ghost use Rattle.dw_section.specs.declared.{fde_range.Ranged.{Ranged as TheRanged}, lookup.Fde.{Fde as TheFde}};
-ghost use Rattle.dw_section.specs.Inner.{Lookup.{RunsSo, fde_of}, Pieces.piece_in, StandingFde.{FoundStands, LiesInPrograms, StandsAt, of_steps}};
+ghost use Rattle.dw_section.specs.{Accepted.RulesHold, Among.IsAmong, Cut.{Piece, id_width}, Fits.RowFits, Headers.{FdeHead, Has, Head, fde}, Meaning.AreFdes};
+ghost use Rattle.dw_section.specs.{Meaning.{Covers, NoneCovers, Returns, RulesAt}, Overlap.{Ascends, Range}, Ranges.{LeadsTo, Uncovered, fde_in, range_in}};
+ghost use Rattle.dw_section.specs.{Ranges.IsTable, Stage.Then, StandingFde.{ItemFault, LookUpFault, Misleads, NamesCieAt, NoneStands, PairFault, RefusesAs}};
+ghost use Rattle.dw_section.specs.{StandingFde.{RulesOf, StandingFault, StandsAs, StandsIn}, Inner.{Pieces.piece_in, StandingFde.{FoundStands, StandsAt}}};
+ghost use Rattle.dw_section.specs.{Inner.StandingFde.of_steps, declared.{fde_range.Ranged.{Ranged as TheRanged}, lookup.Fde.{Fde as TheFde}}};
 ghost use Rattle.dw_section.specs.declared.entry.Kind.TheVariants as kind;
 ghost use Rattle.dw_section.specs.declared.standing_fde.LookUpError.TheVariants as LookUpError;
 
-use crate::entry::{Kind, MOST, Part, Placed, kind_in, next_part, width_of};
+use crate::entry::{Kind, MOST, Placed, next_item, refusal, width_of};
 use crate::fde_range::Ranged;
 use crate::header::{read_entry, read_initial};
 use crate::listed_fde::FoundFde;
@@ -37,15 +35,7 @@ pub(crate) fn piece_at(bytes: &[u8], at: u64, target: Target) -> Result<Option<P
         return Ok(None);
     }
     let mut cursor = Cursor::new(&bytes[at as usize..], at, target);
-    match next_part(&mut cursor)? {
-        Part::Gap => Ok(None),
-        Part::Entry(form, contents) => Ok(Some(Placed {
-            at,
-            form,
-            kind: kind_in(form, contents.bytes),
-            contents,
-        })),
-    }
+    next_item(&mut cursor)
 }
 
 /// The CIE that stands at a place, or none, or what is wrong there.
@@ -83,30 +73,7 @@ pub(crate) fn pointer_of(piece: &Placed<'_>, target: Target) -> u64
     pointer
 }
 
-// The FDE that is this entry, with what the CIE that it names says, or what is wrong in either.
-#[inline(always)]
-fn fde_in<'a>(bytes: &'a [u8], own: &Placed<'a>, target: Target) -> Result<FoundFde<'a>, Refusal>
-    requires few { length bytes.now ≤ 2147483647 }
-    requires kind { own.now.kind ≡ kind.Fde }
-    requires stands { StandsIn target.order bytes.now (piece_in own.now) }
-    ensures found { IfOk result (λ e. (e.own.at ≡ own.now.at) × FoundStands target bytes.now e) }
-    ensures within { IfErr result (IsWithin bytes.now) }
-    ensures fault { IfErr result (PairFault target bytes.now (piece_in own.now)) }
-    ensures only { StandsAt target bytes.now own.now.at → IfErr result (λ _. ⊥) }
-{
-    let pointer = pointer_of(own, target);
-    let Some(named) = cie_at(bytes, pointer, target)? else {
-        return Err(Refusal {
-            code: Code::NoSuchCie,
-            at: own.contents.at,
-        });
-    };
-    let header = read_entry(own, &[pointer], &mut 0, target)?;
-    let cie = read_initial(&named, target)?;
-    Ok(FoundFde { own: header, cie })
-}
-
-// The FDE that stands at a place, or none, or what is wrong there.
+// The FDE that stands at a place, with what the CIE that it names says, or none, or what is wrong in either.
 #[inline(always)]
 fn standing<'a>(bytes: &'a [u8], at: u64, target: Target) -> Result<Option<FoundFde<'a>>, Refusal>
     requires { length bytes.now ≤ 2147483647 }
@@ -115,13 +82,19 @@ fn standing<'a>(bytes: &'a [u8], at: u64, target: Target) -> Result<Option<Found
     ensures fault { IfErr result (Then (ItemFault target bytes.now at) (StandsAs target bytes.now kind.Fde at) (PairFault target bytes.now)) }
     ensures only { StandsAt target bytes.now at → MatchResult result IsSome (λ _. ⊥) }
 {
-    let Some(piece) = piece_at(bytes, at, target)? else {
+    let Some(own) = piece_at(bytes, at, target)? else {
         return Ok(None);
     };
-    match piece.kind {
-        Kind::Cie => Ok(None),
-        Kind::Fde => Ok(Some(fde_in(bytes, &piece, target)?)),
-    }
+    let Kind::Fde = own.kind else {
+        return Ok(None);
+    };
+    let pointer = pointer_of(&own, target);
+    let Some(named) = cie_at(bytes, pointer, target)? else {
+        return Err(refusal(Code::NoSuchCie, own.contents.at));
+    };
+    let header = read_entry(&own, &[pointer], &mut 0, target)?;
+    let cie = read_initial(&named, target)?;
+    Ok(Some(FoundFde { own: header, cie }))
 }
 
 // How many entries of an index begin at or below an address, where begins ascend.
@@ -153,16 +126,6 @@ pub(crate) fn place_of(index: &[Ranged], address: u64) -> Option<usize>
         return Some(begun - 1);
     }
     None
-}
-
-// The entry of an index that covers an address.
-fn entry_at(index: &[Ranged], address: u64) -> Option<Ranged>
-    ensures covers { IfSome result (λ e. Covers address (fde_in e)) }
-    ensures among { IfSome result (λ e. IsEntry e index.now) }
-    ensures none { result ≡ None → Uncovered index.now address }
-{
-    let place = place_of(index, address)?;
-    Some(index[place])
 }
 
 /// Why a look-up in bytes by an index has no answer.
@@ -199,49 +162,6 @@ impl From<ReadError> for LookUpError {
     }
 }
 
-// What is told of an FDE.
-#[inline(always)]
-fn told(fde: &FoundFde<'_>) -> Fde
-    ensures is { result ≡ fde_of fde.now }
-    ensures range { (range : ℕ) × (range < 2 ^ 64) × (result.end ≡ result.begin + range) }
-{
-    Fde {
-        begin: fde.own.begin,
-        end: u128::from(fde.own.begin) + u128::from(fde.own.range),
-        return_register: fde.cie.return_register,
-    }
-}
-
-// Runs the programs of an FDE that stands up to the row of an address.
-#[inline(always)]
-fn run_fde<'a>(
-    fde: &FoundFde<'a>,
-    target: Target,
-    address: u64,
-    room: &mut RowRoom<'a>,
-) -> Result<(), ReadError>
-    requires in_space { fde.now.own.begin < address_limit target.size }
-    requires begin { fde.now.own.begin ≤ address }
-    ensures runs { (o : Outcome) × RunsSo target fde.now o }
-    ensures found { (o : Outcome) → RunsSo target fde.now o → OnOk result (last_at address o.rows ≡ Some room.new) }
-    ensures unfaulted { OnOk result (NoFaultUpTo fde.now.cie.factors (input_of target (span_of fde.now.cie.program)) (input_of target (span_of fde.now.own.program)) fde.now.own.begin address) }
-    ensures err { (o : Outcome) → RunsSo target fde.now o → IfErr result (Refuses (λ r. o.fault ≡ Some r)) }
-    ensures up_to { IfErr result (Refuses (FaultUpTo fde.now.cie.factors (input_of target (span_of fde.now.cie.program)) (input_of target (span_of fde.now.own.program)) fde.now.own.begin address)) }
-    ensures within { IfErr result (Refuses (LiesInPrograms target fde.now)) }
-{
-    let (cie, own) = (fde.cie, fde.own);
-    are_bytes(cie.program.bytes);
-    are_bytes(own.program.bytes);
-    room.run_to(
-        cie.program,
-        own.program,
-        own.begin,
-        cie.factors,
-        target,
-        address,
-    )
-}
-
 // The rules at an address by the FDE that stands at a place.
 #[inline(always)]
 fn row_of<'a>(
@@ -263,11 +183,25 @@ fn row_of<'a>(
     let Some(fde) = standing(bytes, at, target)? else {
         return Err(LookUpError::BadIndex);
     };
-    if !covers(fde.own.begin, fde.own.range, address) {
+    let (cie, own) = (fde.cie, fde.own);
+    if !covers(own.begin, own.range, address) {
         return Err(LookUpError::BadIndex);
     }
-    run_fde(&fde, target, address, room)?;
-    Ok(told(&fde))
+    are_bytes(cie.program.bytes);
+    are_bytes(own.program.bytes);
+    room.run_to(
+        cie.program,
+        own.program,
+        own.begin,
+        cie.factors,
+        target,
+        address,
+    )?;
+    Ok(Fde {
+        begin: own.begin,
+        end: u128::from(own.begin) + u128::from(own.range),
+        return_register: cie.return_register,
+    })
 }
 
 /// The FDE that covers an address by an index of a section's nonempty FDEs, ascending by begin, whose rules there `room` lends
@@ -306,14 +240,12 @@ pub fn look_up<'a>(
     ensures refused { IfErr result (RefusesAs (LookUpFault target bytes.now index.now address)) }
 {
     if bytes.len() > MOST {
-        return Err(LookUpError::Refused(Refusal {
-            code: Code::SectionTooLarge,
-            at: 0,
-        }));
+        return Err(LookUpError::Refused(refusal(Code::SectionTooLarge, 0)));
     }
-    let Some(entry) = entry_at(index, address) else {
+    let Some(place) = place_of(index, address) else {
         return Ok(None);
     };
+    let entry = index[place];
     let found = row_of(bytes, target, u64::from(entry.at), address, room)?;
     Ok(Some(found))
 }

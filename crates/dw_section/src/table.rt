@@ -1,17 +1,15 @@
 //! Sections that are checked whole (6.4.1).
 
-ghost use Rattle.std.specs.Prelude.{◌≡◌, ℕ, List, IfOk, IfErr, MatchResult};
+ghost use Rattle.std.specs.Prelude.{◌≡◌, List, IfOk, IfErr, MatchResult};
 ghost use Rattle.dw_num.specs.{Input.AreBytes, Refusals.Refuses, declared.error.ReadError.TheVariants.OutOfMemory};
-ghost use Rattle.dw_num.specs.declared.error.ReadError.TheVariants as TheError;
 ghost use Rattle.dw_op.specs.Faults.{IsWithin};
-ghost use Rattle.dw_section.specs.{Accepted.{CheckFault, Accepted}, Counts.AreCounts, Cut.Piece, Meaning.AreFdes};
-ghost use Rattle.dw_section.specs.{Pieces.Pieces, Ranges.IsTable, declared.lookup.Fde.{Fde as TheFde}};
+ghost use Rattle.dw_section.specs.{Accepted.{CheckFault, Accepted}, Counts.AreCounts, Cut.Piece, Meaning.AreFdes, Pieces.Pieces, Ranges.IsTable};
+ghost use Rattle.dw_section.specs.declared.lookup.Fde.{Fde as TheFde};
 
-use crate::entry::EntryCounts;
-use crate::fde_range::{Ranged, first_overlap, put_in_order, run_fdes};
+use crate::entry::{EntryCounts, refusal};
+use crate::fde_range::{Ranged, first_overlap, put_in_order, run_cies, run_fdes};
 use crate::header::{Initial, cies_of, or_fields_fault};
-use crate::program::run_cies;
-use dw_num::{Code, Cursor, ReadError, Refusal, Target, are_bytes};
+use dw_num::{Code, Cursor, ReadError, Target, are_bytes};
 use std::alloc::Global;
 use std::marker::Model;
 
@@ -76,12 +74,6 @@ impl<'a> Table<'a> {
     }
 }
 
-fn refused(code: Code, at: u64) -> ReadError
-    ensures { result ≡ TheError.Refused (record { code = code; at = at }) }
-{
-    ReadError::Refused(Refusal { code, at })
-}
-
 fn checked<'a>(alloc: Global, bytes: &'a [u8], target: Target) -> Result<Table<'a>, ReadError>
     ensures found { IfOk result (λ table. (table ≡ record { target = target; bytes = bytes.now }) × Accepted target bytes.now) }
     ensures first { IfErr result (Refuses (CheckFault target bytes.now)) }
@@ -93,12 +85,12 @@ fn checked<'a>(alloc: Global, bytes: &'a [u8], target: Target) -> Result<Table<'
     }
     let judged = run_fdes(alloc, bytes, target, &cies)?;
     if let Some(at) = judged.lacking {
-        return Err(refused(Code::NoCfaRule, at));
+        return Err(ReadError::Refused(refusal(Code::NoCfaRule, at)));
     }
     let mut index = judged.list;
     put_in_order(&mut index)?;
     match first_overlap(&index) {
-        Some(at) => Err(refused(Code::Overlap, at)),
+        Some(at) => Err(ReadError::Refused(refusal(Code::Overlap, at))),
         None => Ok(Table {
             bytes,
             target,

@@ -1,9 +1,9 @@
 //! The walks that run the programs of FDEs: one that goes from CIE to CIE, and those of other CIEs with long programs.
 
 ghost use Rattle.std.specs.Prelude.{◌≡◌, List, Some};
-ghost use Rattle.dw_cfa.specs.{RowSteps.stepping, Runs.finished, Rows.blank};
-ghost use Rattle.dw_section.specs.{Among.IsAmong, Headers.Head, Inner.PieceHeader.initial_in, Inner.Walks.{AreAway, AreLed, LedTo}};
 ghost use Rattle.dw_num.specs.declared.target.Target.{Target as TheTarget};
+ghost use Rattle.dw_cfa.specs.{RowSteps.stepping, Rows.blank, Runs.finished};
+ghost use Rattle.dw_section.specs.{Among.IsAmong, Headers.Head, Inner.{PieceHeader.initial_in, Walks.{AreAway, AreLed, LedTo}}};
 
 use crate::header::Initial;
 use dw_cfa::RowWalk;
@@ -81,20 +81,6 @@ impl<'a> Walks<'a> {
         self.cie_at = cie_at;
     }
 
-    // Leaves the CIE that the walk was led to, if to any, for the one at a place, where the program of one of them is long: the
-    // walk is put away where its CIE's program is long, and that of the other CIE is taken back out, or is a new one.
-    #[inline(always)]
-    fn turn(&mut self, place: u64, long: bool, target: Target)
-        ensures { (hs : List Head) → AreLed target hs self.old → AreLed target hs self.new }
-    {
-        if self.long || long {
-            match self.cie_at {
-                Some(left) if left != place => self.change(left, place, target),
-                _ => {}
-            }
-        }
-    }
-
     /// Leads a walk to a CIE. No bytes are compared where it was led to that one before.
     #[inline(always)]
     pub(crate) fn lead(&mut self, cie: &Initial<'a>, target: Target)
@@ -102,7 +88,12 @@ impl<'a> Walks<'a> {
         ensures at { self.new.cie_at ≡ Some cie.now.at }
     {
         let long = cie.program.bytes.len() > LONG;
-        self.turn(cie.at, long, target);
+        if (self.long || long)
+            && let Some(left) = self.cie_at
+            && left != cie.at
+        {
+            self.change(left, cie.at, target);
+        }
         self.long = long;
         if let Some(cie_at) = self.cie_at
             && cie_at == cie.at

@@ -2,7 +2,7 @@
 use Rattle.dw_unwind.proofs.Words.{◌≡◌, ℕ, zero, suc, ◌+◌, ◌-◌, ◌^◌, ◌<◌, ◌≤◌, Bool, true, false, cond, List, [], ◌∷◌, ◌++◌, length, take, get_or, Option, Some, None, refl, sym, ap, subst, ◌∙◌, arith, add-one, inl}
 use Rattle.dw_unwind.proofs.Words.{inr, append_assoc, length-append, is_some, slice_get, AllByRecursion, AllZip, leb_tells, sum_by-cons, sum_by-append, append-nil, AllZip-long, slice_get_past, slice_get-get_or}
 use Rattle.dw_unwind.proofs.Words.{Repeated, DumpFault, Gathered, Range, SaysWithin, Say, FirstFault, Gathers, Keeps, IsWhole, ranges_of, bytes_of, covers, byte_among, cover_count, AreApart, Meet, IsSoundRange}
-use Rattle.dw_unwind.proofs.{Words.{option_or, Statement, DumpItem, nothing, counter_is, register_is, memory_is, counter, register, byte, told, given, times}, KeepLaws.times_cons, RangeLaws.covers_tells}
+use Rattle.dw_unwind.proofs.{Words.{option_or, Statement, DumpItem, memory_is, counter, register, byte, told, given, times}, KeepLaws.times_cons, RangeLaws.covers_tells}
 
 pub ranges_within : (limit line place room : ℕ) (ss : List Statement) → limit ≤ 2 ^ 64 → AllByRecursion (IsWhole limit) ss → place + length (bytes_of ss) ≤ room → AllByRecursion (IsSoundRange (2 ^ 64) room) (ranges_of line place ss)
 ranges_within limit line place room [] le whole fits = tt

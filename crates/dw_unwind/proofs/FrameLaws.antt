@@ -1,6 +1,6 @@
 -- The registers of a frame, one after another.
 use Rattle.std.proofs.Common.{rules}
-use Rattle.dw_unwind.proofs.Words.{◌≡◌, ℕ, zero, suc, ◌<◌, ◌≤◌, true, false, List, [], ◌∷◌, ◌++◌, length, get_or, Option, Ok, refl, sym, subst, ◌∙◌, arith, inl, inr, AllByRecursion, AllPairs, ◌||◌, Bool, IsTrue, is_some, cases_lt}
+use Rattle.dw_unwind.proofs.Words.{◌≡◌, ℕ, zero, suc, ◌<◌, ◌≤◌, true, false, List, [], ◌∷◌, ◌++◌, length, get_or, Option, None, Ok, refl, sym, subst, ◌∙◌, arith, inl, inr, AllByRecursion, AllPairs, ◌||◌, Bool, IsTrue, is_some, cases_lt}
 use Rattle.dw_unwind.proofs.Words.{ne_eqb, RegRule, Rules, AreSpecified, is_specified, rule, rule_in, Context, Fde, IsAmong, Policy, is_listed, IsListed, Recovers, AreRegisters, Reached, Rise, SoFar, IsLeft}
 use Rattle.dw_cfa.specs.declared.rule.RegRule.TheVariants.{Unspecified}
 use Rattle.dw_unwind.proofs.Elements.{all_push, all_more, all_among}
@@ -86,6 +86,9 @@ module _ (c : Context) (limit : ℕ) (policy : Policy) (row : Rules) (register c
       | inr more ↦ let both : true ≡ false = sym is ∙ none r more in absurd cc
     ];
   }
+
+pub not_listed : (held : ℕ → Option ℕ) (row : Rules) (register r : ℕ) → held r ≡ None → rule row r ≡ Unspecified → register < r → is_listed held row register r ≡ false
+not_listed held row register r none unset lt = rw (none, unset, ne_eqb r register (λ same. omega (arith, same, lt))) refl
 
 -- ---- what is left of a row's registers
 

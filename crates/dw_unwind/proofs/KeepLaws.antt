@@ -1,7 +1,7 @@
 -- Statements one after the other: what they give, and how often.
 use Rattle.std.proofs.Common.{rules}
 use Rattle.dw_unwind.proofs.Words.{◌≡◌, ◌⊎◌, ℕ, suc, ◌+◌, ◌<◌, ◌≤◌, true, false, cond, List, [], ◌∷◌, ◌++◌, length, Option, Some, None, refl, sym, ap, subst, ◌∙◌, arith, add-zero, inl, inr, append_assoc}
-use Rattle.dw_unwind.proofs.Words.{length-append, is_some, ◌==◌, cases_Bool, eqb_tells, append-nil, sum_by-cons, sum_by_push, held, Gathered, Range, LineSays, Keeps, IsWhole, HasBytes, ranges_of}
+use Rattle.dw_unwind.proofs.Words.{length-append, is_some, ◌==◌, cases_Bool, eqb_tells, append-nil, sum_by-cons, sum_by_push, held, Gathered, Range, Keeps, IsWhole, ranges_of}
 use Rattle.dw_unwind.proofs.{Words.{bytes_by, bytes_of, option_or, Statement, DumpItem, nothing, counter_is, register_is, memory_is, counter, register, told, given, times}, Elements.all_push}
 
 or_else_none : (x : Option ℕ) → option_or x None ≡ x
@@ -140,7 +140,3 @@ told_own q v = elim (eqb_tells q q) [
   | inl same ↦ rw (same.0) refl
   | inr other ↦ absurd (other.1 refl)
 ]
-
-pub says_bytes : (line : List ℕ) (s : Statement) → LineSays line s → HasBytes s
-says_bytes line (memory_is start bytes) said = said.3.some
-says_bytes line s said = tt

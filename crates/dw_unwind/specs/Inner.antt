@@ -5,5 +5,4 @@ pub mod Recovery
 pub mod Dump
 pub mod Ranges
 pub mod Spelling
-pub mod UnwoundAt
 pub mod Room

@@ -1,6 +1,6 @@
 -- Ranges of memory, with their bytes in one list.
 use Rattle.std.specs.Prelude.{ℕ, ◌+◌, ◌-◌, ◌&&◌, nat_le, nat_lt, Bool, if◌then◌else◌, List, [], ◌∷◌, Option, None, slice_get}
-use Rattle.dw_unwind.specs.declared.ranges.Range.{Range}
+use Rattle.dw_unwind.specs.declared.memory.Range.{Range}
 
 -- the first address past a range
 abbrev pub end_of : Range → ℕ

@@ -1,21 +1,21 @@
-//! The frame of the caller by an index that was kept (6.4.1).
+//! The frame of the caller by an index that was kept, or by the table of a section (6.4.1).
 
-ghost use Rattle.std.specs.{Prelude.{◌≡◌, ◌⊎◌, ◌-◌, ◌^◌, ◌<◌, ◌≤◌, true, IfOk, IfErr, OnOk, MatchResult, Result, Err}, Bool.MatchBool};
+ghost use Rattle.std.specs.Prelude.{◌≡◌, ◌⊎◌, ◌-◌, ◌^◌, ◌<◌, ◌≤◌, true, IfOk, IfErr, OnOk, MatchResult, Result, Err};
 ghost use Rattle.dw_cfa.specs.declared.rule.CfaRule.TheVariants.{Unset};
 ghost use Rattle.dw_section.specs.{Fits.RowFits, Ranges.IsTable};
 ghost use Rattle.dw_unwind.specs.Unwound.{IsCovered, IsUncovered, Unwound, UnwindFails, is_device, stopped};
 ghost use Rattle.dw_unwind.specs.UnwoundAt.{IsLed, LacksRow, UnwoundAt, UnwindAtFails, by_index};
 ghost use Rattle.dw_unwind.specs.declared.frame.{Frame.{Frame as TheFrame}, UnwindError.{UnwindError as TheError}};
-ghost use Rattle.dw_unwind.specs.{declared.frame.UnwindError.TheVariants.{NoFde, OutOfMemory}, Inner.UnwoundAt.of_look_up};
+ghost use Rattle.dw_unwind.specs.declared.frame.UnwindError.TheVariants.{NoFde, OutOfMemory};
 ghost use Rattle.dw_unwind.specs.declared.by_index.UnwindAtError.TheVariants as TheUnwindAtError;
 
-use crate::caller::unwind_row;
 use crate::frame::{Frame, UnwindError};
 use crate::frame_room::FrameRoom;
-use dw_cfa::{CfaRule, Row, RowRoom};
+use crate::machine::unwind_row;
+use dw_cfa::{CfaRule, RowRoom};
 use dw_eval::{Memory, Policy, Registers};
 use dw_num::{Refusal, Target, are_bytes};
-use dw_section::{LookUpError, Ranged, look_up, section_laws};
+use dw_section::{LookUpError, Ranged, Table, look_up, section_laws};
 use std::alloc::Global;
 use thiserror::Error;
 
@@ -34,35 +34,8 @@ pub enum UnwindAtError {
     Unwind(UnwindError),
 }
 
-impl From<LookUpError> for UnwindAtError {
-    ghost from_gives = { λ error e. e ≡ of_look_up error };
-
-    fn from(error: LookUpError) -> UnwindAtError {
-        match error {
-            LookUpError::BadIndex => UnwindAtError::BadIndex,
-            LookUpError::Refused(refusal) => UnwindAtError::Refused(refusal),
-            LookUpError::OutOfMemory => UnwindAtError::Unwind(UnwindError::OutOfMemory),
-        }
-    }
-}
-
-fn by_index(answer: Result<Frame<'_>, UnwindError>) -> Result<Frame<'_>, UnwindAtError>
-    ensures { result ≡ by_index answer.entry }
-{
-    match answer {
-        Ok(frame) => Ok(frame),
-        Err(error) => Err(UnwindAtError::Unwind(error)),
-    }
-}
-
-fn is_set(row: &Row<'_>) -> bool
-    ensures { MatchBool result (row.now.cfa ≡ Unset → ⊥) (row.now.cfa ≡ Unset) }
-{
-    !matches!(row.cfa_rule(), CfaRule::Unset)
-}
-
-/// The return address register of the FDE that covers an address by an index; `room` lends the rules there then.
-pub(crate) fn row_at<'a>(
+// The return address register of the FDE that covers an address by an index; `room` lends the rules there then.
+fn row_at<'a>(
     bytes: &'a [u8],
     target: Target,
     index: &[Ranged],
@@ -77,13 +50,18 @@ pub(crate) fn row_at<'a>(
 {
     section_laws();
     are_bytes(bytes);
-    let Some(fde) = look_up(bytes, target, index, address, room)? else {
-        return Err(UnwindAtError::Unwind(UnwindError::NoFde));
-    };
-    if !is_set(room.row()) {
-        return Err(UnwindAtError::BadIndex);
+    match look_up(bytes, target, index, address, room) {
+        Ok(Some(fde)) => {
+            if let CfaRule::Unset = room.row().cfa_rule() {
+                return Err(UnwindAtError::BadIndex);
+            }
+            Ok(fde.return_register)
+        }
+        Ok(None) => Err(UnwindAtError::Unwind(UnwindError::NoFde)),
+        Err(LookUpError::BadIndex) => Err(UnwindAtError::BadIndex),
+        Err(LookUpError::Refused(refusal)) => Err(UnwindAtError::Refused(refusal)),
+        Err(LookUpError::OutOfMemory) => Err(UnwindAtError::Unwind(UnwindError::OutOfMemory)),
     }
-    Ok(fde.return_register)
 }
 
 /// The caller's frame as `unwind` answers it, by an index of a section's nonempty FDEs that was kept (`Table::index`), in bytes
@@ -119,21 +97,60 @@ pub fn unwind_at<'a, 'r, M: Memory>(
     ensures device { (e : TheError) → result ≡ Err (TheUnwindAtError.Unwind e) → is_device e ≡ true → M.failures memory.old < M.failures memory.new }
 {
     match row_at(bytes, target, index, pc, room) {
-        Ok(return_register) => {
+        Ok(returns) => {
             let row = room.row();
-            let frame = unwind_row(
-                alloc,
-                row,
-                return_register,
-                target,
-                frame_room,
-                registers,
-                memory,
-                default,
-                steps,
-            );
-            by_index(frame)
+            unwind_row(
+                alloc, row, returns, target, frame_room, registers, memory, default, steps,
+            )
+            .map_err(UnwindAtError::Unwind)
         }
         Err(error) => Err(error),
+    }
+}
+
+/// The caller's frame of a machine that stopped at `pc` with these registers and this memory, by the rules of a section for
+/// that address (6.4.1): first the CFA, then, ascending, each register that the machine holds, that the row specifies, or that
+/// is the return address's. Registers hold numbers modulo 2^N, where an address has N bits. One that no instruction has set
+/// is what `default` says. Each expression may take `steps` steps.
+///
+/// The first fault is answered, with its column. `Device`, alone or as the kind of `Eval`, is answered exactly where the memory's
+/// count of failures grew.
+///
+/// `room` is where the registers are put; it may be that of an earlier call. Takes memory where there are more than 64 of them,
+/// and for the operations of one expression at a time.
+pub fn unwind<'r, M: Memory>(
+    alloc: Global,
+    table: &Table<'_>,
+    target: Target,
+    pc: u64,
+    room: &'r mut FrameRoom,
+    registers: &Registers,
+    memory: &mut M,
+    default: Policy,
+    steps: u64,
+) -> Result<Frame<'r>, UnwindError>
+    requires target { target ≡ table.now.target }
+    requires room { M.failures memory.old < 2 ^ 64 - 1 }
+    // No byte of the memory changes.
+    ensures same { M.byte memory.new ≡ M.byte memory.old }
+    // The count of failures stays or grows.
+    ensures counted { M.failures memory.old ≤ M.failures memory.new }
+    // Where it stays, the answer is the frame or the first fault, or want of memory.
+    ensures answered { M.failures memory.new ≡ M.failures memory.old → (result ≡ Err OutOfMemory) ⊎ Unwound target table.now.bytes pc (stopped target registers.now (M.byte memory.old)) default steps result }
+    // Where it grows, a read of a column that is reached has failed.
+    ensures failed { M.failures memory.old < M.failures memory.new → (e : TheError) × (result ≡ Err e) × (is_device e ≡ true) × UnwindFails target table.now.bytes pc (stopped target registers.now (M.byte memory.old)) default steps e }
+    // No other failure is named.
+    ensures device { (e : TheError) → result ≡ Err e → is_device e ≡ true → M.failures memory.old < M.failures memory.new }
+{
+    let mut rows = RowRoom::new(alloc);
+    match row_at(table.bytes(), target, table.index(), pc, &mut rows) {
+        Ok(returns) => {
+            let row = rows.row();
+            unwind_row(
+                alloc, row, returns, target, room, registers, memory, default, steps,
+            )
+        }
+        Err(UnwindAtError::Unwind(error)) => Err(error),
+        Err(_) => unreachable!(),
     }
 }

@@ -4,10 +4,7 @@
 //! memory's count of failures grew. Read `specs/Unwound.antt` first, and `specs/Dump.antt` for dumps.
 #![tactic(auto)]
 
-mod addition;
 mod by_index;
-mod by_table;
-mod caller;
 mod dump;
 mod fault;
 mod frame;
@@ -16,16 +13,13 @@ mod laws;
 mod line;
 mod machine;
 mod memory;
-mod partial_dump;
-mod ranges;
 
-pub use by_index::{UnwindAtError, unwind_at};
-pub use by_table::unwind;
-pub use caller::unwind_row;
+pub use by_index::{UnwindAtError, unwind, unwind_at};
 pub use dump::Dump;
 pub use dw_eval::Policy;
 pub use fault::{DumpCode, DumpError, DumpFault};
 pub use frame::{Column, Frame, UnwindError};
 pub use frame_room::{FrameRegisters, FrameRoom};
 pub use laws::unwind_laws;
+pub use machine::unwind_row;
 pub use memory::DumpMemory;

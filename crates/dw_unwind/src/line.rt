@@ -115,12 +115,6 @@ fn hex_pairs(alloc: Global, text: &[u8]) -> Result<Option<Vec<u8>>, AllocError>
     }
 }
 
-fn is_skipped(line: &[u8]) -> bool
-    ensures { MatchBool result (SkippedLine line.now) (SkippedLine line.now → ⊥) }
-{
-    line.is_empty() || line[0] == b'#'
-}
-
 fn counter_line(line: &[u8]) -> Option<u64>
     ensures { MatchOption result ((v : ℕ) → CounterLine v line.now → ⊥) (λ v. CounterLine v line.now) }
 {
@@ -138,22 +132,16 @@ fn register_line(line: &[u8]) -> Option<(u16, u64)>
     Some((register, value))
 }
 
-// The address and the digits of a line of memory.
-fn memory_head<'a>(line: &'a [u8]) -> Option<(u64, &'a [u8])>
-    ensures { MatchOption result ((v : ℕ) (text : List ℕ) → MemoryHead v text line.entry.now → ⊥) (λ p. MemoryHead p.0 p.1.now line.entry.now) }
-{
-    let (digits, pairs) = word_behind(line, b"mem 0x")?;
-    let start = hexadecimal(digits)?;
-    Some((start, pairs))
-}
-
 fn memory_line(alloc: Global, line: &[u8]) -> Result<Option<(u64, Vec<u8>)>, AllocError>
     ensures { IfOk result (λ found. MatchOption found ((v : ℕ) (bytes : List ℕ) → MemoryLine v bytes line.now → ⊥) (λ p. MemoryLine p.0 p.1.items line.now)) }
 {
-    let Some((start, text)) = memory_head(line) else {
+    let Some((digits, pairs)) = word_behind(line, b"mem 0x") else {
         return Ok(None);
     };
-    match hex_pairs(alloc, text)? {
+    let Some(start) = hexadecimal(digits) else {
+        return Ok(None);
+    };
+    match hex_pairs(alloc, pairs)? {
         Some(bytes) => Ok(Some((start, bytes))),
         None => Ok(None),
     }
@@ -163,7 +151,7 @@ fn memory_line(alloc: Global, line: &[u8]) -> Result<Option<(u64, Vec<u8>)>, All
 pub(crate) fn read_line(alloc: Global, line: &[u8]) -> Result<Option<Statement>, AllocError>
     ensures { IfOk result (λ found. MatchOption found ((s : TheStatement) → LineSays line.now s → ⊥) (λ s. LineSays line.now (stated s))) }
 {
-    if is_skipped(line) {
+    if line.is_empty() || line[0] == b'#' {
         return Ok(Some(Statement::Nothing));
     }
     if let Some(value) = counter_line(line) {

@@ -1,30 +1,34 @@
-//! What the columns of a row give for a machine that stopped (6.4.1).
+//! The frame of the caller by the rules of a row (6.4.1): its columns, one after another.
 
-ghost use Rattle.std.specs.Prelude.{◌≡◌, ℕ, Option, ◌-◌, ◌^◌, ◌<◌};
-ghost use Rattle.dw_eval.specs.{Context.context, Evaluation.first_stack};
-ghost use Rattle.dw_cfa.specs.declared.rule.CfaRule.TheVariants.{Unset};
-ghost use Rattle.dw_section.specs.Fits.{CfaFits, RuleFits};
-ghost use Rattle.dw_unwind.specs.Columns.{in_column, defaulted, value_in, saved_at, ValueIs, CfaIs, SavedBy, RegisterIs};
-ghost use Rattle.dw_unwind.specs.{Columns.{SavedFails, ValueFails, SavedByFails, CfaFails, RegisterFails}, Inner.Recovery.Over};
+ghost use Rattle.std.specs.Prelude.{◌≡◌, ◌⊎◌, ℕ, ◌+◌, ◌-◌, ◌^◌, ◌<◌, ◌≤◌, true, Option, IsTrue, OnOk, Err};
+ghost use Rattle.dw_eval.specs.{Context.context, Evaluation.first_stack, Registers.held};
+ghost use Rattle.dw_cfa.specs.{Rows.{rule, is_specified}, declared.rule.CfaRule.TheVariants.Unset, declared.rule.RegRule.TheVariants.Unspecified};
+ghost use Rattle.dw_section.specs.Fits.{CfaFits, RowFits, RuleFits};
+ghost use Rattle.dw_unwind.specs.{Columns.{CfaFails, CfaIs, RegisterFails, RegisterIs, SavedFails, ValueFails, ValueIs, defaulted, in_column}};
+ghost use Rattle.dw_unwind.specs.{Columns.{saved_at, value_in}, Unwound.{FrameFails, FrameIs, RegistersAre, RegistersFail, is_device, is_listed, stopped}};
+ghost use Rattle.dw_unwind.specs.declared.frame.{UnwindError.{UnwindError as TheError}, UnwindError.TheVariants.OutOfMemory};
+ghost use Rattle.dw_unwind.specs.Inner.Recovery.{Adds, Over, SoFar};
 
-use crate::frame::{Column, UnwindError};
+use crate::frame::{Column, Frame, UnwindError};
+use crate::frame_room::{FrameRegisters, FrameRoom};
 use dw_cfa::{CfaRule, RegRule, Row};
 use dw_eval::{
-    Env, EvalError, Memory, Policy, ReadFault, evaluate, is_in_space, offset_by, reduced,
+    Env, EvalError, Memory, Policy, ReadFault, Registers, evaluate, is_in_space, offset_by, reduced,
 };
+use dw_num::Target;
 use dw_op::ExprRef;
-use std::alloc::Global;
+use std::alloc::{AllocError, Global};
 
-/// A machine that stopped, what its unset registers are taken as, how many steps an expression may take, and the row that
-/// gives its caller, with the register that holds the return address.
+// A machine that stopped, what its unset registers are taken as, how many steps an expression may take, and the row that
+// gives its caller, with the register that holds the return address.
 #[derive(Clone, Copy)]
-pub(crate) struct Machine<'m, 'a> {
-    pub(crate) alloc: Global,
-    pub(crate) env: Env<'m>,
-    pub(crate) default: Policy,
-    pub(crate) steps: u64,
-    pub(crate) row: &'m Row<'a>,
-    pub(crate) return_register: u16,
+struct Machine<'m, 'a> {
+    alloc: Global,
+    env: Env<'m>,
+    default: Policy,
+    steps: u64,
+    row: &'m Row<'a>,
+    return_register: u16,
 }
 
 // An expression's answer, as that of a column.
@@ -97,12 +101,8 @@ impl<'m, 'a> Machine<'m, 'a> {
         in_column(answer, column)
     }
 
-    /// The CFA by its rule.
-    pub(crate) fn cfa<M: Memory>(
-        &self,
-        rule: &CfaRule<'_>,
-        memory: &mut M,
-    ) -> Result<u64, UnwindError>
+    // The CFA by its rule.
+    fn cfa<M: Memory>(&self, rule: &CfaRule<'_>, memory: &mut M) -> Result<u64, UnwindError>
         requires set { rule.now ≡ Unset → ⊥ }
         requires fits { CfaFits self.now.env.target rule.now }
         requires room { M.failures memory.old < 2 ^ 64 - 1 }
@@ -124,8 +124,8 @@ impl<'m, 'a> Machine<'m, 'a> {
         }
     }
 
-    /// What a register that no instruction has set was before.
-    pub(crate) fn defaulted(&self, register: u16) -> Option<u64>
+    // What a register that no instruction has set was before.
+    fn defaulted(&self, register: u16) -> Option<u64>
         ensures { (byte : ℕ → Option ℕ) → result ≡ defaulted self.now.default (value_in (context self.now.env byte) self.now.steps register) }
     {
         match self.default {
@@ -134,25 +134,8 @@ impl<'m, 'a> Machine<'m, 'a> {
         }
     }
 
-    // The address that memory holds where an expression says.
-    fn saved_by<M: Memory>(
-        &self,
-        expression: &ExprRef<'_>,
-        cfa: u64,
-        column: Column,
-        memory: &mut M,
-    ) -> Result<u64, UnwindError>
-        requires target { expression.now.target ≡ self.now.env.target }
-        requires room { M.failures memory.old < 2 ^ 64 - 1 }
-        ensures same { M.byte memory.new ≡ M.byte memory.old }
-        ensures so { let c = context self.now.env (M.byte memory.old) in Over (SavedBy c self.now.steps column cfa expression.now) (SavedByFails c self.now.steps column cfa expression.now) (M.failures memory.old) result (M.failures memory.new) }
-    {
-        let address = self.value(expression, Some(cfa), column, memory)?;
-        self.saved_at(address, column, memory)
-    }
-
-    /// A register of the caller by its rule, None where it has no value that can be recovered.
-    pub(crate) fn register<M: Memory>(
+    // A register of the caller by its rule, None where it has no value that can be recovered.
+    fn register<M: Memory>(
         &self,
         register: u16,
         rule: &RegRule<'_>,
@@ -183,11 +166,163 @@ impl<'m, 'a> Machine<'m, 'a> {
                 }),
             },
             RegRule::Expression(expression) => {
-                self.saved_by(expression, cfa, column, memory).map(Some)
+                let address = self.value(expression, Some(cfa), column, memory)?;
+                self.saved_at(address, column, memory).map(Some)
             }
             RegRule::ValExpression(expression) => {
                 self.value(expression, Some(cfa), column, memory).map(Some)
             }
         }
     }
+
+    // Whether a register that the row does not specify is listed.
+    #[inline(always)]
+    fn lists(&self, register: u16) -> bool
+        ensures { rule self.now.row.now register ≡ Unspecified → result ≡ is_listed (held self.now.env.registers.now) self.now.row.now self.now.return_register register }
+    {
+        self.env.registers.get(register).is_some() || register == self.return_register
+    }
+
+    // Adds the listed registers from one number up to another one, of which the row specifies none.
+    fn add_all_given(
+        &self,
+        from: usize,
+        to: usize,
+        cfa: u64,
+        room: &mut FrameRoom,
+    ) -> Result<(), AllocError>
+        requires up { from ≤ to }
+        requires most { to ≤ 65536 }
+        requires unset { (r : ℕ) → from ≤ r → r < to → rule self.now.row.now r ≡ Unspecified }
+        ensures { OnOk result ((byte : ℕ → Option ℕ) → let c = context self.now.env byte in SoFar c self.now.steps self.now.default self.now.row.now self.now.return_register cfa from room.old → SoFar c self.now.steps self.now.default self.now.row.now self.now.return_register cfa to room.new) }
+    {
+        'given: for index in from..to {
+            let register = index as u16;
+            if !self.lists(register) {
+                continue;
+            }
+            room.push(register, self.defaulted(register))?;
+        }
+        Ok(())
+    }
+
+    // Adds the registers from a number on up to the next one that the row specifies.
+    fn add<M: Memory>(
+        &self,
+        from: usize,
+        register: u16,
+        own: &RegRule<'_>,
+        cfa: u64,
+        memory: &mut M,
+        room: &mut FrameRoom,
+    ) -> Result<(), UnwindError>
+        requires up { from ≤ register }
+        requires unset { (r : ℕ) → from ≤ r → r < register → rule self.now.row.now r ≡ Unspecified }
+        requires own { own.now ≡ rule self.now.row.now register }
+        requires specified { IsTrue (is_specified own.now) }
+        requires fits { RowFits self.now.env.target self.now.row.now }
+        requires room { M.failures memory.old < 2 ^ 64 - 1 }
+        requires so_far { let c = context self.now.env (M.byte memory.old) in SoFar c self.now.steps self.now.default self.now.row.now self.now.return_register cfa from room.old }
+        ensures same { M.byte memory.new ≡ M.byte memory.old }
+        ensures so { let c = context self.now.env (M.byte memory.old) in Over (Adds c self.now.steps self.now.default self.now.row.now self.now.return_register cfa register room.new) (RegistersFail c self.now.steps self.now.default self.now.row.now self.now.return_register cfa) (M.failures memory.old) result (M.failures memory.new) }
+    {
+        let to = usize::from(register);
+        self.add_all_given(from, to, cfa, room)?;
+        let value = self.register(register, own, cfa, memory)?;
+        room.push(register, value)?;
+        Ok(())
+    }
+
+    // The registers of the caller: those that the row specifies, and before each one and behind the last those of the machine.
+    fn registers<'r, M: Memory>(
+        &self,
+        cfa: u64,
+        memory: &mut M,
+        room: &'r mut FrameRoom,
+    ) -> Result<FrameRegisters<'r>, UnwindError>
+        requires fits { RowFits self.now.env.target self.now.row.now }
+        requires room { M.failures memory.old < 2 ^ 64 - 1 }
+        ensures same { M.byte memory.new ≡ M.byte memory.old }
+        ensures so { let c = context self.now.env (M.byte memory.old) in Over (RegistersAre c self.now.steps self.now.default self.now.row.now self.now.return_register cfa) (RegistersFail c self.now.steps self.now.default self.now.row.now self.now.return_register cfa) (M.failures memory.old) result (M.failures memory.new) }
+    {
+        room.clear();
+        let mut from = 0;
+        'registers: for (register, own) in self.row.specified() {
+            self.add(from, register, &own, cfa, memory, room)?;
+            from = usize::from(register) + 1;
+        }
+        let end = self
+            .env
+            .registers
+            .end()
+            .max(usize::from(self.return_register) + 1);
+        self.add_all_given(from, from.max(end), cfa, room)?;
+        Ok(room.lent())
+    }
+
+    // The frame that a row gives.
+    fn frame<'r, M: Memory>(
+        &self,
+        memory: &mut M,
+        room: &'r mut FrameRoom,
+    ) -> Result<Frame<'r>, UnwindError>
+        requires set { self.now.row.now.cfa ≡ Unset → ⊥ }
+        requires fits { RowFits self.now.env.target self.now.row.now }
+        requires room { M.failures memory.old < 2 ^ 64 - 1 }
+        ensures same { M.byte memory.new ≡ M.byte memory.old }
+        ensures so { let c = context self.now.env (M.byte memory.old) in Over (FrameIs c self.now.steps self.now.default self.now.row.now self.now.return_register) (FrameFails c self.now.steps self.now.default self.now.row.now self.now.return_register) (M.failures memory.old) result (M.failures memory.new) }
+    {
+        let cfa = self.cfa(&self.row.cfa(), memory)?;
+        let registers = self.registers(cfa, memory, room)?;
+        Ok(Frame {
+            cfa,
+            return_register: self.return_register,
+            registers,
+        })
+    }
+}
+
+/// The frame by the rules of a row that was looked up, and by the return address register of its FDE. Answers and faults are
+/// those of `unwind`, but for `NoFde`. The row may be one of `Table::row_at` or of `look_up`: its rules are in range
+/// for the target, and its CFA has a rule. The registers are put into `room`, which may be that of an earlier call.
+pub fn unwind_row<'r, M: Memory>(
+    alloc: Global,
+    row: &Row<'_>,
+    return_register: u16,
+    target: Target,
+    room: &'r mut FrameRoom,
+    registers: &Registers,
+    memory: &mut M,
+    default: Policy,
+    steps: u64,
+) -> Result<Frame<'r>, UnwindError>
+    requires set { row.now.cfa ≡ Unset → ⊥ }
+    requires fits { RowFits target row.now }
+    requires room { M.failures memory.old < 2 ^ 64 - 1 }
+    // No byte of the memory changes.
+    ensures same { M.byte memory.new ≡ M.byte memory.old }
+    // The count of failures stays or grows.
+    ensures counted { M.failures memory.old ≤ M.failures memory.new }
+    // Where it stays, the answer is the frame or the first fault, or want of memory.
+    ensures answered { M.failures memory.new ≡ M.failures memory.old → (result ≡ Err OutOfMemory) ⊎ FrameIs (stopped target registers.now (M.byte memory.old)) steps default row.now return_register result }
+    // Where it grows, a read of a column that is reached has failed.
+    ensures failed { M.failures memory.old < M.failures memory.new → (e : TheError) × (result ≡ Err e) × (is_device e ≡ true) × FrameFails (stopped target registers.now (M.byte memory.old)) steps default row.now return_register e }
+    // No other failure is named.
+    ensures device { (e : TheError) → result ≡ Err e → is_device e ≡ true → M.failures memory.old < M.failures memory.new }
+{
+    let machine = Machine {
+        alloc,
+        env: Env {
+            target,
+            registers,
+            frame_base: None,
+            cfa: None,
+            object: None,
+        },
+        default,
+        steps,
+        row,
+        return_register,
+    };
+    machine.frame(memory, room)
 }

@@ -1,15 +1,84 @@
-//! The memory of a dump.
+//! The memory of a dump: ranges of addresses that have bytes.
 
-ghost use Rattle.std.specs.{Prelude.{◌≡◌, ℕ, ◌<◌, ◌≤◌, ◌^◌, length, slice_index_or, Some, None}, Bool.MatchBool, List.AllByRecursion};
+ghost use Rattle.std.specs.Prelude.{◌≡◌, ℕ, ◌+◌, ◌<◌, ◌≤◌, ◌^◌, length, take, slice_index_or, IfOk, MatchOption, Some, None};
+ghost use Rattle.std.specs.{Bool.MatchBool, List.AllByRecursion, List.Sorted.{IsPermutation, IsNonDecreasingBy}};
 ghost use Rattle.dw_num.specs.Fixed.{fixed_number};
-ghost use Rattle.dw_eval.specs.Bytes.{bytes_from, number_in_memory};
-ghost use Rattle.dw_unwind.specs.{Ranges.{byte_among, byte_in}, declared.ranges.Range.{Range as TheRange}, Inner.Ranges.{AreApart, Rise, IsSoundRange}};
+ghost use Rattle.dw_eval.specs.Bytes.{bytes_from};
+ghost use Rattle.dw_unwind.specs.{Ranges.{byte_among, byte_in, end_of}, declared.memory.Range.{Range as TheRange}, Inner.Ranges.{AreApart, IsSoundRange, Meet, Rise}};
 
-use crate::ranges::{Range, settle};
 use byteorder::{BigEndian, ByteOrder, LittleEndian};
 use dw_eval::{Memory, ReadFault};
 use dw_num::Order;
+use std::alloc::{AllocError, Global};
 use std::marker::Model;
+
+/// Addresses that one line gives bytes, and where in the list of all bytes these stand.
+#[derive(Clone, Copy)]
+pub(crate) struct Range {
+    pub(crate) address: u64,
+    pub(crate) place: usize,
+    pub(crate) len: usize,
+    pub(crate) line: u64,
+}
+
+// Whether each range ends at or below the begin of the next.
+fn ends_rise(list: &[Range]) -> bool
+    ensures { MatchBool result
+        ((k : ℕ) (d : TheRange) → k + 1 < length list.now → end_of (slice_index_or list.now k d) ≤ (slice_index_or list.now (k + 1) d).address)
+        ((k : ℕ) × (k + 1 < length list.now) × ((d : TheRange) → (slice_index_or list.now (k + 1) d).address < end_of (slice_index_or list.now k d))) }
+{
+    for i in 1..list.len() {
+        let before = &list[i - 1];
+        if u128::from(list[i].address) < u128::from(before.address) + before.len as u128 {
+            return false;
+        }
+    }
+    true
+}
+
+// Puts ranges in the order of their addresses.
+fn put_in_order(list: &mut Vec<Range>)
+    ensures same { IsPermutation list.old.items list.new.items }
+    ensures rises { IsNonDecreasingBy (λ (r : TheRange). r.address) list.new.items }
+{
+    list.sort_unstable_by_key(|range| range.address);
+}
+
+// Whether no two ranges share a byte.
+fn are_apart(alloc: Global, ranges: &[Range]) -> Result<bool, AllocError>
+    requires { AllByRecursion (λ (r : TheRange). 0 < r.len) ranges.now }
+    ensures { IfOk result (λ apart. MatchBool apart (AreApart ranges.now) (Meet ranges.now)) }
+{
+    if ends_rise(ranges) {
+        return Ok(true);
+    }
+    let mut sorted = Vec::from_slice(alloc, ranges)?;
+    put_in_order(&mut sorted);
+    Ok(ends_rise(&sorted))
+}
+
+/// The place of the first range that shares a byte with one before it, by halving: ranges are apart up to some place, and from
+/// then on they are not.
+pub(crate) fn first_overlap(alloc: Global, ranges: &[Range]) -> Result<Option<usize>, AllocError>
+    requires { AllByRecursion (λ (r : TheRange). 0 < r.len) ranges.now }
+    ensures { IfOk result (λ found. MatchOption found (AreApart ranges.now)
+        (λ i. (i < length ranges.now) × AreApart (take i ranges.now) × Meet (take (i + 1) ranges.now))) }
+{
+    if are_apart(alloc, ranges)? {
+        return Ok(None);
+    }
+    let mut apart = 0;
+    let mut meet = ranges.len();
+    while meet - apart > 1 {
+        let middle = apart + (meet - apart) / 2;
+        if are_apart(alloc, &ranges[..middle])? {
+            apart = middle;
+        } else {
+            meet = middle;
+        }
+    }
+    Ok(Some(apart))
+}
 
 /// The bytes that a dump gives, by their addresses. A read finds each byte by halving, and the device never fails.
 #[derive(Drop)]
@@ -28,23 +97,13 @@ impl Model for DumpMemory {
     ghost invariant = { λ m. IsOrdered (record { ranges = m.ranges.items; bytes = m.bytes.items }) };
 }
 
-// How many ranges begin at or below an address.
-fn begun(ranges: &[Range], address: u64) -> usize
-    requires { Rise ranges.now }
-    ensures bound { result ≤ length ranges.now }
-    ensures below { (k : ℕ) (d : TheRange) → k < result → (slice_index_or ranges.now k d).address ≤ address }
-    ensures above { (k : ℕ) (d : TheRange) → result ≤ k → k < length ranges.now → address < (slice_index_or ranges.now k d).address }
-{
-    ranges.partition_point(|range| range.address <= address)
-}
-
-// The byte at an address.
+// The byte at an address, in the last range that begins at or below it.
 fn byte_at(ranges: &[Range], bytes: &[u8], address: u64) -> Option<u8>
     requires rise { Rise ranges.now }
     requires within { AllByRecursion (IsSoundRange (2 ^ 64) (length bytes.now)) ranges.now }
     ensures { result ≡ byte_among bytes.now address ranges.now }
 {
-    let begun = begun(ranges, address);
+    let begun = ranges.partition_point(|range| range.address <= address);
     if begun == 0 {
         return None;
     }
@@ -88,29 +147,6 @@ fn number_of(order: Order, bytes: &[u8]) -> u64
     }
 }
 
-// The number that the bytes from an address on spell, unless one of them is missing.
-#[tactic(auto, unfolding(dw_eval::specs::Bytes::number_in_memory))]
-fn number_from(
-    ranges: &[Range],
-    bytes: &[u8],
-    address: u64,
-    len: usize,
-    order: Order,
-) -> Option<u64>
-    requires some { 1 ≤ len }
-    requires most { len ≤ 8 }
-    requires rise { Rise ranges.now }
-    requires within { AllByRecursion (IsSoundRange (2 ^ 64) (length bytes.now)) ranges.now }
-    ensures { result ≡ number_in_memory (λ a. byte_among bytes.now a ranges.now) order address len }
-{
-    let mut buffer = [0; 8];
-    let spelled = &mut buffer[..len];
-    if !fill(ranges, bytes, address, spelled) {
-        return None;
-    }
-    Some(number_of(order, spelled))
-}
-
 impl DumpMemory {
     /// The memory of ranges that are apart.
     pub(crate) fn new(mut ranges: Vec<Range>, bytes: Vec<u8>) -> DumpMemory
@@ -118,7 +154,7 @@ impl DumpMemory {
         requires within { AllByRecursion (IsSoundRange (2 ^ 64) (length bytes.items)) ranges.items }
         ensures { (a : ℕ) → byte_in result a ≡ byte_among bytes.items a ranges.items }
     {
-        settle(&mut ranges);
+        put_in_order(&mut ranges);
         DumpMemory { ranges, bytes }
     }
 }
@@ -128,10 +164,13 @@ impl Memory for DumpMemory {
 
     ghost failures = { λ _. 0 };
 
+    #[tactic(auto, unfolding(dw_eval::specs::Bytes::number_in_memory))]
     fn read(&mut self, address: u64, len: usize, order: Order) -> Result<u64, ReadFault> {
-        let Some(number) = number_from(&self.ranges, &self.bytes, address, len, order) else {
+        let mut buffer = [0; 8];
+        let spelled = &mut buffer[..len];
+        if !fill(&self.ranges, &self.bytes, address, spelled) {
             return Err(ReadFault::Unreadable);
-        };
-        Ok(number)
+        }
+        Ok(number_of(order, spelled))
     }
 }

@@ -1,8 +1,8 @@
 //! What the words of a command line ask for.
 
-ghost use Rattle.std.specs.Prelude.{◌≡◌, ◌≤◌, [], IfErr, IfOk, IfSome, None, Some, map, option_map, string_bytes};
+ghost use Rattle.std.specs.Prelude.{◌≡◌, ◌≤◌, [], IfErr, IfOk, IfSome, MatchResult, None, Some, map, option_and_then, option_map, string_bytes};
 ghost use Rattle.clap.specs.Words.{all_of, first_of, found_of, rows_of};
-ghost use Rattle.dw_words.specs.{Plan.{Planned, is_help}, Values.{address, all_read}};
+ghost use Rattle.dw_words.specs.{Plan.Planned, Inner.Values.either};
 ghost use Rattle.dw_num.specs.declared.target.Size.{Size as TheSize};
 ghost use Rattle.dw_words.specs.declared.request.{Name.TheVariants.{At, Check, Eval, Expr, Normal, Same, Unwind}, PlanError.TheVariants.BadValue};
 ghost use Rattle.dw_words.specs.Inner.Plan.{Answers, FromFault, Given, GivenAt, Jobs, Targets, Tasks, addresses_in, asked_by, block_in};
@@ -10,12 +10,14 @@ ghost use Rattle.dw_words.specs.Inner.Plan.{cap_in, file_in, name_of, own, start
 
 use crate::command_line::command_line;
 use crate::request::{Evaluation, Job, Lookup, Name, PlanError, Request, Task, Unwinding, Writing};
-use crate::values::{address, block_of, decimal, default_of, order_of, profile_of, size_of};
+use crate::values::{address, decimal};
 use clap::ArgMatches;
 use clap::error::ErrorKind;
-use dw_num::{Size, Target};
+use dw_eval::Policy;
+use dw_num::{Order, Size, Target};
+use dw_op::Profile;
 use hex::FromHexError;
-use std::alloc::{AllocError, Global};
+use std::alloc::Global;
 
 // How many operations are executed where the words do not say.
 const STEPS: u64 = 10_000;
@@ -46,6 +48,24 @@ fn needed<T>(value: Option<T>, name: &'static str) -> Result<T, PlanError>
     }
 }
 
+// The value by the name of one of two, or the option whose value is bad.
+fn either<T: Copy>(
+    matches: &ArgMatches<'_>,
+    id: &str,
+    option: &'static str,
+    first: (&str, T),
+    second: (&str, T),
+) -> Result<T, PlanError>
+    ensures { let said = option_and_then (either first.entry.0.now first.entry.1 second.entry.0.now second.entry.1) (first_of id.now (rows_of (found_of matches.now))) in
+        MatchResult result (λ v. said ≡ Some v) (λ e. (said ≡ None) × (e ≡ BadValue option.entry)) }
+{
+    match text_of(matches, id) {
+        Some(text) if text == first.0 => Ok(first.1),
+        Some(text) if text == second.0 => Ok(second.1),
+        _ => Err(PlanError::BadValue(option)),
+    }
+}
+
 fn name_of(text: &str) -> Option<Name>
     ensures { result ≡ name_of text.now }
 {
@@ -67,14 +87,10 @@ fn name_of(text: &str) -> Option<Name>
 fn target_in(matches: &ArgMatches<'_>) -> Result<Target, PlanError>
     ensures { Targets (rows_of (found_of matches.now)) result }
 {
-    let size = needed(
-        text_of(matches, "size").and_then(|text| size_of(text)),
-        "--size",
-    )?;
-    let order = needed(
-        text_of(matches, "order").and_then(|text| order_of(text)),
-        "--order",
-    )?;
+    let (four, eight) = (("4", Size::Four), ("8", Size::Eight));
+    let size = either(matches, "size", "--size", four, eight)?;
+    let (little, big) = (("little", Order::Little), ("big", Order::Big));
+    let order = either(matches, "order", "--order", little, big)?;
     Ok(Target { size, order })
 }
 
@@ -113,38 +129,30 @@ fn block_in(alloc: Global, matches: &ArgMatches<'_>) -> Result<Vec<u8>, PlanErro
     ensures { Answers (rows_of (found_of matches.now)) (Given (own Eval)) block_in (λ bytes. bytes.items) result }
 {
     let text = needed(text_of(matches, "HEX"), "HEX")?;
-    match block_of(alloc, text) {
+    match hex::decode(alloc, text) {
         Ok(block) => Ok(block),
         Err(FromHexError::OutOfMemory) => Err(PlanError::OutOfMemory),
         Err(_) => Err(PlanError::BadValue("HEX")),
     }
 }
 
-// The addresses that texts say, or none where one of them says none.
-fn all_addresses(alloc: Global, texts: &[&str], size: Size) -> Result<Option<Vec<u64>>, AllocError>
-    ensures { IfOk result (λ found. option_map (λ addresses. addresses.items) found ≡ all_read (address size) (map (λ s. s.now) texts.now)) }
-{
-    let mut addresses = Vec::new(alloc);
-    for text in texts {
-        let Some(value) = address(text.as_bytes(), size) else {
-            return Ok(None);
-        };
-        addresses.push(value)?;
-    }
-    Ok(Some(addresses))
-}
-
 // The addresses of the words, in their order.
 fn addresses_in(alloc: Global, matches: &ArgMatches<'_>, size: Size) -> Result<Vec<u64>, PlanError>
     ensures { Answers (rows_of (found_of matches.now)) (GivenAt size []) (addresses_in size) (λ addresses. addresses.items) result }
 {
+    let mut addresses = Vec::new(alloc);
     let Some(texts) = texts_of(matches, "ADDRESS") else {
-        return Ok(Vec::new(alloc));
+        return Ok(addresses);
     };
-    match all_addresses(alloc, texts, size)? {
-        Some(addresses) => Ok(addresses),
-        None => Err(PlanError::BadValue("ADDRESS")),
+    for text in texts {
+        let Some(value) = address(text.as_bytes(), size) else {
+            return Err(PlanError::BadValue("ADDRESS"));
+        };
+        let Ok(()) = addresses.push(value) else {
+            return Err(PlanError::OutOfMemory);
+        };
     }
+    Ok(addresses)
 }
 
 fn at_in<'a>(alloc: Global, matches: &ArgMatches<'a>, size: Size) -> Result<Task<'a>, PlanError>
@@ -161,22 +169,20 @@ fn eval_in<'a>(alloc: Global, matches: &ArgMatches<'a>, size: Size) -> Result<Ta
     let steps = needed(steps_in(matches), "--steps")?;
     let start = needed(start_in(matches, size), "--start")?;
     let block = block_in(alloc, matches)?;
-    let dump = text_of(matches, "DUMP");
     Ok(Task::Eval(Evaluation {
         steps,
         start,
         block,
-        dump,
+        dump: text_of(matches, "DUMP"),
     }))
 }
 
 fn expr_in<'a>(alloc: Global, matches: &ArgMatches<'a>) -> Result<Task<'a>, PlanError>
     ensures { (size : TheSize) → Tasks (rows_of (found_of matches.now)) Expr size result }
 {
-    let profile = needed(
-        text_of(matches, "frame").and_then(|text| profile_of(text)),
-        "--frame",
-    )?;
+    // What `clap` gives a flag.
+    let (given, none) = (("true", Profile::Frame), ("false", Profile::Location));
+    let profile = either(matches, "frame", "--frame", given, none)?;
     let block = block_in(alloc, matches)?;
     Ok(Task::Expr { profile, block })
 }
@@ -201,10 +207,11 @@ fn unwind_in<'a>(matches: &ArgMatches<'a>) -> Result<Task<'a>, PlanError>
     ensures { (size : TheSize) → Tasks (rows_of (found_of matches.now)) Unwind size result }
 {
     let steps = needed(steps_in(matches), "--steps")?;
-    let default = needed(
-        text_of(matches, "default").and_then(|text| default_of(text)),
-        "--default",
-    )?;
+    let (same, undefined) = (
+        ("same", Policy::SameValue),
+        ("undefined", Policy::Undefined),
+    );
+    let default = either(matches, "default", "--default", same, undefined)?;
     let path = needed(text_of(matches, "FILE"), "FILE")?;
     let dump = needed(text_of(matches, "DUMP"), "DUMP")?;
     Ok(Task::Unwind(Unwinding {
@@ -231,21 +238,13 @@ fn task_in<'a>(
 {
     match name {
         Name::At => at_in(alloc, matches, size),
-        Name::Check => Ok(Task::Check {
-            path: path_in(matches)?,
-        }),
-        Name::Cost => Ok(Task::Cost {
-            path: path_in(matches)?,
-        }),
-        Name::Entries => Ok(Task::Entries {
-            path: path_in(matches)?,
-        }),
+        Name::Check => path_in(matches).map(|path| Task::Check { path }),
+        Name::Cost => path_in(matches).map(|path| Task::Cost { path }),
+        Name::Entries => path_in(matches).map(|path| Task::Entries { path }),
         Name::Eval => eval_in(alloc, matches, size),
         Name::Expr => expr_in(alloc, matches),
         Name::Normal => normal_in(matches),
-        Name::Rows => Ok(Task::Rows {
-            path: path_in(matches)?,
-        }),
+        Name::Rows => path_in(matches).map(|path| Task::Rows { path }),
         Name::Same => same_in(matches),
         Name::Unwind => unwind_in(matches),
     }
@@ -261,24 +260,12 @@ fn run_in<'a>(alloc: Global, text: &str, matches: &ArgMatches<'a>) -> Result<Job
     Ok(Job { target, task })
 }
 
-fn is_help(kind: ErrorKind) -> bool
-    ensures { result ≡ is_help kind }
-{
-    match kind {
-        ErrorKind::DisplayHelp | ErrorKind::DisplayVersion => true,
-        _ => false,
-    }
-}
-
 // What a fault that clap finds says: help is one of its faults.
 fn plan_of_fault<'a>(error: clap::Error) -> Result<Request<'a>, PlanError>
     ensures { FromFault error result }
 {
-    let kind = error.kind();
-    if is_help(kind) {
-        return Ok(Request::Help(error));
-    }
-    match kind {
+    match error.kind() {
+        ErrorKind::DisplayHelp | ErrorKind::DisplayVersion => Ok(Request::Help(error)),
         ErrorKind::OutOfMemory => Err(PlanError::OutOfMemory),
         _ => Err(PlanError::Words(error)),
     }
@@ -288,10 +275,7 @@ fn plan_of_fault<'a>(error: clap::Error) -> Result<Request<'a>, PlanError>
 fn asked_by(words: &[String]) -> Option<Name>
     ensures { result ≡ asked_by (map string_bytes words.now) }
 {
-    match words.get(1) {
-        Some(word) => name_of(word.as_str()),
-        None => None,
-    }
+    name_of(words.get(1)?.as_str())
 }
 
 /// What the words ask for, before any file is read. The first word is the program's name.

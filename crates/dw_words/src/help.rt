@@ -1,20 +1,8 @@
 //! The texts of `--help`, a line each, and what stands below them.
 
-pub const VERSION: &str = "0.1.0";
+use crate::request::Name;
 
-// What stands below the options of a subcommand over a file: what its statuses say, and an example by its name and the words behind the target.
-macro_rules! after {
-    ($done:literal, $name:literal, $words:literal) => {
-        concat!(
-            "Exit status: ",
-            $done,
-            ", 3 wrong arguments, 4 file or output fails, 5 out of memory\n\nExample:\n  dwframe ",
-            $name,
-            " --size 8 --order little ",
-            $words
-        )
-    };
-}
+pub const VERSION: &str = "0.1.0";
 
 pub const PROGRAM: &str = "Read a raw .debug_frame section, the call frame information of DWARF 5";
 
@@ -35,6 +23,7 @@ Exit status:
 Example:
   dwframe rows --size 8 --order little a.bin";
 
+// Options and operands.
 pub const SIZE: &str = "Bytes of an address: 4 for ELF32, 8 for ELF64";
 
 pub const ORDER: &str = "Byte order of the target";
@@ -64,66 +53,84 @@ pub const DEFAULT: &str = "What a register without a rule is taken for: unchange
 pub const CAP: &str =
     "Most bytes of the normal form, decimal, 0 to 2147483647 [default: 2147483647]";
 
-pub const CHECK: &str = "Tell whether a section is well formed, and count its entries";
+// What stands below the options of a subcommand over a file: what its statuses say, and an example by its name and the words behind the target.
+macro_rules! after {
+    ($done:literal, $name:literal, $words:literal) => {
+        concat!(
+            "Exit status: ",
+            $done,
+            ", 3 wrong arguments, 4 file or output fails, 5 out of memory\n\nExample:\n  dwframe ",
+            $name,
+            " --size 8 --order little ",
+            $words
+        )
+    };
+}
 
-pub const AFTER_CHECK: &str = after!("0 well formed, 2 refused", "check", "a.bin");
+// And of one over a dump.
+macro_rules! after_dump {
+    ($example:literal) => {
+        concat!(
+            "Lines of a dump:
+  pc 0x<hex>           the program counter
+  r<n> 0x<hex>         the value of register n
+  mem 0x<hex> <bytes>  memory from an address on, two hexadecimal digits a byte
 
-pub const ROWS: &str =
-    "Print the rules of the CFA and of registers at each address where they change";
+Exit status: 0 done, 2 refused or fault, 3 wrong arguments, 4 file or output fails, 5 out of memory
 
-pub const AFTER_ROWS: &str = after!("0 done, 2 refused", "rows", "a.bin");
+Example",
+            $example
+        )
+    };
+}
 
-pub const AT: &str = "Print the FDE that covers each of some addresses, and its rules there";
-
-pub const AFTER_AT: &str = after!("0 done, 2 refused", "at", "a.bin 0x401004 0x401234");
-
-pub const ENTRIES: &str = "List the CIEs and FDEs of a section by place";
-
-pub const AFTER_ENTRIES: &str = after!("0 done, 2 refused", "entries", "a.bin");
-
-pub const EXPR: &str = "Print the operations of an expression and its shortest encoding";
-
-pub const AFTER_EXPR: &str =
-    "Exit status: 0 done, 2 refused, 3 wrong arguments, 4 output fails, 5 out of memory
+/// What a subcommand does, and what stands below its options.
+pub(crate) fn of(name: Name) -> (&'static str, &'static str) {
+    match name {
+        Name::At => (
+            "Print the FDE that covers each of some addresses, and its rules there",
+            after!("0 done, 2 refused", "at", "a.bin 0x401004 0x401234"),
+        ),
+        Name::Check => (
+            "Tell whether a section is well formed, and count its entries",
+            after!("0 well formed, 2 refused", "check", "a.bin"),
+        ),
+        Name::Cost => (
+            "Print the bytes and the rows of a section and of its normal form",
+            after!("0 done, 2 refused", "cost", "a.bin"),
+        ),
+        Name::Entries => (
+            "List the CIEs and FDEs of a section by place",
+            after!("0 done, 2 refused", "entries", "a.bin"),
+        ),
+        Name::Eval => (
+            "Print the value of an expression over the registers and memory of a dump",
+            after_dump!(", which prints '0xa':\n  dwframe eval --size 8 --order little 35321e"),
+        ),
+        Name::Expr => (
+            "Print the operations of an expression and its shortest encoding",
+            "Exit status: 0 done, 2 refused, 3 wrong arguments, 4 output fails, 5 out of memory
 
 Example, which prints '0 const 5' and 'least 35':
-  dwframe expr --size 8 --order little 0805";
-
-pub const EVAL: &str = "Print the value of an expression over the registers and memory of a dump";
-
-pub const AFTER_EVAL: &str = "Lines of a dump:
-  pc 0x<hex>           the program counter
-  r<n> 0x<hex>         the value of register n
-  mem 0x<hex> <bytes>  memory from an address on, two hexadecimal digits a byte
-
-Exit status: 0 done, 2 refused or fault, 3 wrong arguments, 4 file or output fails, 5 out of memory
-
-Example, which prints '0xa':
-  dwframe eval --size 8 --order little 35321e";
-
-pub const UNWIND: &str =
-    "Print the caller's frame of a machine that stopped: its CFA and registers";
-
-pub const AFTER_UNWIND: &str = "Lines of a dump:
-  pc 0x<hex>           the program counter
-  r<n> 0x<hex>         the value of register n
-  mem 0x<hex> <bytes>  memory from an address on, two hexadecimal digits a byte
-
-Exit status: 0 done, 2 refused or fault, 3 wrong arguments, 4 file or output fails, 5 out of memory
-
-Example:
-  dwframe unwind --size 8 --order little --default same a.bin stopped.dump";
-
-pub const NORMAL: &str =
-    "Write the normal form of a section, which is equal for sections that mean the same";
-
-pub const AFTER_NORMAL: &str = after!("0 done, 2 refused", "normal", "a.bin > a.normal");
-
-pub const SAME: &str =
-    "Tell whether two sections mean the same: ranges, return address registers, rules at each address";
-
-pub const AFTER_SAME: &str = after!("0 same, 1 different, 2 refused", "same", "a.bin b.bin");
-
-pub const COST: &str = "Print the bytes and the rows of a section and of its normal form";
-
-pub const AFTER_COST: &str = after!("0 done, 2 refused", "cost", "a.bin");
+  dwframe expr --size 8 --order little 0805",
+        ),
+        Name::Normal => (
+            "Write the normal form of a section, which is equal for sections that mean the same",
+            after!("0 done, 2 refused", "normal", "a.bin > a.normal"),
+        ),
+        Name::Rows => (
+            "Print the rules of the CFA and of registers at each address where they change",
+            after!("0 done, 2 refused", "rows", "a.bin"),
+        ),
+        Name::Same => (
+            "Tell whether two sections mean the same: ranges, return address registers, rules at each address",
+            after!("0 same, 1 different, 2 refused", "same", "a.bin b.bin"),
+        ),
+        Name::Unwind => (
+            "Print the caller's frame of a machine that stopped: its CFA and registers",
+            after_dump!(
+                ":\n  dwframe unwind --size 8 --order little --default same a.bin stopped.dump"
+            ),
+        ),
+    }
+}

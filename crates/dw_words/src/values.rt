@@ -1,56 +1,10 @@
 //! What the texts of options and operands say.
 
-ghost use Rattle.std.specs.Prelude.{◌≡◌, ◌⊎◌, ◌<◌, Some, None, MatchResult, option_and_then};
-ghost use Rattle.hex.specs.declared.error.FromHexError.TheVariants.{OutOfMemory as NoMemory};
+ghost use Rattle.std.specs.Prelude.{◌≡◌, ◌<◌, option_and_then};
 ghost use Rattle.dw_num.specs.Digits.{below, digit_value, number_behind};
-ghost use Rattle.dw_words.specs.{Values.{size_of, order_of, default_of, profile_of, decimal, address, block_of}, Inner.Values.{digit_behind, checked_behind}};
+ghost use Rattle.dw_words.specs.{Values.{decimal, address}, Inner.Values.digit_behind};
 
-use dw_eval::Policy;
-use dw_num::{Order, Size};
-use dw_op::Profile;
-use hex::FromHexError;
-use std::alloc::Global;
-
-pub(crate) fn size_of(text: &str) -> Option<Size>
-    ensures { result ≡ size_of text.now }
-{
-    match text {
-        "4" => Some(Size::Four),
-        "8" => Some(Size::Eight),
-        _ => None,
-    }
-}
-
-pub(crate) fn order_of(text: &str) -> Option<Order>
-    ensures { result ≡ order_of text.now }
-{
-    match text {
-        "little" => Some(Order::Little),
-        "big" => Some(Order::Big),
-        _ => None,
-    }
-}
-
-pub(crate) fn default_of(text: &str) -> Option<Policy>
-    ensures { result ≡ default_of text.now }
-{
-    match text {
-        "same" => Some(Policy::SameValue),
-        "undefined" => Some(Policy::Undefined),
-        _ => None,
-    }
-}
-
-// What `clap` gives a flag.
-pub(crate) fn profile_of(text: &str) -> Option<Profile>
-    ensures { result ≡ profile_of text.now }
-{
-    match text {
-        "true" => Some(Profile::Frame),
-        "false" => Some(Profile::Location),
-        _ => None,
-    }
-}
+use dw_num::Size;
 
 // The value of a hexadecimal digit of either case.
 fn digit_of(byte: u8) -> Option<u8>
@@ -76,9 +30,10 @@ fn digit_behind(base: u8, number: u64, byte: u8) -> Option<u64>
     u64::try_from(number).ok()
 }
 
-// The number of the digits, which is given up where it passes 64 bits.
-fn scanned(base: u8, text: &[u8]) -> Option<u64>
-    ensures { result ≡ checked_behind base 0 text.now }
+// The number of the digits, unless it passes 64 bits.
+fn number_of(base: u8, text: &[u8]) -> Option<u64>
+    requires base { 0 < base }
+    ensures { result ≡ option_and_then (below 18446744073709551616) (number_behind base 0 text.now) }
 {
     let mut number = 0u64;
     for byte in text {
@@ -88,15 +43,6 @@ fn scanned(base: u8, text: &[u8]) -> Option<u64>
         number = next;
     }
     Some(number)
-}
-
-// The number of the digits, unless it passes 64 bits.
-#[tactic(auto, using(crate::proofs::Digits::number_is))]
-fn number_of(base: u8, text: &[u8]) -> Option<u64>
-    requires base { 0 < base }
-    ensures { result ≡ option_and_then (below 18446744073709551616) (number_behind base 0 text.now) }
-{
-    scanned(base, text)
 }
 
 /// The number of one or more decimal digits.
@@ -123,11 +69,4 @@ pub fn address(text: &[u8], size: Size) -> Option<u64>
     } else {
         None
     }
-}
-
-/// The bytes of hexadecimal digits, two a byte. The error says whether memory ran out.
-pub(crate) fn block_of(alloc: Global, text: &str) -> Result<Vec<u8>, FromHexError>
-    ensures { MatchResult result (λ bytes. block_of text.now ≡ Some bytes.items) (λ e. (block_of text.now ≡ None) ⊎ (e ≡ NoMemory)) }
-{
-    hex::decode(alloc, text)
 }

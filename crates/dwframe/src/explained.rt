@@ -10,34 +10,22 @@ use std::rt::Files;
 // How many bytes a line has that is looked at, or fewer.
 const MOST: usize = 64;
 
-// The line of an output that failed.
-const CANNOT_WRITE: &[u8] = b"cannot write\n";
+// What the line of a value that is none begins with, before the name of its option or operand.
+const BAD_VALUE: &[u8] = b"bad value for ";
 
-// The lines of values that are none, and what is said beside each.
-const VALUES: [(&[u8], &str); 8] = [
-    (b"bad value for --size\n", "--size takes 4 or 8"),
-    (b"bad value for --order\n", "--order takes little or big"),
+// What each of them takes or is.
+const VALUES: [(&str, &str); 8] = [
+    ("--size", "takes 4 or 8"),
+    ("--order", "takes little or big"),
+    ("--default", "takes same or undefined"),
+    ("--cap", "takes a decimal number up to 2147483647"),
+    ("--steps", "takes a decimal number"),
     (
-        b"bad value for --default\n",
-        "--default takes same or undefined",
+        "--start",
+        "takes 0x and 1 to 16 hexadecimal digits, below 2^N",
     ),
-    (
-        b"bad value for --cap\n",
-        "--cap takes a decimal number up to 2147483647",
-    ),
-    (b"bad value for --steps\n", "--steps takes a decimal number"),
-    (
-        b"bad value for --start\n",
-        "--start takes 0x and 1 to 16 hexadecimal digits, below 2^N",
-    ),
-    (
-        b"bad value for HEX\n",
-        "HEX is hexadecimal digits, two a byte, without 0x",
-    ),
-    (
-        b"bad value for ADDRESS\n",
-        "ADDRESS is 0x and 1 to 16 hexadecimal digits, below 2^N",
-    ),
+    ("HEX", "is hexadecimal digits, two a byte, without 0x"),
+    ("ADDRESS", "is 0x and 1 to 16 hexadecimal digits, below 2^N"),
 ];
 
 // Why a file cannot be read, by the kind of the system's error.
@@ -71,13 +59,8 @@ impl<'a, L: Load, R: Files + AllocGlobal, E: Write> Explained<'a, L, R, E> {
 
     // The kind of the error with which the file is opened or read once more, where there is one.
     fn kind(&self, path: &str) -> Option<ErrorKind> {
-        match File::open(self.rt, path) {
-            Ok(mut file) => match file.read(&mut [0]) {
-                Ok(_) => None,
-                Err(error) => Some(error.kind()),
-            },
-            Err(error) => Some(error.kind()),
-        }
+        let read = File::open(self.rt, path).and_then(|mut file| file.read(&mut [0]));
+        read.err().map(|error| error.kind())
     }
 }
 
@@ -125,13 +108,15 @@ impl<E: Write> Held<E> {
     /// Writes what is held, and a hint beside it where there is one. Nothing is said of a pipe that its reader has closed.
     pub fn finish(&mut self, is_closed: bool) -> io::Result<()> {
         let len = self.len.min(MOST);
-        if self.passed || is_closed && &self.line[..len] == CANNOT_WRITE {
+        if self.passed || is_closed && &self.line[..len] == b"cannot write\n".as_slice() {
             return Ok(());
         }
         self.pass()?;
-        for (line, hint) in VALUES {
-            if &self.line[..len] == line {
-                writeln!(self.err, "hint: {hint}")?;
+        let name = self.line[..len].strip_prefix(BAD_VALUE);
+        let name = name.and_then(|name| name.strip_suffix(b"\n"));
+        for (value, hint) in VALUES {
+            if name == Some(value.as_bytes()) {
+                writeln!(self.err, "hint: {value} {hint}")?;
             }
         }
         Ok(())
@@ -152,5 +137,44 @@ impl<E: Write> Write for Held<E> {
 
     fn flush(&mut self) -> io::Result<()> {
         self.err.flush()
+    }
+}
+
+/// An output that remembers whether it is a pipe that its reader has closed.
+#[derive(Drop)]
+pub struct Piped<W: Write> {
+    out: W,
+    closed: bool,
+}
+
+impl<W: Write> Piped<W> {
+    /// What is written goes to `out`.
+    pub fn new(out: W) -> Piped<W>
+        ensures { result.out ≡ out }
+    {
+        Piped { out, closed: false }
+    }
+
+    /// Whether a write was answered with a broken pipe.
+    pub fn is_closed(&self) -> bool
+        ensures { result ≡ self.now.closed }
+    {
+        self.closed
+    }
+}
+
+impl<W: Write> Write for Piped<W> {
+    ghost contents = { λ piped. W.contents piped.out };
+
+    fn write(&mut self, bytes: &[u8]) -> io::Result<usize> {
+        let written = self.out.write(bytes);
+        if let Err(error) = &written {
+            self.closed = self.closed || error.kind() == ErrorKind::BrokenPipe;
+        }
+        written
+    }
+
+    fn flush(&mut self) -> io::Result<()> {
+        self.out.flush()
     }
 }

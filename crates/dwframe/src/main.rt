@@ -7,10 +7,8 @@ ghost use Rattle.std.specs.{Prelude.{◌≡◌, ◌≢◌, ⊤, ◌≤◌, map, 
 ghost use Rattle.dw_command.specs.Engine.{Runs};
 
 mod explained;
-mod piped;
 
-use crate::explained::{Explained, Held};
-use crate::piped::Piped;
+use crate::explained::{Explained, Held, Piped};
 use dw_command::{Disk, Hinted, Shown, engine};
 use std::io::{ErrorKind, IsTerminal, Write};
 use std::process::ExitCode;
@@ -63,11 +61,9 @@ fn status_without_run(rt: &HostRuntime, error: &io::Error) -> u8
 }
 
 fn main(rt: HostRuntime) -> ExitCode {
-    match words_of(&rt) {
-        Ok(words) => {
-            let mut out = Piped::new(rt.stdout());
-            ExitCode::from(run(&rt, words.as_slice(), &mut out))
-        }
-        Err(error) => ExitCode::from(status_without_run(&rt, &error)),
-    }
+    let status = match words_of(&rt) {
+        Ok(words) => run(&rt, &words, &mut Piped::new(rt.stdout())),
+        Err(error) => status_without_run(&rt, &error),
+    };
+    ExitCode::from(status)
 }

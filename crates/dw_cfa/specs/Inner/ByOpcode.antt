@@ -102,7 +102,6 @@ unfoldable pub rare_at : Factors → ℕ → Opcode → Input → Read Instr
 rare_at f at opcodes.SetLoc i = set_loc_at i
 rare_at f at opcodes.AdvanceLoc4 i = advance_at f 4 i
 rare_at f at opcodes.RestoreExtended i = restore_at i
-rare_at f at opcodes.DefCfa i = def_cfa_at at i
 rare_at f at opcodes.DefCfaSf i = def_cfa_sf_at f at i
 rare_at f at opcodes.DefCfaRegister i = def_cfa_register_at i
 rare_at f at opcodes.DefCfaExpression i = def_cfa_expression_at i
@@ -114,6 +113,7 @@ operands_at f at opcodes.Nop i = Ok (Nop, i)
 operands_at f at (opcodes.AdvanceLoc delta) i = Ok (advanced f delta, i)
 operands_at f at opcodes.AdvanceLoc1 i = advance_at f 1 i
 operands_at f at opcodes.AdvanceLoc2 i = advance_at f 2 i
+operands_at f at opcodes.DefCfa i = def_cfa_at at i
 operands_at f at opcodes.DefCfaOffset i = def_cfa_offset_at at i
 operands_at f at opcodes.DefCfaOffsetSf i = def_cfa_offset_sf_at f at i
 operands_at f at (opcodes.Offset r) i = offset_at f at r i

@@ -2,7 +2,7 @@
 use Rattle.std.specs.{Prelude.{◌≡◌, ℕ, Bool, true, false, if◌then◌else◌, IsTrue, IfSome, List, Option, Some, Result, Ok, Err, None, []}, List.AllByRecursion}
 use Rattle.dw_num.specs.{Input.Input, Refusals.Refuses, declared.error.ReadError.ReadError, declared.refusal.Refusal.Refusal}
 use Rattle.dw_cfa.specs.{Behind.LeavesTo, RowSteps.{Failed, Stepping, program_input, stepping}, RowWalk.Led, Rows.{Rules, blank, is_specified, rule}}
-use Rattle.dw_cfa.specs.{RuleAt.{last_at, left_above}, Runs.{Outcome, fails, finished, row_then}, declared.execution.LocatedRow.LocatedRow}
+use Rattle.dw_cfa.specs.{Runs.{Outcome, fails, finished, row_then}, declared.execution.LocatedRow.LocatedRow}
 use Rattle.dw_cfa.specs.declared.{instr.Factors.Factors, lead.Leading.Leading, machine.Machine.Machine, next_row.Progress.Progress}
 use Rattle.dw_cfa.specs.Inner.{Runs.{RunsSo, initial_row, placed, rows_left, run_rows}, States.BeganWith}
 use Rattle.dw_cfa.specs.declared.next_row.Progress.TheVariants as progress
@@ -93,13 +93,3 @@ GoesOn old f i m p (Ok (Some start)) =
     (more : Bool) × RunsSo m i × (old ≡ row_then (record { location = start; row = m.states.row }) (if more then rows_left f i m else finished)) × (p ≡ (if more then progress.Running else progress.Finished))
 GoesOn old f i m p (Ok None) = ⊥
 GoesOn old f i m p (Err e) = Refuses (λ r. old ≡ fails r) e
-
--- ---- up to the row of an address
-
--- a run stands behind that row, and what is left starts above the address
-pub record RanUpTo (a : ℕ) (old : Outcome) (f : Factors) (i : Input) (m : Machine) (more : Bool) : Type 0 where
-  pub so : RunsSo m i
-  pub last : last_at a old.rows ≡ Some m.states.row
-  pub behind : left_above a old ≡ (if more then rows_left f i m else finished)
-  pub fault : (rows_left f i m).fault ≡ old.fault
-  pub keeps : (other : Rules) → AllSpecify other old.rows → AllSpecify other (rows_left f i m).rows

@@ -1,6 +1,8 @@
 -- A listing as an output, and what its calls say of that.
 use Rattle.std.specs.{Prelude.{◌≡◌, ℕ, Bool, false, if◌then◌else◌, List, ◌++◌, Option, take, Result, Ok, Err}, Io.KnownBytes.{Appends, Keeps, append_known}}
-use Rattle.dw_command.specs.{Answers.Unprinted, Output.Output, declared.failure.Failure.Failure, declared.listing.Listing.Listing}
+use Rattle.clap.specs.Words.{Text}
+use Rattle.dw_command.specs.{Answers.{OverFile, Prints, Unprinted}, Output.Output}
+use Rattle.dw_command.specs.declared.{failure.Failure.Failure, files.LoadError.LoadError, listing.Listing.Listing}
 
 -- what was put so far, where it is known: what the output holds, and behind it what is left in the room
 abbrev pub put_so_far : Option (List ℕ) → ℕ → List ℕ → Option (List ℕ)
@@ -38,3 +40,9 @@ pub record Stays {W : Type 0} (contents : W → Option (List ℕ)) (old new : Li
 abbrev pub Finishes : {A W : Type 0} → (W → Option (List ℕ)) → Listing W → Listing W → Result A Failure → Type 0
 Finishes contents old new (Ok a) = (new.failed ≡ false) × (new.len ≡ 0) × Stays contents old new
 Finishes contents old new (Err failure) = Breaks new failure
+
+-- a file is read and judged, and the text of what is found is printed to a listing
+abbrev pub TellsOfFile : {A W : Type 0} → (Text → Result (List ℕ) LoadError → Type 0) → (W → Option (List ℕ)) → Listing W → Listing W
+    → Text → (List ℕ → Result A Failure → Type 0) → (List ℕ → A → List ℕ) → Result (Unit {0}) Failure → Type 0
+TellsOfFile gives contents old new path Judges text r =
+    OverFile gives (output_of contents old) (output_of contents new) path Judges (λ s a. Prints (output_of contents old) (output_of contents new) (text s a) tt) r

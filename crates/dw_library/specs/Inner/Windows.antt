@@ -1,6 +1,6 @@
 -- How the code reads windows.
 use Rattle.std.specs.Prelude.{◌≡◌, ◌+◌, ◌<◌, ℕ, List, length, true, Some, slice_index_or}
-use Rattle.dw_library.specs.{Windows.{covers, byte_of}, declared.windows.Window.Window}
+use Rattle.dw_library.specs.{Windows.{covers, byte_of}, declared.held.Window.Window}
 
 -- a window has these bytes from an address on
 abbrev pub Spells : Window → List ℕ → ℕ → List ℕ → Type 0

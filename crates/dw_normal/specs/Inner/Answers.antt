@@ -22,9 +22,9 @@ pub record IsPrepared (target : Target) (cap : ℕ) (s : List ℕ) (rows : List 
   pub short : IsShort target cap s
   pub rows_are : (ms : List Member) → AreMembers target s ms → rows ≡ initial_rows ms
 
--- and with the length of its normal form
-pub record IsMeasured (target : Target) (cap : ℕ) (s : List ℕ) (rows : List (ℕ × Rules)) (len : ℕ) : Type 0 where
-  pub prepared : IsPrepared target cap s rows
+-- with the length of its normal form
+pub record IsMeasured (target : Target) (cap : ℕ) (s : List ℕ) (len : ℕ) : Type 0 where
+  pub short : IsShort target cap s
   pub len_is : (ms : List Member) → AreMembers target s ms → len ≡ length (canon target ms)
 
 -- an error over one of two sections

@@ -1,8 +1,8 @@
 -- What is known of CIEs by their places.
-use Rattle.std.specs.{Prelude.{◌≡◌, ◌⊎◌, ℕ, List, Some, None, IfSome}, BTreeMap.{BTreeMap, get}, Ordering.nat_cmp}
+use Rattle.std.specs.{Prelude.{◌≡◌, ◌⊎◌, ℕ, List, Option, Some, None, IfSome}, BTreeMap.{BTreeMap, get}, Ordering.nat_cmp}
 use Rattle.dw_cfa.specs.{RegisterSets.{Registers, AgreesBeside, SameBeside}, Rows.Rules}
-use Rattle.dw_section.specs.{Opening.CieLeaves, Table.Section}
-use Rattle.dw_normal.specs.{declared.known.CieSet.CieSet, Inner.Groups.row_of}
+use Rattle.dw_section.specs.{Opening.CieLeaves, Table.Section, declared.change.Behind.Behind}
+use Rattle.dw_normal.specs.{declared.known.CieSet.CieSet, declared.known.Known.Known, Inner.Groups.row_of}
 
 -- some of them are forgotten
 abbrev pub AreLess : BTreeMap ℕ CieSet → BTreeMap ℕ CieSet → Type 0
@@ -21,6 +21,11 @@ abbrev pub Notes : (Registers → Type 0) → ℕ → ℕ → BTreeMap ℕ CieSe
 Notes holds place register old new =
     (at : ℕ) → (get nat_cmp new at ≡ None) ⊎ (get nat_cmp new at ≡ get nat_cmp old at)
     ⊎ ((at ≡ place) × ((set : Registers) × (get nat_cmp new at ≡ Some (record { register = register; set = set })) × holds set))
+
+-- behind an FDE whose row at its begin is first: what was known, or of its CIE a set outside which the group's row agrees with the CIE's
+abbrev pub NotesAgree : Option Behind → ℕ → Known → Rules → Rules → BTreeMap ℕ CieSet → Type 0
+NotesAgree None register old first shared new = new ≡ old.cies
+NotesAgree (Some b) register old first shared new = Notes (λ set. (row : Rules) → SameBeside old.changed row first → AgreesBeside set shared row) b.cie_at register old.cies new
 
 -- ---- where these are the rows of the groups
 

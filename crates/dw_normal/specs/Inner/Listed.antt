@@ -27,6 +27,10 @@ OfMember table place P = (ms : List Member) → AreMembers table.target table.by
 abbrev pub OfMembers : Section → (List Member → Type 0) → Type 0
 OfMembers table P = (ms : List Member) → AreMembers table.target table.bytes ms → P ms
 
+-- and of those of another table
+abbrev pub OfBoth : Section → Section → (List Member → List Member → Type 0) → Type 0
+OfBoth one two P = (ms ns : List Member) → AreMembers one.target one.bytes ms → AreMembers two.target two.bytes ns → P ms ns
+
 -- these are the initial rows of its groups
 abbrev pub AreInitial : Section → List (ℕ × Rules) → Type 0
 AreInitial table rows = (ms : List Member) → AreMembers table.target table.bytes ms → rows ≡ initial_rows ms

@@ -1,9 +1,9 @@
 -- Where the CIEs stand.
-use Rattle.std.specs.{Prelude.{ℕ, suc, ◌+◌, ◌≤◌, ◌==◌, List, [], ◌∷◌, length, Option, Some, None, if◌then◌else◌}, BTreeMap.is_at, Map.lookup, Ordering.nat_cmp}
+use Rattle.std.specs.{Prelude.{ℕ, suc, ◌+◌, ◌-◌, ◌≤◌, ◌==◌, List, [], ◌∷◌, length, Option, Some, None, if◌then◌else◌}, BTreeMap.is_at, Map.lookup, Ordering.nat_cmp}
 use Rattle.dw_num.specs.declared.target.Target.{Target}
 use Rattle.dw_cfa.specs.Rows.{Rules}
 use Rattle.dw_canon.specs.Members.{Member}
-use Rattle.dw_canon.specs.Inner.{Laid.{groups_of, part_of, fde_of}, Written.{Written, entry_bytes}}
+use Rattle.dw_canon.specs.Inner.{Canon.{fde_instrs, initial_of}, Laid.{groups_of, part_of, fde_of}, Spelling.program_bytes, Written.{Written, entry_bytes, fde}}
 use Rattle.dw_normal.specs.Inner.Lengths.{cie_with}
 
 -- the place that is kept of a return address register
@@ -21,6 +21,10 @@ RowsRise low [] = Unit {0}
 RowsRise low (row ∷ rows) = (low ≤ row.0) × RowsRise (suc row.0) rows
 
 -- ---- FDEs
+
+-- the FDE of a member among the others, whose CIE stands at a place
+abbrev pub fde_at : Target → ℕ → List Member → Member → Written
+fde_at t cie_at ms m = let instrs = fde_instrs (initial_of ms m.register) m in fde cie_at m.begin (m.end - m.begin) instrs (program_bytes t instrs)
 
 -- the FDE of a member among the others
 abbrev pub fde_with : Target → List Member → Member → Written

@@ -9,6 +9,10 @@ Puts bytes (Ok count) failed failed' old new = (failed' ≡ failed) × (count �
 Puts bytes (Err (Write written)) failed failed' old new = (failed < failed') × (written ≤ length bytes) × Appends old new (take written bytes)
 Puts bytes (Err (Memory written)) failed failed' old new = (failed' ≡ failed) × (written ≤ length bytes) × Appends old new (take written bytes)
 
+-- into a sink, of which this is the count of failures and what it tells
+abbrev pub Sinks : {S : Type 0} (failures : S → ℕ) (taken : S → Option (List ℕ)) → List ℕ → Result ℕ PutError → S → S → Type 0
+Sinks failures taken bytes result old new = Puts bytes result (failures old) (failures new) (taken old) (taken new)
+
 -- how many were taken
 abbrev pub taken_by : Result ℕ PutError → ℕ
 taken_by (Ok count) = count

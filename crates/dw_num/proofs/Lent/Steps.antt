@@ -5,6 +5,10 @@ use Rattle.dw_num.proofs.Words.{◌≡◌, ℕ, ◌+◌, List, [], ◌∷◌, �
 use Rattle.dw_num.proofs.{Words.{Input, Takes, behind, Read, address_at, fixed_at, ◌>>=◌, byte_count, Address}, Lent.FixedLaws.{byte_at_again, fixed_at_again}, Lent.LebLaws.{cond_not, done, ok_is, took}}
 pub use Rattle.dw_num.proofs.Lent.LebLaws.{bind_ok, cond_ok}
 
+-- what is left behind a front
+pub taken_is : (i new : Input) (front : List ℕ) → Takes i front new → record { at = i.at + length front; bytes = new.bytes; target = i.target } ≡ new
+taken_is i new front t = rw (← t.at, ← t.target) refl
+
 -- two takes, one after the other, are one
 pub Takes-then : (i j k : Input) (x y : List ℕ) → Takes i x j → Takes j y k → Takes i (x ++ y) k
 Takes-then i j k x y p q = record {

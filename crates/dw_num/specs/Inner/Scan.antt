@@ -1,7 +1,9 @@
 -- What a scan for the LEB at the front of a list finds.
 use Rattle.std.specs.Prelude.{◌≡◌, ℕ, ◌≤◌, ◌^◌, List, Option, Some, None, option_map, suc}
 use Rattle.std.specs.{Prelude.{◌+◌, ◌*◌, [], ◌∷◌, Bool, true, false, ℤ, pos, negsuc, FitsSigned}, Int.w64}
-use Rattle.dw_num.specs.{Shortest.turned}
+use Rattle.std.specs.Prelude.{if◌then◌else◌, nat_lt, take, Result, Ok, Err}
+use Rattle.dw_num.specs.{Front.fits_signed, Leb.{groups, signed_groups}, Shortest.turned}
+use Rattle.dw_num.specs.declared.refusal.{Code.Code, Code.TheVariants.{Truncated, NumberTooLarge}}
 
 -- i more
 abbrev pub further : ℕ → Option ℕ → Option ℕ
@@ -26,3 +28,12 @@ as_signed false m = pos m
 abbrev pub IsSignedTotal : ℤ → Option ℤ → Type 0
 IsSignedTotal v None = FitsSigned w64 v → ⊥
 IsSignedTotal v (Some n) = n ≡ v
+
+-- the number at the front and its length, where that many bytes spell it, or what is wrong with it
+abbrev pub unsigned_of : Option ℕ → List ℕ → Result (ℕ × ℕ) Code
+unsigned_of None bs = Err Truncated
+unsigned_of (Some n) bs = if nat_lt (groups (take n bs)) (2 ^ 64) then Ok (groups (take n bs), n) else Err NumberTooLarge
+
+abbrev pub signed_of : Option ℕ → List ℕ → Result (ℤ × ℕ) Code
+signed_of None bs = Err Truncated
+signed_of (Some n) bs = if fits_signed (signed_groups (take n bs)) then Ok (signed_groups (take n bs), n) else Err NumberTooLarge

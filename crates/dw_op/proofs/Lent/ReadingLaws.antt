@@ -2,7 +2,7 @@
 use Rattle.std.specs.Int.{cast_signed}
 use Rattle.dw_op.proofs.Words.{◌≡◌, ℕ, ◌-◌, ◌%◌, ◌<◌, ◌≤◌, Bool, true, false, eqb, List, [], ◌∷◌, ◌++◌, length, Option, Some, None, refl, sym, ap, subst, ◌∙◌, arith, inl, inr, ℤ, nat_le, ◌&&◌, byte_len, nat_tests, cases_Bool, eqb-true, le-leb, lt-ltb}
 use Rattle.dw_op.proofs.Words.{le-ltb, bind_ok, cond_ok, Takes-then, take_found, BadDerefSize, NotInFrame, Target, Size, byte_count, address_limit, Input, AreBytes, Takes, IsWidth, Fixed, FixedSigned, Uleb, fixed_at, uleb_at}
-use Rattle.dw_op.proofs.Words.{done, ok_is, uleb_found, register_found, sleb_found, taken_bytes, fixed_found, address_found, byte_found, Op, Const, Reg, Breg, Implicit, Profile, Frame, Location, Step, Plain, Jump, bare, branch_target, in_frame}
+use Rattle.dw_op.proofs.Words.{done, ok_is, uleb_found, register_found, sleb_found, taken_bytes, fixed_found, address_found, byte_found, Op, Const, Reg, Breg, Profile, Frame, Location, Step, Plain, Jump, branch_target, in_frame}
 use Rattle.dw_op.proofs.Words.{FieldSpells, OpFormSpells, StepSpells, branch_code, step_in_frame, step_allowed, Field, FieldValue, OpForm, op_form_table, form_of, look_up, in_range, blank, form_in_frame, allows, signed_in, sized_in, counted_in}
 use Rattle.dw_op.proofs.{Words.{value_at, with_op, with_jump, then_value, branch_in, step_of, judged, after_code, step_at}, Signed.signed_spelled}
 use Rattle.dw_num.specs.declared.target.Size.TheVariants as sizes
@@ -50,11 +50,6 @@ small_const sizes.Four n lt = omega arith
 small_const sizes.Eight n lt = omega arith
 
 -- ---- what is known of the forms of the table
-
--- where a block lies does not matter to a frame
-pub bare_in_frame : (op : Op) → in_frame (bare op) ≡ in_frame op
-bare_in_frame (Implicit b) = refl
-bare_in_frame op = refl
 
 -- the widths that numbers have
 abbrev pub Wide : Field → Type 0

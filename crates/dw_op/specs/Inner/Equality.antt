@@ -1,5 +1,5 @@
 -- The lines by which expressions are compared, what an expression feeds a hasher, and the lines that the code has.
-use Rattle.std.specs.{Prelude.{ℕ, ℤ, pos, negsuc, List, [], ◌∷◌, map, nat_eq, Bool, ◌++◌, length}, Cmp.Lexicographic.pointwise, List.flat_map}
+use Rattle.std.specs.{Prelude.{◌≡◌, ℕ, ℤ, pos, negsuc, List, [], ◌∷◌, map, nat_eq, Bool, ◌++◌, length}, Cmp.Lexicographic.pointwise, List.flat_map}
 use Rattle.std.specs.Hash as fed
 use Rattle.dw_num.specs.{Target.byte_count, declared.target.Order.Order, declared.target.Order.TheVariants.{Little, Big}, declared.target.Target.Target}
 use Rattle.dw_op.specs.{Expression.Expression, declared.equality.Line.Line, declared.op.Op.Op, declared.op.Op.TheVariants.{Addr, Const, Pick, PlusUconst}}
@@ -72,3 +72,6 @@ expression_fed e = lines_fed (expression_lines e)
 -- the line that the code has
 abbrev pub line_of : Line → List ℕ
 line_of l = line l.kind l.first l.second l.signed l.bytes.now
+
+abbrev pub SameLine : Line → Line → Type 0
+SameLine a b = (a.kind ≡ b.kind) × (a.first ≡ b.first) × (a.second ≡ b.second) × (a.signed ≡ b.signed) × (a.bytes.now ≡ b.bytes.now)

@@ -1,14 +1,11 @@
 -- Reading an operation from the front of a block, as the code does it: DWARF 5, 7.7.1. Faults.antt says which fault that gives without it.
-use Rattle.std.specs.{Prelude.{ℕ, Option, Some, None, Ok, nat_le, ◌&&◌, if◌then◌else◌, Bool, true, ℤ, pos, [], List}, Int.{Width, w8, w16, w32, w64, byte_len, cast_signed}}
+use Rattle.std.specs.{Prelude.{ℕ, Option, Some, None, Ok, nat_le, nat_eq, ◌&&◌, ◌||◌, if◌then◌else◌, Bool, true, false, ℤ, pos, [], List}, Int.{Width, byte_len, cast_signed}}
 use Rattle.dw_num.specs.{Front.{Read, fault, fixed_at, take_at, uleb_at, sleb_at, address_at, ◌>>=◌, register_at}, Input.Input, Target.byte_count}
-use Rattle.dw_num.specs.declared.{refusal.Code.TheVariants.{UnknownOperation, NotInFrame, BadDerefSize}, target.Target.Target}
-use Rattle.dw_op.specs.{Expression.bare, Operands.{Field, FieldValue, OpForm, form_of, constant, natural, implicit}, Profile.in_frame}
-use Rattle.dw_op.specs.declared.op.{Op.Op, Op.TheVariants.{Addr, Pick, PlusUconst, Reg, Breg, Fbreg, Piece, DerefSize, BitPiece}}
-use Rattle.dw_op.specs.declared.operation.{Branch.Branch, ByteCount.ByteCount, ByteCount.TheVariants.{One, Two, Four, Eight}, Opcode.Opcode, Step.Step}
-use Rattle.dw_op.specs.declared.profile.{Profile.Profile, Profile.TheVariants.{Frame, Location}}
+use Rattle.dw_num.specs.declared.{refusal.Code.TheVariants.{UnknownOperation, NotInFrame, BadDerefSize}}
+use Rattle.dw_op.specs.{Expression.bare, Operands.{Field, FieldValue, OpForm, form_of, in_range}, Profile.in_frame}
+use Rattle.dw_op.specs.declared.{op.Op.Op, operation.Branch.Branch, operation.Step.Step, profile.Profile.Profile, profile.Profile.TheVariants.{Frame, Location}}
 use Rattle.dw_op.specs.declared.op.Op.TheVariants as ops
 use Rattle.dw_op.specs.declared.operation.Branch.TheVariants as branches
-use Rattle.dw_op.specs.declared.operation.Opcode.TheVariants as opcodes
 use Rattle.dw_op.specs.declared.operation.Step.TheVariants as steps
 use Rattle.dw_op.specs.Operands as fields
 
@@ -17,38 +14,12 @@ abbrev pub bare_step : Step → Step
 bare_step (steps.Plain op) = steps.Plain (bare op)
 bare_step (steps.Jump branch number) = steps.Jump branch number
 
--- ---- codes
+-- ---- what a frame bars
 
-abbrev pub int_width : ByteCount → Width
-int_width One = w8
-int_width Two = w16
-int_width Four = w32
-int_width Eight = w64
-
--- the fields that an opcode says
-abbrev pub form_for : Target → Opcode → OpForm
-form_for t (opcodes.Alone op) = fields.none (bare op)
-form_for t opcodes.Addr = fields.one fields.address Addr
-form_for t (opcodes.Unsigned count) = fields.one (fields.fixed (byte_len (int_width count))) (natural t)
-form_for t (opcodes.Signed count) = fields.one (fields.twos (int_width count)) (constant t)
-form_for t opcodes.Uconst = fields.one fields.unsigned (natural t)
-form_for t opcodes.Sconst = fields.one fields.signed (constant t)
-form_for t opcodes.Pick = fields.one (fields.fixed 1) Pick
-form_for t opcodes.PlusUconst = fields.one fields.unsigned PlusUconst
-form_for t opcodes.Bra = fields.branch ops.Bra
-form_for t opcodes.Skip = fields.branch ops.Skip
-form_for t (opcodes.Breg r) = fields.one fields.signed (Breg r)
-form_for t opcodes.LongReg = fields.one fields.register Reg
-form_for t opcodes.LongBreg = fields.two fields.register fields.signed Breg
-form_for t opcodes.Fbreg = fields.one fields.signed Fbreg
-form_for t opcodes.Piece = fields.one fields.unsigned Piece
-form_for t opcodes.DerefSize = fields.one fields.size DerefSize
-form_for t opcodes.BitPiece = fields.two fields.unsigned fields.unsigned BitPiece
-form_for t opcodes.Implicit = fields.one fields.block implicit
-
-abbrev pub said : Target → Option Opcode → Option OpForm
-said t None = None
-said t (Some opcode) = Some (form_for t opcode)
+-- a rule of a frame has no operation of this code: it gives a place, or asks for what a frame does not have
+abbrev pub is_barred : Profile → ℕ → Bool
+is_barred Location code = false
+is_barred Frame code = in_range 0x50 0x70 code || in_range 0x90 0x92 code || nat_eq code 0x93 || nat_eq code 0x97 || in_range 0x9c 0xa0 code
 
 -- some value of a field
 abbrev pub blank : (o : Field) → FieldValue o

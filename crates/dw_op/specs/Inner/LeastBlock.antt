@@ -1,5 +1,5 @@
 -- Least blocks as a function, and how the code writes them: where spellings begin, and whether branches fit.
-use Rattle.std.specs.{Prelude.{◌≡◌, ℕ, suc, ◌+◌, ◌≤◌, slice_index, List, [], ◌∷◌, length, Option, Some, None, FitsSigned}, Int.{w16, cast_unsigned}}
+use Rattle.std.specs.{Prelude.{◌≡◌, ℕ, suc, ◌+◌, ◌≤◌, slice_index, List, [], ◌∷◌, ◌++◌, length, Option, Some, None, FitsSigned}, Int.{w16, cast_unsigned}}
 use Rattle.dw_num.specs.declared.target.Target.{Target}
 use Rattle.dw_op.specs.{Block.{branch_target, start, displacement, joined}, declared.op.Op.Op, Inner.LeastOf.least_bytes}
 
@@ -41,6 +41,10 @@ BranchFits parts k (Some i) = FitsSigned w16 (displacement parts k i)
 abbrev pub EachFits : List (List ℕ) → ℕ → List Op → Type 0
 EachFits parts k [] = Unit {0}
 EachFits parts k (op ∷ ops) = BranchFits parts k (branch_target op) × EachFits parts (suc k) ops
+
+-- all operations fit, and their least block stands behind what was there
+abbrev pub IsWritten : Target → List Op → List ℕ → List ℕ → Type 0
+IsWritten t ops old new = EachFits (blank_parts t ops) 0 ops × (new ≡ old ++ least_block t ops)
 
 -- the bits of a branch's displacement, unless it does not fit
 abbrev pub AreBits : List (List ℕ) → ℕ → Option ℕ → Option ℕ → Type 0

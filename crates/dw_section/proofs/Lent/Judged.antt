@@ -4,7 +4,7 @@ use Rattle.dw_cfa.proofs.Lent.RowsAt.{last_from}
 use Rattle.dw_section.proofs.Words.{◌≡◌, ℕ, ◌+◌, ◌<◌, ◌≤◌, Bool, true, false, List, [], ◌∷◌, ◌++◌, map, length, get_or, Option, Some, None, Ok, Err, refl, sym, ap, subst, ◌∙◌, append_assoc, arith, inl, inr, MatchBool, nat_lt}
 use Rattle.dw_section.proofs.Words.{AreBytes, Factors, Input, Led, LedTo, Leaves, Outcome, RunsBehind, RunsTo, behind_where_fault, leaves_one, leaves_where_kept, one_initial, rules_behind, cie, CieHead, CieRuns, factors_of, IsAmong}
 use Rattle.dw_section.proofs.Words.{AllByRecursion, Refusal, Target, address_limit, Instr, CfaRule, Unset, LocatedRow, RulesBehind, cfa_after, FdeFault, FdeKept, initial_cfa, Counts, Rules, Initial, is_among, Head, fde, FdeHead}
-use Rattle.dw_section.proofs.Words.{head_at, or_place, place_of, HasOrLacks, Rises, InitialInstrs, Instrs, FdeRuns, FdeBroken, HasRules, LacksRule, input_of, IsNonDecreasingBy, ltb-true}
+use Rattle.dw_section.proofs.Words.{head_at, option_or, then_some, place_of, HasOrLacks, Rises, InitialInstrs, Instrs, FdeRuns, FdeBroken, HasRules, LacksRule, input_of, IsNonDecreasingBy, ltb-true}
 use Rattle.dw_section.proofs.{Words.{ltb-false, cases_lt, get_or-map, length-map, All-from_recursion, NoCfaRule, FirstLacking, counts_exists}, Lent.Index.all_in, Places.{rises-at, among_place}, Stages.all_push}
 
 -- ---- the search among them
@@ -100,7 +100,7 @@ module _ (target : Target) (hs : List Head) (led : Led) (f : FdeHead) (is : LedT
 -- ---- the first that lacks one
 
 pub lacking_more : (target : Target) (hs front : List Head) (h : Head) (lacking : Option ℕ) (lacks : Bool) → FirstLacking target hs front lacking → HasOrLacks target hs h lacks
-    → FirstLacking target hs (front ++ h ∷ []) (or_place lacking lacks (head_at h))
+    → FirstLacking target hs (front ++ h ∷ []) (option_or lacking (then_some lacks (head_at h)))
 lacking_more target hs front h (Some place) lacks w l =
     record { before = w.before; it = w.it; after = w.after ++ h ∷ []; whole = ap (λ (xs : List Head). xs ++ h ∷ []) w.whole ∙ append_assoc w.before (w.it ∷ w.after) (h ∷ []); hold = w.hold; stuck = w.stuck }
 lacking_more target hs front h None true w l = record { before = front; it = h; after = []; whole = refl; hold = w; stuck = l }

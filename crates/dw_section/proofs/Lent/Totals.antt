@@ -1,7 +1,6 @@
 -- The rows that a section starts are no fewer than its changes.
 use Rattle.dw_section.proofs.Words.{◌≡◌, ℕ, ◌<◌, ◌≤◌, List, [], ◌∷◌, length, map, ap, refl, arith, AllByRecursion, AllZip, Target, AreBytes, Instr, row_starts, Rules, Accepted, AreChanges, FdeSays, Lists, AreFdes, ChangesOf, Starts, total}
-use Rattle.dw_section.proofs.Words.{Range, end_of, Fde, RowStarts}
-use Rattle.dw_section.proofs.Lent.{FdeLookup.along, Index.all_from, Exists.changes_exist, Rowed.one_changes, Sections.{hs, headers_of, index, fdes_exist, fdes_zip, one_programs, listed_programs}}
+use Rattle.dw_section.proofs.{Words.{Range, end_of, Fde, RowStarts}, Lent.{FdeLookup.along, Index.all_from, Exists.changes_exist, Rowed.one_changes, Sections.{hs, headers_of, index, fdes_exist, fdes_zip, one_programs, listed_programs}}}
 
 -- an FDE of an accepted section starts at least as many rows as it has changes
 pub least_starts : (target : Target) (s : List ℕ) (b : AreBytes s) (ok : Accepted target s) (begin end : ℕ) (i j : List Instr) (changes : List (ℕ × Rules)) → begin < end

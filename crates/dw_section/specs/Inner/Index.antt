@@ -1,10 +1,12 @@
 -- What the code keeps of nonempty FDEs.
-use Rattle.std.specs.{Prelude.{◌≡◌, ℕ, ◌≤◌, ◌⊎◌, List, map, Option}, List.AllByRecursion}
+use Rattle.std.specs.{Prelude.{◌≡◌, ℕ, ◌≤◌, ◌⊎◌, List, [], ◌∷◌, ◌++◌, map, Option, Result, IfErr, OnOk}, List.AllByRecursion}
+use Rattle.dw_num.specs.{Refusals.Refuses, declared.error.ReadError.ReadError}
 use Rattle.dw_num.specs.declared.target.Target.{Target}
 use Rattle.dw_section.specs.{Accepted.RulesHold, Among.IsAmong, Counts.AreCounts, Cut.Piece, Headers.{Head, Headers}}
-use Rattle.dw_section.specs.{Overlap.{Range, end_of, nonempty}, Pieces.Pieces, Programs.FdeRuns, Ranges.{IsRanged, range_in}}
+use Rattle.dw_section.specs.{Overlap.{Range, end_of, nonempty}, Pieces.Pieces, Programs.{CieRuns, FdeBroken, FdeRuns}, Ranges.{IsRanged, range_in}}
 use Rattle.dw_section.specs.declared.{entry.EntryCounts.EntryCounts, fde_range.Ranged.Ranged, header.Initial.Initial, listed_fde.FoundFde.FoundFde}
-use Rattle.dw_section.specs.Inner.{Initials.{AreOf, FirstLacking}, PieceHeader.{entry_in, initial_in}, Places.RiseBy}
+use Rattle.dw_section.specs.declared.{fde_range.Judged.Judged, walks.Walks.Walks}
+use Rattle.dw_section.specs.Inner.{Initials.{AreAmong, AreOf, FirstLacking}, PieceHeader.{entry_in, initial_in}, Places.RiseBy, Walks.AreLed}
 
 -- an FDE and the CIE that it names are among the headers
 pub record IsFound (hs : List Head) (e : FoundFde) : Type 0 where
@@ -27,6 +29,15 @@ pub record AreJudged (target : Target) (hs front : List Head) (lacking : Option 
   pub first : FirstLacking target hs front lacking
   pub are : map range_in list ≡ nonempty front
   pub each : AllByRecursion (IsRanged hs) list
+
+-- one entry more is judged, behind a CIE that was read
+abbrev pub JudgesOne : {T E : Type 0} → Target → List Initial → Walks → Head → Judged → Result T E → Judged → Type 0
+JudgesOne target cs walks h old result new =
+    (hs front : List Head) → AreAmong hs cs → AllByRecursion (CieRuns target) hs → AreLed target hs walks → IsAmong h hs → AreJudged target hs front old.lacking old.list.items
+    → OnOk result (AreJudged target hs (front ++ h ∷ []) new.lacking new.list.items)
+
+abbrev pub BreaksOne : {T : Type 0} → Target → List Initial → Walks → Head → Result T ReadError → Type 0
+BreaksOne target cs walks h result = (hs : List Head) → AreAmong hs cs → AllByRecursion (CieRuns target) hs → AreLed target hs walks → IfErr result (Refuses (FdeBroken target hs h))
 
 -- these are the nonempty FDEs of a section in order of place
 pub record AreRanges (target : Target) (s : List ℕ) (list : List Ranged) : Type 0 where

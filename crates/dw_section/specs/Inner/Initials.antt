@@ -45,9 +45,3 @@ HasOrLacks target hs h true = LacksRule target hs h (record { code = NoCfaRule; 
 abbrev pub FirstLacking : Target → List Head → List Head → Option ℕ → Type 0
 FirstLacking target hs front None = AllByRecursion (HasRules target hs) front
 FirstLacking target hs front (Some at) = FirstStuck (HasRules target hs) (LacksRule target hs) front (record { code = NoCfaRule; at = at })
-
--- the first of them, where the next entry is found to lack a rule or not
-abbrev pub or_place : Option ℕ → Bool → ℕ → Option ℕ
-or_place (Some place) lacks at = Some place
-or_place None true at = Some at
-or_place None false at = None

@@ -1,5 +1,5 @@
 -- What the code lists of nonempty FDEs.
-use Rattle.std.specs.Prelude.{◌≡◌, ℕ, ◌+◌, ◌<◌, List}
+use Rattle.std.specs.Prelude.{ℕ, ◌+◌, ◌<◌, List}
 use Rattle.dw_num.specs.{Span.{span_of, input_of}, declared.target.Target.Target}
 use Rattle.dw_cfa.specs.{Gives.{Gives, RunsTo}, Runs.Outcome, declared.execution.LocatedRow.LocatedRow}
 use Rattle.dw_section.specs.{Accepted.RulesHold, Headers.Head, declared.listed_fde.FoundFde.FoundFde, declared.lookup.Fde.Fde, Inner.Index.IsFound}

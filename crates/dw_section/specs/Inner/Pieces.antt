@@ -1,21 +1,21 @@
 -- How the code holds what stands in a section.
-use Rattle.std.specs.Prelude.{◌≡◌, ℕ, ◌+◌, List, length}
+use Rattle.std.specs.Prelude.{◌≡◌, ℕ, ◌+◌, List, length, Option, Some, None}
 use Rattle.dw_num.specs.{Fixed.length_bytes, Input.Input, Span.span_of}
-use Rattle.dw_section.specs.{Cut.{Item, Piece, gap, entry}, Places.cie_places, declared.entry.Part.Part, declared.entry.Placed.Placed}
-use Rattle.dw_section.specs.declared.entry.Part.TheVariants as parts
+use Rattle.dw_section.specs.{Cut.{Item, Piece, gap, entry, is_cie}, Places.cie_places, declared.entry.Placed.Placed}
 
 abbrev pub piece_in : Placed → Piece
 piece_in p = record { at = p.at; form = p.form; kind = p.kind; contents = span_of p.contents }
 
--- the item that a part is
-abbrev pub item_of : Part → Item
-item_of parts.Gap = gap
-item_of (parts.Entry form contents) = entry form contents.bytes.now
+-- the item that was read: a gap, or an entry
+abbrev pub item_of : Option Placed → Item
+item_of None = gap
+item_of (Some p) = entry p.form p.contents.bytes.now
 
--- the contents of a part stand behind its length
-abbrev pub IsPlaced : Input → Part → Type 0
-IsPlaced old parts.Gap = Unit {0}
-IsPlaced old (parts.Entry form contents) = contents.at ≡ old.at + length (length_bytes old.target.order form (length contents.bytes.now))
+-- an entry has its place and its kind, and its contents stand behind its length
+abbrev pub IsPlaced : Input → Option Placed → Type 0
+IsPlaced old None = Unit {0}
+IsPlaced old (Some p) =
+    (p.at ≡ old.at) × (p.kind ≡ is_cie p.form p.contents.bytes.now) × (p.contents.at ≡ old.at + length (length_bytes old.target.order p.form (length p.contents.bytes.now)))
 
 -- the CIEs among pieces stand at these places, and so many are FDEs
 pub record ArePlaced (ps : List Piece) (at : List ℕ) (fdes : ℕ) : Type 0 where

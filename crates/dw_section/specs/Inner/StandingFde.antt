@@ -1,9 +1,8 @@
 -- How the code finds an FDE that stands in bytes.
-use Rattle.std.specs.Prelude.{◌≡◌, ◌⊎◌, ℕ, List}
-use Rattle.dw_num.specs.{Span.{span_of, input_of}, declared.error.ReadError.ReadError}
-use Rattle.dw_num.specs.declared.{refusal.Refusal.Refusal, target.Target.Target}
+use Rattle.std.specs.Prelude.{◌≡◌, ℕ, List}
+use Rattle.dw_num.specs.declared.error.ReadError.{ReadError}
+use Rattle.dw_num.specs.declared.target.Target.{Target}
 use Rattle.dw_num.specs.declared.error.ReadError.TheVariants as read_error
-use Rattle.dw_cfa.specs.FaultPlaces.{LiesInProgram}
 use Rattle.dw_section.specs.{Headers.{CieHead, FdeHead}, StandingFde.FdeStands}
 use Rattle.dw_section.specs.declared.listed_fde.FoundFde.{FoundFde}
 use Rattle.dw_section.specs.declared.standing_fde.{LookUpError.LookUpError, LookUpError.TheVariants.{Refused, OutOfMemory}}
@@ -16,10 +15,6 @@ StandsAt target s at = (own : FdeHead) × (named : CieHead) × FdeStands target 
 -- this one does, with what its CIE says
 abbrev pub FoundStands : Target → List ℕ → FoundFde → Type 0
 FoundStands target s e = FdeStands target s (entry_head e.own) (initial_head e.cie)
-
--- what is wrong lies in the FDE's program or in that of its CIE
-abbrev pub LiesInPrograms : Target → FoundFde → Refusal → Type 0
-LiesInPrograms target e r = LiesInProgram (input_of target (span_of e.cie.program)) r ⊎ LiesInProgram (input_of target (span_of e.own.program)) r
 
 abbrev pub of_steps : ReadError → LookUpError
 of_steps (read_error.Refused r) = Refused r

@@ -3,7 +3,7 @@ use Rattle.std.specs.{Prelude.{◌≡◌, ℕ, suc, ◌+◌, ◌<◌, ◌≤◌,
 use Rattle.dw_eval.specs.Registers.{held}
 use Rattle.dw_unwind.specs.{Dump.{SaysWithin, IsFaulty}, Lines.lines_of, Statement.{Statement, nothing, counter_is, register_is}}
 use Rattle.dw_unwind.specs.{Statement.{memory_is, counter, register, Fits, given, times}, declared.fault.DumpCode.DumpCode}
-use Rattle.dw_unwind.specs.{declared.fault.DumpFault.DumpFault, declared.partial_dump.Gathered.Gathered, declared.ranges.Range.Range, Inner.Dump.IsWrong}
+use Rattle.dw_unwind.specs.{declared.dump.Gathered.Gathered, declared.fault.DumpFault.DumpFault, declared.memory.Range.Range, Inner.Dump.IsWrong}
 
 -- the ranges of the memory that statements tell, the first of them on a line, their bytes from a place on
 abbrev pub ranges_of : ℕ → ℕ → List Statement → List Range

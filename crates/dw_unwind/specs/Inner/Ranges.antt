@@ -1,6 +1,6 @@
 -- What the code and its proofs say beside Ranges.
 use Rattle.std.specs.{Prelude.{ℕ, ◌+◌, ◌^◌, ◌<◌, ◌≤◌, List, [], ◌∷◌, length, count_by}, List.AllByRecursion}
-use Rattle.dw_unwind.specs.{Ranges.{end_of, covers, Held}, declared.ranges.Range.Range}
+use Rattle.dw_unwind.specs.{Ranges.{end_of, covers, Held}, declared.memory.Range.Range}
 
 -- how many ranges cover an address
 abbrev pub cover_count : ℕ → List Range → ℕ

@@ -15,51 +15,24 @@ IsCommand app c = (app_of c ≡ app) × ((out-Command c).has_globals ≡ false)
 
 -- ---- the command line as the code puts it together
 
-abbrev pub choice : Text → Rule
-choice name = option false name
+abbrev pub command : Text → List Rule → App
+command name rules = fold with_rule (new_app name) (option true (codes "size") ∷ option true (codes "order") ∷ rules)
 
-abbrev pub needed : Text → Rule
-needed name = option true name
-
-abbrev pub subcommand : Text → App
-subcommand name = with_rule (with_rule (new_app name) (needed (codes "size"))) (needed (codes "order"))
-
-abbrev pub over_file : Text → App
-over_file name = with_rule (subcommand name) file
-
-abbrev pub at : App
-at = with_rule (over_file (codes "at")) (operands (codes "ADDRESS"))
-
-abbrev pub expr : App
-expr = with_rule (with_rule (subcommand (codes "expr")) (flag (codes "frame"))) (operand true (codes "HEX"))
-
-abbrev pub eval : App
-eval = with_rule (with_rule (with_rule (with_rule (subcommand (codes "eval")) (choice (codes "steps"))) (choice (codes "start"))) (operand true (codes "HEX"))) (operand false (codes "DUMP"))
-
-abbrev pub unwind : App
-unwind = with_rule (with_rule (with_rule (with_rule (subcommand (codes "unwind")) (needed (codes "default"))) (choice (codes "steps"))) file) (operand true (codes "DUMP"))
-
-abbrev pub normal : App
-normal = with_rule (with_rule (subcommand (codes "normal")) (choice (codes "cap"))) file
-
-abbrev pub same : App
-same = with_rule (over_file (codes "same")) (operand true (codes "FILE2"))
-
-abbrev pub subcommand_named : Name → App
-subcommand_named names.At = at
-subcommand_named names.Check = over_file (codes "check")
-subcommand_named names.Cost = over_file (codes "cost")
-subcommand_named names.Entries = over_file (codes "entries")
-subcommand_named names.Eval = eval
-subcommand_named names.Expr = expr
-subcommand_named names.Normal = normal
-subcommand_named names.Rows = over_file (codes "rows")
-subcommand_named names.Same = same
-subcommand_named names.Unwind = unwind
+abbrev pub command_named : Name → App
+command_named names.At = command (codes "at") (file ∷ operands (codes "ADDRESS") ∷ [])
+command_named names.Check = command (codes "check") (file ∷ [])
+command_named names.Cost = command (codes "cost") (file ∷ [])
+command_named names.Entries = command (codes "entries") (file ∷ [])
+command_named names.Eval = command (codes "eval") (option false (codes "steps") ∷ option false (codes "start") ∷ operand true (codes "HEX") ∷ operand false (codes "DUMP") ∷ [])
+command_named names.Expr = command (codes "expr") (flag (codes "frame") ∷ operand true (codes "HEX") ∷ [])
+command_named names.Normal = command (codes "normal") (option false (codes "cap") ∷ file ∷ [])
+command_named names.Rows = command (codes "rows") (file ∷ [])
+command_named names.Same = command (codes "same") (file ∷ operand true (codes "FILE2") ∷ [])
+command_named names.Unwind = command (codes "unwind") (option true (codes "default") ∷ option false (codes "steps") ∷ file ∷ operand true (codes "DUMP") ∷ [])
 
 -- the command with these subcommands
 abbrev pub with_subcommands : List Name → App
-with_subcommands = fold (λ a name. with_subcommand a (subcommand_named name).top) program
+with_subcommands = fold (λ a name. with_subcommand a (command_named name).top) program
 
 -- where words begin with a subcommand's name, the command with that one alone
 abbrev pub asked : Option Name → App

@@ -1,6 +1,11 @@
--- Numbers as the code reads them, digit by digit.
-use Rattle.std.specs.Prelude.{ℕ, ◌+◌, ◌*◌, List, [], ◌∷◌, Option, Some, option_and_then}
+-- Values as the code reads them: one of two names, a number digit by digit.
+use Rattle.std.specs.{Prelude.{ℕ, ◌+◌, ◌*◌, List, [], ◌∷◌, Option, Some, None, if◌then◌else◌, option_and_then}, Str.bytes_eq}
+use Rattle.clap.specs.Words.{Text}
 use Rattle.dw_num.specs.Digits.{below, digit}
+
+-- a value by its name, or another by its own
+abbrev pub either : {T : Type 0} → Text → T → Text → T → Text → Option T
+either first one second other text = if bytes_eq text first then Some one else (if bytes_eq text second then Some other else None)
 
 -- a number of 64 bits with one digit more behind it
 abbrev pub digit_behind : ℕ → ℕ → ℕ → Option ℕ

@@ -1,5 +1,5 @@
 use Rattle.dw_op.specs.Expression.{bare}
-use Rattle.dw_command.proofs.Words.{◌≡◌, ◌∙◌, ◌++◌, ℕ, List, [], ◌∷◌, ap, arith, codes, length, refl, rules, subst, sym, Adds, Op, lines, next_text, op_text, operations_text}
+use Rattle.dw_command.proofs.Words.{◌≡◌, ◌∙◌, ◌++◌, ℕ, List, [], ◌∷◌, ap, arith, codes, refl, subst, sym, Adds, Op, lines, next_text, op_text, operations_text}
 use Rattle.dw_command.proofs.{OpLines.{left_text, text_bare}, Puts.{kept_on, on}, TextLines.{Leads, leads_on}}
 use Rattle.dw_command.proofs.row_text.put_operations.Goals as goal
 

@@ -1,58 +1,64 @@
-use Rattle.dw_normal.proofs.Words.{get_or, List, map, sym, ap, ◌∙◌, subst, get_or-map, Member, AreMembers, fde_of, members_exist, IsBegun, SharesIn, IsReady, IsShown, Changing, row_or_blank, shown_row, Section, StandsApart, AreSame}
-use Rattle.dw_normal.proofs.{Apartness.{known_behind, still_same}, Filled.{on_ok, where_ok}, Grouped.no_member, Placed.{below, listed_row, listed_some, ready_at, same_row}, begun.begin_fde.Goals.After-list_apart}
+use Rattle.dw_normal.proofs.Words.{◌≡◌, get_or, List, map, sym, ap, ◌∙◌, subst, get_or-map, Rules, Member, AreMembers, fde_of, members_exist, Begun, IsBegun, Walks, IsReady, Known, NotesSame, row_or_blank, shown_row, StandsApart}
+use Rattle.dw_normal.proofs.{Apartness.{known_first, still_same}, Filled.on_ok, Grouped.no_member, Placed.{below, listed_row, listed_some, ready_at, same_row}, begun.begin_fde.Goals.After-list}
 use Rattle.dw_normal.proofs.begun.begin_fde.Goals as goal
 
 pub shared_row-begun-requires-clause-some : goal.shared_row-begun-requires-clause-some
-shared_row-begun-requires-clause-some c = listed_some c.accepted.ensures.bytes c.accepted.ensures.accepted c.requires.rows c.requires.place c.fde-listed.ensures
+shared_row-begun-requires-clause-some c = listed_some c.accepted.ensures.bytes c.accepted.ensures.accepted c.requires.walks.rows c.requires.place c.fde-begun.ensures
 
-pub list_apart-requires : goal.list_apart-requires
-list_apart-requires c =
-    let rows = c.args.rows.now.entries in
-    let old = c.args.begun.now in
-    let known = subst (λ (u : Section). AreSame u rows old.apart.known.cies) c.requires.section c.requires.before.known in record {
-      shown = c.in_ok-behind.ensures.shown;
-      stands = c.in_ok-behind.ensures.stands;
-      known = known_behind c.args.table.now rows c.fde-listed.result.return_register c.shared_row-begun.result.now c.shared_row-begun.ensures c.in_ok-behind.behind c.go_behind_first.new.changes.section old.apart.known.cies c.in_ok-behind.ensures.section known;
-    }
+pub list-requires : goal.list-requires
+list-requires c =
+    let ready = c.args.begun.now.ready.now in
+    known_first ready.table ready.rows.entries c.fde-begun.result.return_register c.shared_row-begun.result.now c.shared_row-begun.ensures c.go_behind_first.new.changes c.in-Some.first.now c.in-Some.ensures c.in_ok-behind.behind
+    c.go_behind_first.new.changed c.args.begun.now.apart.known.cies c.in_ok-behind.ensures.section c.in_ok-behind.ensures.stands c.requires.walks.known
 
-begins : (c : After-list_apart) (ms : List Member) → AreMembers c.args.table.now.target c.args.table.now.bytes ms → (d : Member) → IsBegun ms (get_or ms c.args.fde.place d) c.list_apart.new.begun
+abbrev new : After-list → Begun
+new c = record { ready = c.args.begun.now.ready; fde = c.fde-begun.result; shared = c.shared_row-begun.result; changes = c.go_behind_first.new.changes; apart = c.list.new.self }
+
+begins : (c : After-list) (ms : List Member) → AreMembers c.args.begun.now.ready.now.table.target c.args.begun.now.ready.now.table.bytes ms → (d : Member) → IsBegun ms (get_or ms c.args.fde.place d) (new c)
 begins c ms are d =
-    let behind = c.in_ok-behind.ensures.behind ms are d in
-    let same = c.list_apart.ensures.same in record {
-      fde = same.0 ∙ c.fde-listed.ensures (map fde_of ms) are.fdes (fde_of d) ∙ get_or-map fde_of ms c.args.fde.place d;
-      shared = rw same.1 (same_row _ _ _ c.shared_row-begun.ensures (listed_row c.accepted.ensures.bytes c.accepted.ensures.accepted c.requires.rows c.requires.place c.fde-listed.ensures ms are d));
-      first = rw same.2 (ap row_or_blank behind.shown);
-      later = rw same.2 behind.later;
+    let behind = c.in_ok-behind.ensures.behind ms are d in record {
+      fde = c.fde-begun.ensures (map fde_of ms) are.fdes (fde_of d) ∙ get_or-map fde_of ms c.args.fde.place d;
+      shared = same_row _ _ _ c.shared_row-begun.ensures (listed_row c.accepted.ensures.bytes c.accepted.ensures.accepted c.requires.walks.rows c.requires.place c.fde-begun.ensures ms are d);
+      first = ap row_or_blank behind.shown;
+      later = behind.later;
     }
+
+-- the row that is shown is the first one
+first : (c : After-list) → c.in-Some.first.now ≡ shown_row c.go_behind_first.new.changes
+first c = sym (ap row_or_blank c.in-Some.ensures)
 
 pub returns-clause-is : goal.returns-clause-is
-returns-clause-is c = λ ms are d. where_ok c.list_apart.result _ (begins (goal.at.returns-clause-is c).After-list_apart ms are d)
+returns-clause-is c = λ ms are d. on_ok c.list.result _ _ (λ apart. begins (goal.at.returns-clause-is c).After-list ms are d) c.list.ensures.stands
 
 pub returns-clause-ready : goal.returns-clause-ready
 returns-clause-ready c =
-    let t = c.args.table.now.target in
-    let s = c.args.table.now.bytes in
-    let new = c.list_apart.new.begun in
+    let at = (goal.at.returns-clause-ready c).After-list in
+    let t = c.args.begun.now.ready.now.table.target in
+    let s = c.args.begun.now.ready.now.table.bytes in
     let some = members_exist t s c.accepted.ensures.bytes c.accepted.ensures.accepted in
-    let is = begins (goal.at.returns-clause-ready c).After-list_apart some.0 some.1 no_member in
-    let shown = subst IsShown (sym c.list_apart.ensures.same.2) c.in_ok-behind.ensures.shown in
-    on_ok c.list_apart.result (StandsApart new.apart new.shared.now (shown_row new.changes)) (IsReady t new)
-    (ready_at t s c.accepted.ensures.bytes c.accepted.ensures.accepted some.0 some.1 c.args.fde.place no_member (below c.args.fde.place some.1 c.requires.place) new is shown) c.list_apart.ensures.apart
+    let is = begins at some.0 some.1 no_member in
+    on_ok c.list.result (StandsApart c.list.new.self c.shared_row-begun.result.now c.in-Some.first.now) (IsReady t (new at))
+    (λ apart. ready_at t s c.accepted.ensures.bytes c.accepted.ensures.accepted some.0 some.1 c.args.fde.place no_member (below c.args.fde.place some.1 c.requires.place) (new at) is c.in_ok-behind.ensures.shown
+    (subst (λ (row : Rules). StandsApart c.list.new.self c.shared_row-begun.result.now row) (first at) apart))
+    c.list.ensures.stands
 
-pub returns-clause-shares : goal.returns-clause-shares
-returns-clause-shares c =
-    let s = c.args.table.now in
-    let rows = c.args.rows.now.entries in
-    let new = c.list_apart.new.begun in
-    let same = c.list_apart.ensures.same in
-    let known = subst (λ (u : Section). AreSame u rows c.args.begun.now.apart.known.cies) c.requires.section c.requires.before.known in
-    let section = ap (λ (changes : Changing). changes.section) same.2 ∙ c.in_ok-behind.ensures.section in
-    on_ok c.list_apart.result _ (SharesIn rows new)
+pub returns-clause-walks : goal.returns-clause-walks
+returns-clause-walks c =
+    let at = (goal.at.returns-clause-walks c).After-list in
+    let ready = c.args.begun.now.ready.now in
+    let shared = c.shared_row-begun.result.now in
+    let behind = c.in_ok-behind.behind in
+    let register = c.fde-begun.result.return_register in
+    let known : Known = record { changed = c.go_behind_first.new.changed; cies = c.args.begun.now.apart.known.cies; alloc = c.args.begun.now.apart.known.alloc } in
+    let cies = c.list.new.self.known.cies in
+    on_ok c.list.result (NotesSame behind register known shared c.in-Some.first.now cies) (Walks (new at))
     (λ notes. record {
-      shared = rw (same.0, same.1) c.shared_row-begun.ensures;
+      rows = c.requires.walks.rows;
+      section = c.in_ok-behind.ensures.section;
+      shared = c.shared_row-begun.ensures;
       known =
-          subst (λ (u : Section). AreSame u rows new.apart.known.cies) (sym section)
-          (still_same s rows c.fde-listed.result.return_register c.shared_row-begun.result.now c.shared_row-begun.ensures c.go_behind_first.new.changes c.in_ok-behind.behind _ new.apart.known.cies
-          (λ place x y. c.section_laws.ensures.left s.target s.bytes place x y c.accepted.ensures.bytes) c.in_ok-behind.ensures.section c.in_ok-behind.ensures.stands known notes);
+          still_same ready.table ready.rows.entries register shared c.shared_row-begun.ensures c.go_behind_first.new.changes behind known cies
+          (λ place x y. c.section_laws.ensures.left ready.table.target ready.table.bytes place x y c.accepted.ensures.bytes) c.in_ok-behind.ensures.section c.in_ok-behind.ensures.stands c.requires.walks.known
+          (subst (λ (row : Rules). NotesSame behind register known shared row cies) (first at) notes);
     })
-    c.list_apart.ensures.known
+    c.list.ensures.known

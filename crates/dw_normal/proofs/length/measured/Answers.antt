@@ -3,8 +3,8 @@ use Rattle.dw_normal.proofs.length.measured.Goals as goal
 
 pub behind_cies-requires : goal.behind_cies-requires
 behind_cies-requires c =
-    let t = c.args.table.now.target in
-    let s = c.args.table.now.bytes in
+    let t = c.args.ready.now.table.target in
+    let s = c.args.ready.now.table.bytes in
     let some = members_exist t s c.accepted.ensures.bytes c.accepted.ensures.accepted in
     rows_fit t s c.accepted.ensures.bytes c.accepted.ensures.accepted some.0 some.1 c.target-target.ensures (c.requires.rows some.0 some.1)
 
@@ -17,7 +17,7 @@ returns-in_default-2 c = λ ms are.
 
 pub overflow_sub-result : goal.overflow_sub-result
 overflow_sub-result c =
-    let some = members_exist c.args.table.now.target c.args.table.now.bytes c.accepted.ensures.bytes c.accepted.ensures.accepted in
+    let some = members_exist c.args.ready.now.table.target c.args.ready.now.table.bytes c.accepted.ensures.bytes c.accepted.ensures.accepted in
     let fdes = rw c.in-Some-2.is at (c.in_ok-rest.ensures some.0 some.1) in
     let cies = rw c.in-Some.is at c.in_ok-left.ensures in
     omega (arith, fdes, cies)

@@ -2,11 +2,10 @@ use Rattle.dw_normal.proofs.{Reports.{length_found, length_only, only_memory}, F
 use Rattle.dw_normal.proofs.normal.normal_length.Goals as goal
 
 pub returns-in-Ok-clause-found : goal.returns-in-Ok-clause-found
-returns-in-Ok-clause-found c = length_found c.args.target c.args.cap c.args.bytes.now c.in-Ok.measured.ready.rows.entries c.in-Ok.measured.len (c.in-Ok.ensures).found.1
+returns-in-Ok-clause-found c = length_found c.args.target c.args.cap c.args.bytes.now c.in-Ok.len (c.in-Ok.ensures).found
 
 pub returns-in-Ok-clause-only : goal.returns-in-Ok-clause-only
-returns-in-Ok-clause-only c = λ n normal within.
-    length_only c.args.target c.args.bytes.now c.args.cap c.in-Ok.measured.len c.in-Ok.measured.ready.rows.entries c.are_bytes.ensures (c.in-Ok.ensures).found.1 n normal
+returns-in-Ok-clause-only c = λ n normal within. length_only c.args.target c.args.bytes.now c.args.cap c.in-Ok.len c.are_bytes.ensures (c.in-Ok.ensures).found n normal
 
 pub returns-in-Err-clause-only : goal.returns-in-Err-clause-only
 returns-in-Err-clause-only c = λ n normal within. only_memory c.args.target c.args.bytes.now n c.args.cap c.are_bytes.ensures normal c.in-Err.error c.in-Err.ensures.first within

@@ -1,12 +1,22 @@
-use Rattle.dw_normal.proofs.{Words.{◌≡◌, ◌++◌, ◌∙◌, difference, program_bytes, rules_from}, Filled.on_ok, RulesLeft.{rules_fit, put_behind}}
+use Rattle.dw_normal.proofs.{Words.{◌∙◌, place_behind, refl, rules}, RegistersBehind.{Next, none_differs, one_differs}, RulesLeft.{put_behind, put_fits, put_next, put_ends, rules_fit, shorter}, program.push_difference.Goals.In-Some}
 use Rattle.dw_normal.proofs.program.push_difference.Goals as goal
 
-pub push_rules-requires : goal.push_rules-requires
-push_rules-requires c = record { tells = c.requires.tells; fits = rules_fit c.args.target c.args.shared.now c.args.before.now c.args.after.now c.requires.fits }
+next : (c : In-Some) → Next c.args.shared.now c.args.before.now c.args.after.now (place_behind c.registers.last) c.in-Some.register
+next c = search (rules, one_differs, place_behind)
+
+pub registers-init : goal.registers-init
+registers-init c = record { same = refl; fits = rules_fit c.args.target c.args.shared.now c.args.before.now c.args.after.now c.requires.fits }
+
+pub push_register-requires : goal.push_register-requires
+push_register-requires c = put_fits c.registers.invariant (next (goal.at.push_register-requires c).In-Some)
+
+pub registers-preserved : goal.registers-preserved
+registers-preserved c = put_next c.registers.invariant (next (goal.at.registers-preserved c).In-Some) c.in_ok-push_register.ensures
+
+pub registers-smaller : goal.registers-smaller
+registers-smaller c = shorter (next (goal.at.registers-smaller c).In-Some)
 
 pub returns : goal.returns
 returns c =
-    let t = c.args.target in let shared = c.args.shared.now in let old = c.args.before.now in let new = c.args.after.now in
-    let out = c.args.out.now.items in let mid = c.push_cfa.new.out.items in let end = c.push_rules.new.out.items in
-    on_ok c.push_rules.result (end ≡ mid ++ program_bytes t (rules_from shared old new 0)) (end ≡ out ++ program_bytes t (difference shared old new))
-    (λ e. e ∙ put_behind t shared old new out mid c.in_ok-push_cfa.ensures) c.push_rules.ensures
+    put_ends c.registers.invariant (none_differs c.args.shared.now c.args.before.now c.args.after.now (place_behind c.registers.last) c.in_default.ensures.first)
+    ∙ put_behind c.args.target c.args.shared.now c.args.before.now c.args.after.now c.args.out.now.items c.push_cfa.new.out.items c.in_ok-push_cfa.ensures

@@ -15,5 +15,4 @@ returns-in_err-ops-clause-within c =
 
 pub returns-clause-only : goal.returns-clause-only
 returns-clause-only c ops block =
-    rw c.of_range.ensures
-    (one_list c.args.profile c.args.target c.args.bytes.now (map bare c.in_ok-ops.ops.items) ops (block_found c.args.profile c.args.target c.args.bytes.now (map bare c.in_ok-ops.ops.items) c.are_bytes.ensures c.in_ok-ops.ensures.found) block)
+    one_list c.args.profile c.args.target c.args.bytes.now (map bare c.in_ok-ops.ops.items) ops (block_found c.args.profile c.args.target c.args.bytes.now (map bare c.in_ok-ops.ops.items) c.are_bytes.ensures c.in_ok-ops.ensures.found) block

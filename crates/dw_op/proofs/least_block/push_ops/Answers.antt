@@ -1,11 +1,10 @@
-use Rattle.dw_op.proofs.Words.{◌≡◌, ◌+◌, ◌-◌, map, drop, get_or, length, arith, below_more, Addr, bare, blank_parts, drop_of_length-le, length-map, take-length}
-use Rattle.dw_op.proofs.Lent.EncodeLaws.{front_more, going_none, going_more, going_all, drop-bare, in_range_at, each_fits_of, too_far}
+use Rattle.dw_op.proofs.Words.{◌≡◌, ◌+◌, ◌-◌, map, drop, get_or, length, arith, below_more, Addr, bare, blank_parts, drop_of_length-le, length-map}
+use Rattle.dw_op.proofs.Lent.EncodeLaws.{going_none, going_more, going_all, drop-bare, in_range_at, each_fits_of, too_far}
 use Rattle.dw_op.proofs.least_block.push_ops.Goals as goal
 
 pub loop-index-init : goal.loop-index-init
 loop-index-init c = record {
   going = going_none c.args.target (map bare c.args.ops.now) c.args.out.now.items;
-  front = take-length c.args.out.now.items;
   fits = λ j lt. absurd (omega arith);
 }
 
@@ -26,7 +25,6 @@ loop-index-preserved c =
       going = rw c.in_ok-put_op.ensures.ok (
           let here = rw (drop-bare ops k (Addr 0) (omega arith)) at (c.loop-index.invariant.going) in
           going_more c.args.target (map bare ops) c.args.out.now.items k c.in-Some.bits (bare (get_or ops k (Addr 0))) (drop (k + 1) (map bare ops)) c.loop-index.out.items here bits.1);
-      front = rw c.in_ok-put_op.ensures.ok (front_more c.args.out.now.items c.loop-index.out.items _ c.loop-index.invariant.front);
       fits = below_more _ _ c.loop-index.invariant.fits bits.0;
     }
 

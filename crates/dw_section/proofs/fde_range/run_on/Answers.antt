@@ -1,6 +1,7 @@
-use Rattle.dw_section.proofs.{Words.{◌≡◌, List, ◌∷◌, map, refl, inl, inr, AllByRecursion, piece_in, initial_in, Has, Head, HeadsLeft, FdeHolds, FdeStuck, FdeRuns, FdeBroken, Pieces, PiecesLeft, refuses_by}, Between.between_next}
-use Rattle.dw_section.proofs.{Between.{between_stuck, between_among, between_later, between_rest}, FdeWalk.{says_holds, says_tells, says_fits, places_at, headers_exist, fields_fault}, KeptCies.{all_among, of_headers, some_headers, places_are}}
-use Rattle.dw_section.proofs.{Left.{left_all, heads_all, heads_next, heads_none, stays_then}, Stages.{all_push, handed_on}, Walk.{Walk, walk_start, walk_next, walk_end, walk_stuck}, fde_range.run_on.Goals.{In-Some, In_ok-fde}}
+use Rattle.dw_section.proofs.Words.{◌≡◌, List, ◌∷◌, Some, None, map, refl, subst, inl, inr, IsAmong, entry_in, AllByRecursion, piece_in, initial_in, Has, Head, HeadsLeft, FdeHolds, FdeStuck, FdeRuns, FdeBroken, Pieces, PiecesLeft}
+use Rattle.dw_section.proofs.{Words.refuses_by, Between.{between_next, between_stuck, between_among, between_later, between_rest, Walk, walk_start, walk_next, walk_end, walk_stuck}, FdeWalk.{says_holds, says_tells, says_fits, places_at}}
+use Rattle.dw_section.proofs.{FdeWalk.{headers_exist, fields_fault}, KeptCies.{all_among, of_headers, some_headers, places_are}, Left.{left_all, heads_all, heads_next, heads_none, stays_then}, Stages.{all_push, handed_on}}
+use Rattle.dw_section.proofs.{Tables.judged_cie, fde_range.run_on.Goals.{In-Some, In-Some-2, In_ok-fde}}
 use Rattle.dw_section.proofs.fde_range.run_on.Goals as goal
 
 -- the header of the piece that comes next
@@ -11,7 +12,7 @@ next c hs w = heads_next c.args.target c.args.places.now c.pieces.cursor c.next_
 -- the fields of the pieces up to it hold
 held : (c : In_ok-fde) → Walk PiecesLeft (Pieces c.args.target c.args.bytes.now) (λ ps. AllByRecursion (FdeHolds c.args.target c.args.places.now)) (record { at = 0; bytes = c.args.bytes.now; target = c.args.target }) c.next_piece.new.cursor
 held c = walk_next _ _ _ c.pieces.invariant.0 c.in-Some.ensures.on.0 c.in-Some.ensures.gives
-    (λ ps p w more is. all_push (FdeHolds c.args.target c.args.places.now) w.front (piece_in c.in-Some.piece) w.so (says_holds c.args.target c.args.places.now (piece_in c.in-Some.piece) c.in_ok-fde.fde c.in_ok-fde.ensures.found))
+    (λ ps p w more is. all_push (FdeHolds c.args.target c.args.places.now) w.front (piece_in c.in-Some.piece) w.so (says_holds c.args.target c.args.places.now (piece_in c.in-Some.piece) c.in_ok-fde.field-0 c.in_ok-fde.ensures.found))
 
 pub pieces-init : goal.pieces-init
 pieces-init c =
@@ -25,24 +26,47 @@ pieces-init c =
       λ hs all. c.requires.led hs,
     )
 
-pub judge_next-requires : goal.judge_next-requires
-judge_next-requires c =
+pub judge-requires : goal.judge-requires
+judge-requires c =
     let q = c.requires.cies in
     let cs = c.args.initials.now in
     let places = places_are c.args.target q.0 c.args.places.now cs q.2 in
     let ks = map initial_in cs in
     let all = all_among ks cs (some_headers cs) in
+    let says = rw c.in-Some-2.is at c.in_ok-fde.ensures.found in
+    let at = rw c.in-Some-2.is at c.in_ok-fde.ensures.at in
     record {
-      fits = rw places (says_fits c.args.target c.args.places.now (piece_in c.in-Some.piece) c.in_ok-fde.fde _ c.in-Some.ensures.below c.in_ok-fde.ensures.found c.in_ok-fde.ensures.at);
+      fits = rw places (says_fits c.args.target c.args.places.now (piece_in c.in-Some.piece) (Some c.in-Some-2.fde) _ c.in-Some.ensures.below says at);
       each = (ks, all, c.pieces.invariant.2 ks all);
     }
+
+-- a CIE more
+pub pieces-preserved-in_default-2 : goal.pieces-preserved-in_default-2
+pieces-preserved-in_default-2 c =
+    let t = c.args.target in
+    let places = c.args.places.now in (
+      held (goal.at.pieces-preserved-in_default-2 c).In_ok-fde,
+      record {
+        stays = stays_then _ c.pieces.cursor c.next_piece.new.cursor c.pieces.invariant.1.stays c.in-Some.ensures.on.0;
+        at = λ hs headers.
+            let w = c.pieces.invariant.1.at hs headers in
+            let h = next (goal.at.pieces-preserved-in_default-2 c).In-Some w.rest w.left in
+            let tells = says_tells t places (piece_in c.in-Some.piece) None h.0 (rw c.in_default-2.is at c.in_ok-fde.ensures.found) h.3 in
+            between_next hs w h.0 h.1 h.2 h.4 (judged_cie t hs w.front h.0 c.pieces.judged.lacking c.pieces.judged.list.items tells w.so);
+      },
+      c.pieces.invariant.2,
+    )
+
+-- the header of the FDE that was judged
+told : (c : In-Some-2) (h : Head) → Has c.args.target c.args.places.now (piece_in c.in-Some.piece) h → h ≡ entry_in c.in-Some-2.fde
+told c h has = says_tells c.args.target c.args.places.now (piece_in c.in-Some.piece) (Some c.in-Some-2.fde) h (rw c.in-Some-2.is at c.in_ok-fde.ensures.found) has
 
 pub pieces-preserved : goal.pieces-preserved
 pieces-preserved c =
     let q = c.requires.cies in
     let t = c.args.target in
     let places = c.args.places.now in
-    let judge = c.in_default-judge_next.ensures in (
+    let judge = c.in_default-judge.ensures in (
       held (goal.at.pieces-preserved c).In_ok-fde,
       record {
         stays = stays_then _ c.pieces.cursor c.next_piece.new.cursor c.pieces.invariant.1.stays c.in-Some.ensures.on.0;
@@ -51,8 +75,9 @@ pieces-preserved c =
             let h = next (goal.at.pieces-preserved c).In-Some w.rest w.left in
             let of = of_headers t c.args.bytes.now q.0 places c.args.initials.now q.1 q.2 hs headers in
             let all = all_among hs c.args.initials.now of in
-            let tells = says_tells t places (piece_in c.in-Some.piece) c.in_ok-fde.fde h.0 c.in_ok-fde.ensures.found h.3 in
-            between_next hs w h.0 h.1 h.2 h.4 (judge.found hs w.front h.0 tells all (c.requires.run hs of) (c.pieces.invariant.2 hs all) (between_among hs w h.0 h.1 h.2) w.so);
+            let is = told (goal.at.pieces-preserved c).In-Some-2 h.0 h.3 in
+            let among = subst (λ (x : Head). IsAmong x hs) is (between_among hs w h.0 h.1 h.2) in
+            between_next hs w h.0 h.1 h.2 h.4 (rw is (judge.found hs w.front all (c.requires.run hs of) (c.pieces.invariant.2 hs all) among w.so));
       },
       λ hs all. judge.led hs all (c.pieces.invariant.2 hs all),
     )
@@ -79,9 +104,9 @@ returns-in-Err-clause-first c =
           let of = of_headers t s q.0 places c.args.initials.now q.1 q.2 hs.0 hs.1 in
           let runs = c.requires.run hs.0 of in
           let all = all_among hs.0 c.args.initials.now of in
-          let tells = says_tells t places (piece_in c.in-Some.piece) c.in_ok-fde.fde h.0 c.in_ok-fde.ensures.found h.3 in
-          rw broken.0 (refuses_by c.in-Err.broken _ _ (λ r stuck. inl (inr (hs.0, (hs.1, runs), between_stuck (FdeRuns t hs.0) (FdeBroken t hs.0) hs.0 v h.0 h.1 r h.2 v.so.run stuck)))
-          (c.in-Err.ensures.stuck hs.0 h.0 tells all runs (c.pieces.invariant.2 hs.0 all)))
+          let is = told (goal.at.returns-in-Err-clause-first c).In-Some-2 h.0 h.3 in
+          rw broken.0 (refuses_by c.in-Err.broken _ _ (λ r stuck. inl (inr (hs.0, (hs.1, runs), between_stuck (FdeRuns t hs.0) (FdeBroken t hs.0) hs.0 v h.0 h.1 r h.2 v.so.run (rw is stuck))))
+          (c.in-Err.ensures.stuck hs.0 all runs (c.pieces.invariant.2 hs.0 all)))
     ]
 
 pub returns-clause-found : goal.returns-clause-found

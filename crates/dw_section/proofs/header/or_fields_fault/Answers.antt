@@ -1,4 +1,4 @@
-use Rattle.dw_section.proofs.{Words.{refl, inl, inr, piece_in, FdeHolds}, FdeWalk.says_holds, Stages.all_push, Walk.{walk_start, walk_next, walk_end, walk_stuck}}
+use Rattle.dw_section.proofs.{Words.{refl, inl, inr, piece_in, FdeHolds}, FdeWalk.says_holds, Stages.all_push, Between.{walk_start, walk_next, walk_end, walk_stuck}}
 use Rattle.dw_section.proofs.header.or_fields_fault.Goals as goal
 
 pub pieces-init : goal.pieces-init

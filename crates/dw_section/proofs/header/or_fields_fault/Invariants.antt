@@ -1,4 +1,4 @@
-use Rattle.dw_section.proofs.{Words.{length, AllByRecursion, PiecesLeft, FdeHolds}, Walk.Walk}
+use Rattle.dw_section.proofs.{Words.{length, AllByRecursion, PiecesLeft, FdeHolds}, Between.Walk}
 use Rattle.dw_section.proofs.header.or_fields_fault.Given as goal
 
 abbrev pub invariant-pieces : goal.invariant-pieces

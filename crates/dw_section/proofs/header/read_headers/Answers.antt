@@ -1,5 +1,5 @@
-use Rattle.dw_section.proofs.{Words.{inr, map-append, piece_in, Has, CieHolds, head_in, all_zipped_more}, Between.between_among, Lent.Index.all_in, Walk.{walk_start, walk_next, walk_end, walk_stuck}, Lent.HeaderLaws.has_fde}
-use Rattle.dw_section.proofs.{Left.{headers_so, left_all}, Stages.{all_from_zip, handed_on}}
+use Rattle.dw_section.proofs.{Words.{inr, map-append, piece_in, Has, CieHolds, head_in, all_zipped_more}, Between.{between_among, walk_start, walk_next, walk_end, walk_stuck}, Lent.{Index.all_in, HeaderLaws.has_fde}, Left.headers_so}
+use Rattle.dw_section.proofs.{Left.left_all, Stages.{all_from_zip, handed_on}}
 use Rattle.dw_section.proofs.header.read_headers.Goals as goal
 
 pub pieces-init : goal.pieces-init

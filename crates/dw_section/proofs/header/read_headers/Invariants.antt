@@ -1,4 +1,4 @@
-use Rattle.dw_section.proofs.{Words.{length, map, AllZip, PiecesLeft, Has, head_in, CiesHold}, Walk.Walk}
+use Rattle.dw_section.proofs.{Words.{length, map, AllZip, PiecesLeft, Has, head_in, CiesHold}, Between.Walk}
 use Rattle.dw_section.proofs.header.read_headers.Given as goal
 
 abbrev pub invariant-pieces : goal.invariant-pieces

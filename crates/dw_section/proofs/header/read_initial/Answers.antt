@@ -1,6 +1,5 @@
 use Rattle.std.proofs.lemmas.Int.{to_z-of_z}
-use Rattle.dw_section.proofs.Words.{arith, refl, inl, w64, piece_in, program_of, IsCie}
-use Rattle.dw_section.proofs.{Lent.FieldTable.{cie_numbers, cie_said}, Lent.HeaderLaws.{reads_fields, fields_end}, header.read_initial.Goals.In_ok-fields}
+use Rattle.dw_section.proofs.{Words.{arith, refl, inl, w64, piece_in, program_of, IsCie}, Lent.{FieldTable.{cie_numbers, cie_said}, HeaderLaws.{reads_fields, fields_end}}, header.read_initial.Goals.In_ok-fields}
 use Rattle.dw_section.proofs.header.read_initial.Goals as goal
 
 is : (c : In_ok-fields) → IsCie c.args.target (piece_in c.args.piece.now) c.in_ok-fields.fields (program_of c.read_cie.new.cursor)

@@ -9,9 +9,6 @@ apart c =
     let told = c.in_ok-place.ensures {u = tt} in
     rw (c.in_default.is, c.deref.ensures.value) at told
 
-pub gather-requires : goal.gather-requires
-gather-requires c = c.nothing_gathered-kept.ensures c.args.limit
-
 pub first_overlap-requires : goal.first_overlap-requires
 first_overlap-requires c =
     let kept = c.gather.new.kept in
@@ -28,12 +25,12 @@ returns-in-Some-fault-clause-first c =
     let at = goal.at.returns-in-Some-fault-clause-first c in
     later_fault (rw c.in-Some-fault.is at (gathered at.In_ok-fault)) (apart at.In_default)
 
-pub new-requires : goal.new-requires
-new-requires c = let at = goal.at.new-requires c in record { apart = apart at.In_default; within = kept_within c.requires (gathered at.In_ok-fault) }
+pub new-requires-4 : goal.new-requires-4
+new-requires-4 c = let at = goal.at.new-requires-4 c in record { apart = apart at.In_default; within = kept_within c.requires (gathered at.In_ok-fault) }
 
 pub returns-clause-found : goal.returns-clause-found
 returns-clause-found c =
     let at = goal.at.returns-clause-found c in
     let h = rw c.in_default-fault.is at (gathered at.In_ok-fault) in
     let k = h.keeps in
-    (h.statements, all_said h (apart at.In_default), record { pc = k.pc; registers = k.registers; memory = λ a. c.new.ensures a ∙ kept_byte h a })
+    (h.statements, all_said h (apart at.In_default), record { pc = k.pc; registers = k.registers; memory = λ a. c.new-4.ensures a ∙ kept_byte h a })

@@ -2,12 +2,15 @@ use Rattle.dw_unwind.proofs.{Words.{subst, sym, HexPairs}, LineParts.{digits_lac
 use Rattle.dw_unwind.proofs.line.memory_line.Goals as goal
 
 pub returns-in_default : goal.returns-in_default
-returns-in_default c = λ v bytes said. c.in_default.ensures v said.1 (said.0, said.2, said.4)
+returns-in_default c = λ v bytes said. c.in_default.ensures said.0 said.1 (digits_lack_space 16 0 v said.0 said.2.number) said.4
+
+pub returns-in_default-hexadecimal : goal.returns-in_default-hexadecimal
+returns-in_default-hexadecimal c = λ v bytes said.
+    c.in_default-hexadecimal.ensures v (memory_parts c.args.line.now c.in-Some.digits.now c.in-Some.pairs.now c.in-Some.ensures.0 c.in-Some.ensures.1 v said.1 (said.0, said.2, said.4)).is_start
 
 pub returns-in-None : goal.returns-in-None
 returns-in-None c = λ v bytes said.
-    let mine = c.in-Some.ensures in
-    let parts = memory_parts c.args.line.now mine.0 c.in-Some.text.now (digits_lack_space 16 0 c.in-Some.start mine.0 mine.1.number) mine.2 v said.1 (said.0, said.2, said.4) in
+    let parts = memory_parts c.args.line.now c.in-Some.digits.now c.in-Some.pairs.now c.in-Some.ensures.0 c.in-Some.ensures.1 v said.1 (said.0, said.2, said.4) in
     let told = c.in_ok-bytes.ensures {u = tt} in
     let none = rw c.in-None.is at told in
     none bytes (subst (HexPairs bytes) (sym parts.behind) said.3)

@@ -1,5 +1,5 @@
 use Rattle.clap.specs.declared.builder.command.Command.{Command}
-use Rattle.dw_words.proofs.Words.{◌∙◌, ◌||◌, Bool, ap₂, get_or, take, AddsSubcommand, App, IsCommand, with_subcommand, program, Name, subcommand_named, with_subcommands}
+use Rattle.dw_words.proofs.Words.{◌∙◌, ◌||◌, Bool, ap₂, get_or, take, AddsSubcommand, App, IsCommand, with_subcommand, program, Name, command_named, with_subcommands}
 use Rattle.std.proofs.lemmas.List.Sums.{fold_more}
 use Rattle.dw_words.specs.declared.request.Name.TheVariants.{At}
 use Rattle.dw_words.proofs.command_line.with_subcommands.Goals as goal
@@ -11,6 +11,6 @@ pub loop-name-preserved : goal.loop-name-preserved
 loop-name-preserved c =
     let names = c.args.names.now in
     let i = c.loop-name.name-index in
-    let one = listed (with_subcommands (take i names)) (subcommand_named (get_or names i At)) c.loop-name.command c.in_ok-subcommand_named.field-0 c.in_ok-command.command c.loop-name.invariant
+    let one = listed (with_subcommands (take i names)) (command_named (get_or names i At)) c.loop-name.command c.in_ok-subcommand_named.field-0 c.in_ok-command.command c.loop-name.invariant
     c.in_ok-subcommand_named.ensures c.in_ok-command.ensures in
-    rw (fold_more (λ (a : App) (n : Name). with_subcommand a (subcommand_named n).top) program names i At c.loop-name-test.true) one
+    rw (fold_more (λ (a : App) (n : Name). with_subcommand a (command_named n).top) program names i At c.loop-name-test.true) one

@@ -1,5 +1,5 @@
 use Rattle.std.proofs.lemmas.Fmt.{decimal_digit}
-use Rattle.dw_command.proofs.{Words.{◌≡◌, ◌∙◌, ◌++◌, ◌+◌, ◌∷◌, ◌/◌, ◌%◌, [], ℕ, List, ap, arith, decimal, sym, subst, decimal_two, decimal_pair, Fills}, Puts.{filled, in_room}}
+use Rattle.dw_command.proofs.{Words.{◌≡◌, ◌∙◌, ◌++◌, ◌+◌, ◌∷◌, ◌/◌, ◌%◌, [], ℕ, List, ap, arith, decimal, decimal_two, decimal_pair}, Puts.{filled, in_room}}
 use Rattle.dw_command.proofs.listing.Listing.decimal.Goals as goal
 
 pub returns-then-number-lt10-clause-fills : goal.returns-then-number-lt10-clause-fills

@@ -1,5 +1,5 @@
 use Rattle.std.proofs.lemmas.Nat.{shr_le}
-use Rattle.dw_command.proofs.{Words.{◌≡◌, ◌∙◌, ◌++◌, ◌-◌, ◌*◌, ◌/◌, ◌%◌, ◌^◌, ◌<◌, ◌≤◌, ◌∷◌, [], List, ℕ, false, inl, inr, ap, arith, refl, sym, subst, digits, digit_glyph, Fills}, Digits.{byte_more, byte_of}, Puts.filled}
+use Rattle.dw_command.proofs.{Words.{◌≡◌, ◌∙◌, ◌++◌, ◌-◌, ◌*◌, ◌/◌, ◌%◌, ◌^◌, ◌≤◌, ◌∷◌, [], List, ℕ, false, inl, inr, ap, arith, refl, sym, subst, digits, digit_glyph, Fills}, Digits.{byte_more, byte_of}, Puts.filled}
 use Rattle.dw_command.proofs.listing.Listing.hex.Goals as goal
 
 pub bytes-preserved : goal.bytes-preserved

@@ -9,7 +9,7 @@ returns-in-Some c =
     let so : SoughtSo (w.here.at + 3) c.sought.new.self = rw c.at-at.ensures.place at c.in-Some.ensures.so in
     let found : Some c.in-Some.before ≡ find_at (sum_in w.measure Location (block_of (gone_on w c.next_step.new.cursor n))) (goes_to (w.here.at + 3) c.in-Jump.number) = rw c.at-at.ensures.place at c.in-Some.ensures.exact in
     walked_branch w (bare_step c.in_ok-step.step) c.next_step.new.cursor n c.requires c.in_ok-step.ensures is_n c.in-Jump.branch c.in-Jump.number (ap bare_step c.in-Jump.is) c.sought.new.self (Some c.in-Some.before) found
-    (bare c.named.result) c.named.ensures so c.in-Some.ensures.here c.in-Some.ensures.bytes c.in-Some.ensures.measure c.in-Some.ensures.count
+    (bare c.named.result) c.named.ensures so c.in-Some.ensures.stays.here c.in-Some.ensures.stays.bytes c.in-Some.ensures.stays.measure c.in-Some.ensures.stays.count
 
 pub returns-in-None : goal.returns-in-None
 returns-in-None c =

@@ -1,4 +1,4 @@
-use Rattle.dw_section.proofs.{Words.{refl, ap, subst, Target, Section}, Extents.found_lengths, Opened.{Opens, found_opening, only_opening}}
+use Rattle.dw_section.proofs.{Words.{refl, ap, subst, Target, Section}, RowLookup.{found_lengths, Opens, found_opening, only_opening}}
 use Rattle.dw_section.proofs.table.Table.opening.Goals as goal
 
 pub returns : goal.returns

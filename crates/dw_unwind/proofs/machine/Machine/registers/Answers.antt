@@ -1,4 +1,4 @@
-use Rattle.dw_unwind.proofs.{Words.{ℕ, Option, Err, subst, arith, err_from_is_err_and, context, Over, Adds, IsLeft, RegistersAre, RegistersFail}, ColumnLaws.over_error, FrameLaws.{left_before, left_none, so_all}}
+use Rattle.dw_unwind.proofs.{Words.{ℕ, Option, Err, subst, arith, err_from_is_err_and, context, Over, Adds, IsLeft, RegistersAre, RegistersFail}, ColumnLaws.over_error, FrameLaws.{left_before, left_none, not_listed, so_all}}
 use Rattle.dw_unwind.proofs.machine.Machine.registers.Goals as goal
 
 pub returns-in_err-add-clause-so : goal.returns-in_err-add-clause-so
@@ -27,9 +27,9 @@ returns-clause-so g c =
     let row = m.row.now in
     let world = context m.env (g.M.Memory.byte c.args.memory.now) in
     let from = c.registers.from in
-    let end = c.max-end.result in
+    let end = c.max.result in
     let none = left_none row from (subst (IsLeft row from) c.in-None.ensures.steps.0 c.registers.invariant.left) in
     let so = c.in_ok-add_all_given.ensures (g.M.Memory.byte c.args.memory.now) c.registers.invariant.so_far in
     let all = so_all world m.steps m.default row m.return_register c.args.cfa end c.add_all_given.new.room so
-    (λ r le. c.end.ensures.beyond r (omega (arith, le, c.max-end.ensures)) (none r (omega (arith, le, c.max-end.ensures)))) in
+    (λ r le. not_listed world.register row m.return_register r (c.end.ensures.beyond r (omega (arith, le, c.max.ensures, c.max-end.ensures))) (none r (omega (arith, le, c.max.ensures))) (omega (arith, le, c.max.ensures, c.max-end.ensures, c.from.ensures))) in
     (rw c.lent.ensures all, c.registers.invariant.count)

@@ -1,9 +1,0 @@
-use Rattle.dw_library.proofs.{Words.{rules, refl, fde_in}, Changed.written_more}
-use Rattle.dw_library.proofs.changes.put_change.Goals as goal
-
-pub returns : goal.returns
-returns c = λ done changes buffer w.
-    let a = c.args in
-    written_more (fde_in a.entry.now) done (a.address, a.row.now) changes a.out.now c.put_at.new.out buffer a.rules.now _ c.put_rules-count.new.out a.before _ c.min-place.result c.put_rules-count.result
-    w (search rules) (search rules) c.min-place.ensures c.put_rules-count.ensures.rules refl c.put_rules-count.ensures.count
-    (rw (c.told_row-row.ensures.exact, c.fde_in.ensures.is) at c.put_at.ensures.inside) c.put_at.ensures.outside (search rules) (search rules)

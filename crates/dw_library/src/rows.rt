@@ -1,0 +1,269 @@
+//! Many rows by one call: those of many addresses, and those of an FDE, one after another.
+
+ghost use Rattle.std.specs.{Prelude.{◌≡◌, ◌+◌, ◌^◌, ◌<◌, ◌≤◌, ◌++◌, ℕ, List, [], ◌∷◌, length, slice_index_or, IfOk, OnErr}, List.AllByRecursion};
+ghost use Rattle.dw_cfa.specs.Rows.{Rules};
+ghost use Rattle.dw_section.specs.{Meaning.AreFdes, Ranges.fde_in, declared.lookup.Fde.{Fde as TheFde}};
+ghost use Rattle.dw_library.specs.{Answers.target_of, Changes.{AreAllChanges, AreWritten, Fits, TellsChanges, TellsCovering, Told, no_totals}};
+ghost use Rattle.dw_library.specs.{Index.over, Looks.{AreLooks, IsLook, Look, TellsLooks, ToldRows}, declared.index.Rule.{Rule as TheRule}};
+ghost use Rattle.dw_library.specs.{declared.rows.Change.{Change as TheChange}, Inner.{Changes.IsLow, Looks.IsLeft}};
+
+use crate::answer::{Refused, Section, put_at, refuse, target_of};
+use crate::index::{Row, Rule, told_row};
+use crate::names::Status;
+use dw_cfa::{Row as CfaRow, RowRoom};
+use dw_num::ReadError;
+use dw_section::{Changes, Fde, FdeRef, Ranged, Table, check};
+use std::alloc::{AllocError, Global};
+
+// Where the next rules go in a buffer, and whether those before did not all fit.
+#[derive(Clone, Copy)]
+struct Room {
+    place: usize,
+    short: bool,
+}
+
+// What is left of a room of so many rules behind so many more of them.
+fn behind(room: Room, count: usize, size: usize) -> Room
+    requires { room.place ≤ size }
+    ensures { (before own : List TheRule) → IsLeft size before room → count ≡ length own → IsLeft size (before ++ own) result }
+{
+    let left = size - room.place;
+    Room {
+        place: room.place + count.min(left),
+        short: room.short || left < count,
+    }
+}
+
+// Writes the row of an address, and its rules to the front of a buffer, and tells how many rules there are.
+fn put_look<'a>(
+    table: &Table<'a>,
+    room: &mut RowRoom<'a>,
+    address: u64,
+    row: &mut Row,
+    rules: &mut [Rule],
+) -> Result<usize, AllocError>
+    ensures look { IfOk result (λ count. (l : Look) × IsLook table.now.target table.now.bytes address l × (row.new ≡ l.row) × (rules.new ≡ over l.rules rules.old) × (count ≡ length l.rules)) }
+    ensures kept { OnErr result ((row.new ≡ row.old) × (rules.new ≡ rules.old)) }
+{
+    table.accepted();
+    let Some(found) = table.look_up(address, room)? else {
+        *row = Row::default();
+        return Ok(0);
+    };
+    *row = told_row(found, room.row(), rules);
+    Ok(row.count)
+}
+
+// Writes a row for each address, and their rules one after another.
+fn put_looks<'a>(
+    table: &Table<'a>,
+    row_room: &mut RowRoom<'a>,
+    addresses: &[u64],
+    rows: &mut [Row],
+    rules: &mut [Rule],
+    done: &mut usize,
+) -> u32
+    requires rows { length addresses.now ≤ length rows.old }
+    requires done { done.old ≡ 0 }
+    ensures { TellsLooks table.now.target table.now.bytes addresses.now rows.old rules.old (record { status = result; done = done.new; rows = rows.new; rules = rules.new }) }
+{
+    let mut room = Room {
+        place: 0,
+        short: false,
+    };
+    let size = rules.len();
+    'addresses: for place in 0..addresses.len() {
+        let (address, row) = (addresses[place], &mut rows[place]);
+        let Ok(count) = put_look(table, row_room, address, row, &mut rules[room.place..]) else {
+            return Status::OutOfMemory as u32;
+        };
+        room = behind(room, count, size);
+        *done = place + 1;
+    }
+    if room.short {
+        return Status::TooShort as u32;
+    }
+    Status::Ok as u32
+}
+
+/// The rows of many addresses: the section is judged once, and each address is looked up in it. Where there are fewer rows
+/// than addresses it answers `TOO_SHORT`, and nothing is written.
+#[unsafe(no_mangle)]
+pub extern "C" fn dwframe_rows_at(
+    alloc: Global,
+    section: &Section<'_>,
+    addresses: &[u64],
+    rows: &mut [Row],
+    rules: &mut [Rule],
+    done: &mut usize,
+    refused: &mut Refused,
+) -> u32
+    ensures { let told : ToldRows = record { status = result; done = done.new; rows = rows.new; rules = rules.new } in AreLooks (target_of section.now.address_size section.now.byte_order) section.now.bytes.now addresses.now rows.old rules.old told refused.new }
+{
+    *done = 0;
+    *refused = Refused::default();
+    let Some(target) = target_of(section.address_size, section.byte_order) else {
+        return Status::BadArgument as u32;
+    };
+    if rows.len() < addresses.len() {
+        return Status::TooShort as u32;
+    }
+    match check(alloc, section.bytes, target) {
+        Ok(table) => {
+            let mut room = RowRoom::new(alloc);
+            put_looks(&table, &mut room, addresses, rows, rules, done)
+        }
+        Err(ReadError::Refused(refusal)) => refuse(refused, 1, refusal),
+        Err(ReadError::OutOfMemory) => Status::OutOfMemory as u32,
+    }
+}
+
+/// A row of an FDE (6.4.1), and the first address that has it: the begin of the FDE, or one at which a rule is not that one address
+/// before. The row holds up to the next one, or to the end of the FDE.
+#[repr(C)]
+#[derive(Clone, Copy)]
+pub struct Change {
+    /// The first address that has the row.
+    pub address: u64,
+    /// The row.
+    pub row: Row,
+}
+
+/// How many rows an FDE has, and how many rules of registers they have together, each 2^64 - 1 where there are more.
+#[repr(C)]
+#[derive(Clone, Copy, Default)]
+pub struct Totals {
+    /// How many rows.
+    pub changes: usize,
+    /// How many rules of registers.
+    pub rules: usize,
+}
+
+fn fde_in(entry: &Ranged) -> Fde
+    ensures is { result ≡ fde_in entry.now }
+    ensures range { (range : ℕ) × (range < 2 ^ 64) × (result.end ≡ result.begin + range) }
+{
+    Fde {
+        begin: entry.begin,
+        end: u128::from(entry.begin) + u128::from(entry.range),
+        return_register: entry.return_register,
+    }
+}
+
+// Writes a change and its rules behind those before, as far as they fit, and says how many there are then.
+fn put_change(
+    row: &CfaRow<'_>,
+    entry: &Ranged,
+    address: u64,
+    before: Totals,
+    out: &mut [Change],
+    rules: &mut [Rule],
+) -> Totals
+    ensures { (done : List (ℕ × Rules)) (changes : List TheChange) (buffer : List TheRule) → AreWritten (fde_in entry.now) done changes buffer out.old rules.old before → AreWritten (fde_in entry.now) (done ++ (address, row.now) ∷ []) changes buffer out.new rules.new result }
+{
+    let place = before.rules.min(rules.len());
+    let row = told_row(fde_in(entry), row, &mut rules[place..]);
+    put_at(Change { address, row }, out, before.changes);
+    Totals {
+        changes: before.changes.saturating_add(1),
+        rules: before.rules.saturating_add(row.count),
+    }
+}
+
+// Writes the changes that are still to come.
+fn put_changes(
+    changes: &mut Changes<'_>,
+    entry: &Ranged,
+    out: &mut [Change],
+    rules: &mut [Rule],
+) -> Result<Totals, AllocError>
+    requires low { AllByRecursion IsLow changes.old.to_come }
+    ensures { IfOk result (λ totals. AreWritten (fde_in entry.now) changes.old.to_come out.old rules.old out.new rules.new totals) }
+{
+    let mut totals = Totals::default();
+    'told: while let Some(address) = changes.advance()? {
+        let Some(row) = changes.row() else {
+            unreachable!();
+        };
+        totals = put_change(row, entry, address as u64, totals, out, rules);
+    }
+    Ok(totals)
+}
+
+// Whether so many changes and rules fit into rooms of these sizes.
+fn fitting(totals: Totals, out: usize, rules: usize) -> u32
+    ensures { Fits totals out rules result }
+{
+    if totals.changes <= out && totals.rules <= rules {
+        return Status::Ok as u32;
+    }
+    Status::TooShort as u32
+}
+
+// Writes the changes of an FDE.
+fn put_fde(
+    table: &Table<'_>,
+    fde: FdeRef,
+    out: &mut [Change],
+    rules: &mut [Rule],
+    needed: &mut Totals,
+) -> Result<u32, AllocError>
+    requires place { (fs : List TheFde) → AreFdes table.now.target table.now.bytes fs → fde.place < length fs }
+    ensures told { IfOk result (λ status. (f : TheFde) × ((fs : List TheFde) → AreFdes table.now.target table.now.bytes fs → (d : TheFde) → f ≡ slice_index_or fs fde.place d) × TellsChanges table.now.target table.now.bytes f out.old rules.old (record { status = status; changes = out.new; rules = rules.new; needed = needed.new })) }
+    ensures kept { OnErr result (needed.new ≡ needed.old) }
+{
+    table.accepted();
+    let entry = table.index()[fde.place];
+    let mut changes = table.changes(fde);
+    let totals = put_changes(&mut changes, &entry, out, rules)?;
+    *needed = totals;
+    Ok(fitting(totals, out.len(), rules.len()))
+}
+
+// Writes the changes of the FDE that covers an address.
+fn put_covering(
+    table: &Table<'_>,
+    address: u64,
+    out: &mut [Change],
+    rules: &mut [Rule],
+    needed: &mut Totals,
+) -> u32
+    requires none { needed.old ≡ no_totals }
+    ensures { let told : Told = record { status = result; changes = out.new; rules = rules.new; needed = needed.new } in TellsCovering table.now.target table.now.bytes address out.old rules.old told }
+{
+    table.accepted();
+    let Some(fde) = table.fde_at(address) else {
+        return Status::NoFde as u32;
+    };
+    match put_fde(table, fde, out, rules, needed) {
+        Ok(status) => status,
+        Err(_) => Status::OutOfMemory as u32,
+    }
+}
+
+/// The rows of the FDE that covers an address, one after another. The section is judged, and the FDE's program is run once. The rows
+/// are written to `changes` and the rules of their registers one after another to `rules`, as many as fit, and `needed` says how
+/// many there are of both. Behind `OUT_OF_MEMORY` it says 0, and both buffers hold anything.
+#[unsafe(no_mangle)]
+pub extern "C" fn dwframe_changes(
+    alloc: Global,
+    section: &Section<'_>,
+    address: u64,
+    changes: &mut [Change],
+    rules: &mut [Rule],
+    needed: &mut Totals,
+    refused: &mut Refused,
+) -> u32
+    ensures { let told : Told = record { status = result; changes = changes.new; rules = rules.new; needed = needed.new } in AreAllChanges (target_of section.now.address_size section.now.byte_order) section.now.bytes.now address changes.old rules.old told refused.new }
+{
+    *needed = Totals::default();
+    *refused = Refused::default();
+    let Some(target) = target_of(section.address_size, section.byte_order) else {
+        return Status::BadArgument as u32;
+    };
+    match check(alloc, section.bytes, target) {
+        Ok(table) => put_covering(&table, address, changes, rules, needed),
+        Err(ReadError::Refused(refusal)) => refuse(refused, 1, refusal),
+        Err(ReadError::OutOfMemory) => Status::OutOfMemory as u32,
+    }
+}

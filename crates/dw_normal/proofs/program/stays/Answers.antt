@@ -1,5 +1,0 @@
-use Rattle.dw_normal.proofs.Words.{cfa_test_of}
-use Rattle.dw_normal.proofs.program.stays.Goals as goal
-
-pub returns : goal.returns
-returns c = cfa_test_of c.args.old.now c.args.new.now c.is_same.result c.is_same.ensures

@@ -1,5 +1,0 @@
-use Rattle.dw_words.proofs.Words.{◌≡◌, drop, checked_behind}
-use Rattle.dw_words.proofs.values.scanned.Given as goal
-
-abbrev pub invariant-loop-byte : goal.invariant-loop-byte
-invariant-loop-byte l = checked_behind l.base 0 l.text ≡ checked_behind l.base l.number (drop l.byte-index l.text)
