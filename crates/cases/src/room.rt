@@ -32,11 +32,7 @@ fn walked<'a>(alloc: Global, pair: Pair<'a>, walk: &mut RowWalk<'a>) -> Result<S
 }
 
 // Whether a walk keeps the CIE's row before its first one, that row, the second row, and where that ends.
-fn walked_on<'a>(
-    alloc: Global,
-    pair: Pair<'a>,
-    walk: &mut RowWalk<'a>,
-) -> Result<String, Fail> {
+fn walked_on<'a>(alloc: Global, pair: Pair<'a>, walk: &mut RowWalk<'a>) -> Result<String, Fail> {
     go_to(walk, pair);
     let is_kept = walk.keep_initial()?;
     let initial = row_text(alloc, walk.kept())?;

@@ -5,7 +5,9 @@ ghost use Rattle.std.specs.Prelude.{◌<◌, ◌≤◌, length, false};
 ghost use Rattle.dw_num.specs.Target.{address_limit};
 ghost use Rattle.dw_cfa.specs.Inner.{ByOpcode.operands_at, FrontInstr.instr_at, Runs.RunsSo, Turns.{Does, IsWithinLimit, Stays, Taken, Turned}};
 
-use crate::common::{run_def_cfa, run_def_cfa_offset, run_def_cfa_offset_sf, run_fixed_advance, run_offset};
+use crate::common::{
+    run_def_cfa, run_def_cfa_offset, run_def_cfa_offset_sf, run_fixed_advance, run_offset,
+};
 use crate::instr::Factors;
 use crate::keep::Keep;
 use crate::machine::{End, refuse, refused};

@@ -34,4 +34,3 @@ returns-clause-found c = λ hs front all runs led listed w.
     let kept = c.in_ok-keep_range.ensures in
     rw (c.or-judged.ensures, c.then_some.ensures)
     (judged_more c.args.target hs front (entry_in c.args.fde.now) c.args.judged.now.lacking c.in_ok-lacks.lacks c.args.judged.now.list.items c.keep_range.new.list.items w said.0 said.1 kept.found (kept.each hs (among here hs all) listed w.each))
-
