@@ -1,8 +1,9 @@
 -- The row of an address, found row by row from the end.
 use Rattle.std.proofs.{Common.{◌≡◌, ℕ, ◌<◌, ◌≤◌, List, [], ◌∷◌, ◌++◌, Some, None, refl, ap, subst, arith}, lemmas.Bool.{le-leb, lt-leb}}
 use Rattle.dw_num.specs.{Input.{Input, AreBytes}, Target.address_limit}
-use Rattle.dw_cfa.specs.{Gives.Gives, InitialRules.HoldsAfter, InstrSpells.ProgramSpells, Location.Counts, RowLaws.{LastHolds, OneCount}, Rows.Rules, RuleAt.{last_at, or_here}}
-use Rattle.dw_cfa.specs.declared.{execution.LocatedRow.LocatedRow, instr.Factors.Factors, instr.Instr.Instr}
+use Rattle.dw_row.specs.Rows.{Rules}
+use Rattle.dw_cfa.specs.{Gives.Gives, InitialRules.HoldsAfter, InstrSpells.ProgramSpells, Location.Counts, RowLaws.{LastHolds, OneCount}}
+use Rattle.dw_cfa.specs.{RuleAt.{last_at, or_here}, declared.{execution.LocatedRow.LocatedRow, instr.{Factors.Factors, Instr.Instr}}}
 
 -- the last row is that of an address at or above its start
 pub taken : (a : ℕ) (rows : List LocatedRow) (last : LocatedRow) → last.location ≤ a → last_at a (rows ++ last ∷ []) ≡ Some last.row

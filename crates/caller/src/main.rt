@@ -12,10 +12,10 @@ mod tests;
 ghost use Rattle.std.specs.Prelude.{List, IfOk, MatchOption};
 ghost use Rattle.dw_section.specs.{Accepted.Accepted, Meaning.{AreFdes, NoneCovers, RulesAt}, declared.lookup.Fde.Fde};
 
-use dw_cfa::{CfaRule, Row};
 use dw_eval::{Env, EvalError, evaluate};
 use dw_num::{Order, ReadError, Size, Target};
 use dw_op::ExprRef;
+use dw_row::{CfaRule, Row};
 use dw_section::check;
 use dw_unwind::Dump;
 use std::alloc::Global;

@@ -8,10 +8,11 @@ ghost use Rattle.dw_cfa.specs.{Location.Counts, RowSteps.program_input, RuleAt.l
 ghost use Rattle.dw_section.specs.{Accepted.Accepted, Meanings.SameMeaning};
 
 use dw_canon::normal_laws;
-use dw_cfa::{Factors, LocatedRow, Row, row_laws, run};
+use dw_cfa::{Factors, LocatedRow, row_laws, run};
 use dw_normal::normalise;
 use dw_num::{Program, ReadError, Target, are_bytes};
 use dw_op::{OpList, Profile, block_laws, decode};
+use dw_row::Row;
 use std::alloc::Global;
 
 /// The normal form of a section. It is accepted, and says what the section says.

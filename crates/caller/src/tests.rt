@@ -2,9 +2,10 @@
 
 use crate::TARGET;
 use crate::promised::{decoded, normal_form, rules_of};
-use dw_cfa::{CfaRule, Factors};
+use dw_cfa::Factors;
 use dw_num::Program;
 use dw_op::{Op, OpList, encode};
+use dw_row::CfaRule;
 use dw_section::check;
 use std::alloc::Global;
 use std::test::Fail;

@@ -4,14 +4,15 @@ use crate::lines::compare;
 use crate::programs::{CIE, Pair, pair_of, program};
 use crate::targets::{LITTLE, PLAIN};
 use crate::texts::located_text;
-use dw_cfa::{Row, run};
+use dw_cfa::{become_initial, run};
+use dw_row::Row;
 use std::alloc::Global;
 use std::test::Fail;
 
 /// The row that a CIE's program leaves.
 pub fn row_of(alloc: Global, cie: &[u8]) -> Result<Row<'_>, Fail> {
     let mut row = Row::blank(alloc);
-    row.become_initial(program(cie, 0xf)?, PLAIN, LITTLE)?;
+    become_initial(&mut row, program(cie, 0xf)?, PLAIN, LITTLE)?;
     Ok(row)
 }
 

@@ -4,9 +4,10 @@ use crate::lines::{compare, parts};
 use crate::programs::program;
 use crate::targets::{BIG, LITTLE, PLAIN};
 use crate::texts::{cfa_text, refusal_text, register_text};
-use dw_cfa::{CfaRule, Factors, Instr, Instructions};
+use dw_cfa::{Factors, Instr, Instructions};
 use dw_num::Target;
 use dw_op::ExprRef;
+use dw_row::CfaRule;
 use std::alloc::Global;
 use std::test::Fail;
 

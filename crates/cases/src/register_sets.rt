@@ -5,7 +5,7 @@ ghost use Rattle.std.specs.Prelude.{◌≡◌};
 use crate::copied_rows::row_of;
 use crate::lines::compare;
 use crate::texts::row_text;
-use dw_cfa::{RegisterSet, Row};
+use dw_row::{RegisterSet, Row};
 use std::alloc::Global;
 use std::test::Fail;
 

@@ -1,8 +1,8 @@
 //! Rows, rules and refusals as text.
 
-use dw_cfa::{CfaRule, RegRule, Row};
 use dw_num::Refusal;
 use dw_op::ExprRef;
+use dw_row::{CfaRule, RegRule, Row};
 use std::alloc::Global;
 use std::test::Fail;
 

@@ -5,7 +5,8 @@ use crate::lines::compare;
 use crate::programs::{Pair, go_to, pair_of};
 use crate::targets::{LITTLE, PLAIN};
 use crate::texts::register_text;
-use dw_cfa::{Row, RowWalk};
+use dw_cfa::RowWalk;
+use dw_row::Row;
 use std::alloc::Global;
 use std::test::Fail;
 

@@ -4,8 +4,8 @@ use Rattle.dw_canon.proofs.Words.{shortest_uleb, shortest_sleb, Instr, DefCfa, D
 use Rattle.dw_canon.proofs.Words.{cfa_to, either, cfa_difference, rule_difference, difference, expression_bytes, instr_bytes, program_bytes, packed}
 use Rattle.dw_canon.specs.Spelling.{instr_bytes as instr_with}
 use Rattle.dw_canon.proofs.{Sums.sum_of, Weights.{rule_len, cfa_len, register_len, abs_len, neg_len, packed_len}}
-use Rattle.dw_cfa.specs.declared.rule.CfaRule.TheVariants as cfa
-use Rattle.dw_cfa.specs.declared.rule.RegRule.TheVariants as rules
+use Rattle.dw_row.specs.declared.rule.CfaRule.TheVariants as cfa
+use Rattle.dw_row.specs.declared.rule.RegRule.TheVariants as rules
 
 -- the rules of a row are spelled in so many bytes each
 pub record RowWithin (t : Target) (most : ℕ) (each : ℕ → ℕ) (row : Rules) : Type 0 where

@@ -6,7 +6,7 @@ use Rattle.dw_canon.proofs.Words.{BlockSpells, InstrSpells, ProgramSpells, Plain
 use Rattle.dw_canon.proofs.Words.{program_bytes, advance_bytes, packed, factors, Alone}
 use Rattle.std.proofs.lemmas.Int.{fits_signed_from_abs}
 use Rattle.dw_canon.specs.Spelling.{instr_bytes as instr_with}
-use Rattle.dw_cfa.specs.declared.rule.RegRule.TheVariants as rules
+use Rattle.dw_row.specs.declared.rule.RegRule.TheVariants as rules
 
 code : (c : ℕ) (P : List ℕ → Type 0) (rest : List ℕ) → P rest → Code c P (c ∷ rest)
 code c P rest h = record { rest = rest; operands = h; whole = refl }

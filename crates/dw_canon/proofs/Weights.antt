@@ -1,6 +1,6 @@
 -- How many bytes of the normal form the rules of instructions take, against the bytes of the instructions.
-use Rattle.dw_cfa.specs.declared.rule.CfaRule.TheVariants as cfa
-use Rattle.dw_cfa.specs.declared.rule.RegRule.TheVariants as rules
+use Rattle.dw_row.specs.declared.rule.CfaRule.TheVariants as cfa
+use Rattle.dw_row.specs.declared.rule.RegRule.TheVariants as rules
 use Rattle.dw_canon.proofs.Words.{◌≡◌, ℕ, zero, suc, ◌+◌, ◌*◌, ◌<◌, ◌≤◌, true, false, cond, List, [], ◌∷◌, length, refl, ap, ◌∙◌, inl, inr, arith, ℤ, pos, negsuc, neg_ℤ, unsigned_abs, nat_lt, count_by}
 use Rattle.dw_canon.proofs.Words.{is_positive, cases_Bool, length-append, Target, Register, shortest_uleb, shortest_sleb, shortest_uleb-most, shortest_uleb-one, shortest_uleb-ten, signed_length, leb_some}
 use Rattle.dw_canon.proofs.Words.{least_block, Expression, Code, Both, least_block_exists, least_no_longer, Factors, Instr, SetLoc, Advance, DefCfaExpression, Set, CfaRule, RegRule, IsOffset, BlockSpells}

@@ -1,7 +1,7 @@
 -- The rows of two programs are spelled in the bytes that their instructions give rules in, and so is what leads from one to another.
+use Rattle.dw_row.specs.declared.rule.CfaRule.TheVariants as cfa
+use Rattle.dw_row.specs.declared.rule.RegRule.TheVariants as rules
 use Rattle.dw_cfa.specs.Column.{with_register}
-use Rattle.dw_cfa.specs.declared.rule.CfaRule.TheVariants as cfa
-use Rattle.dw_cfa.specs.declared.rule.RegRule.TheVariants as rules
 use Rattle.dw_section.proofs.Lent.Fitting.{all_onto, back_keeps}
 use Rattle.dw_canon.specs.Spelling.{instr_bytes as instr_with}
 use Rattle.dw_canon.proofs.Words.{◌≡◌, ℕ, ◌+◌, ◌*◌, ◌≤◌, List, [], ◌∷◌, ◌++◌, length, sym, subst, inl, inr, arith, ℤ, AllByRecursion, keys_of, eqb_tells, length-append, suc-mul}

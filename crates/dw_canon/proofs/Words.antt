@@ -12,13 +12,19 @@ pub use Rattle.dw_op.specs.{Expression.Expression, Least.LeastBlock, OpSpells.{A
 unfoldable pub use Rattle.dw_op.specs.Inner.LeastBlock.{least_block}
 pub use Rattle.dw_op.specs.Inner.ByOperation.{Alone, Const1s, Const1u, Const2s, Const2u, Const4s, Const4u, Const8s, Const8u, ConstForm, Consts, Constu, Lit}
 pub use Rattle.dw_op.proofs.Lent.LeastBlocks.{block_of_least, least_block_exists, least_no_longer}
+pub use Rattle.dw_row.specs.{Rows.{AreSpecified, Rules, blank, is_specified, rule, rule_in}, declared.rule.{CfaRule.CfaRule, RegRule.RegRule}}
 pub use Rattle.dw_cfa.specs.{Column.{cfa_after, cfa_change, rule_after, rule_change, with_offset}, InitialRules.{HoldsAfter, initial_cfa, initial_rule}}
-pub use Rattle.dw_cfa.specs.{InstrSpells.{BlockSpells, InstrSpells, IsOffset, ProgramSpells}, Kept.{CieKept, FdeKept, in_cie, keeps_half}, Location.{moves_location, onto, row_starts}}
-pub use Rattle.dw_cfa.specs.{Rows.{AreSpecified, Rules, blank, is_specified, rule, rule_in}, declared.execution.LocatedRow.LocatedRow, declared.instr.Factors.Factors}
-pub use Rattle.dw_cfa.specs.declared.{instr.Instr.Instr, instr.Instr.TheVariants.{Advance, DefCfa, DefCfaExpression, DefCfaOffset, DefCfaRegister, Nop, Restore, Set, SetLoc}, rule.CfaRule.CfaRule, rule.RegRule.RegRule}
+pub use Rattle.dw_cfa.specs.{InstrSpells.{BlockSpells, InstrSpells, IsOffset, ProgramSpells}, Kept.{CieKept, FdeKept, in_cie, keeps_half}}
+pub use Rattle.dw_cfa.specs.declared.instr.Instr.{Instr}
+pub use Rattle.dw_cfa.specs.declared.instr.Instr.TheVariants.{Advance, DefCfa, DefCfaExpression, DefCfaOffset, DefCfaRegister, Nop, Restore, Set, SetLoc}
+pub use Rattle.dw_cfa.specs.declared.instr.Factors.{Factors}
+pub use Rattle.dw_cfa.specs.declared.execution.LocatedRow.{LocatedRow}
+pub use Rattle.dw_cfa.specs.Location.{moves_location, onto, row_starts}
 unfoldable pub use Rattle.dw_cfa.specs.Inner.Runs.{fde_rows}
-pub use Rattle.dw_cfa.specs.Inner.{Agreement.{agreed, same_cfa, same_rule}, Machine.{State, after, begun, fde_fault, half_fault}, RowEquality.{cfa_tells, rule_tells}, Runs.{Placed, fault_or, row_if}}
-pub use Rattle.dw_cfa.proofs.Lent.{InstrCounts.{counts_exists, one_count}, RowsAt.{Gives, instrs_of, never_falls, rows_at}, SameRows.same_rows}
+pub use Rattle.dw_row.specs.Inner.{Agreement.{agreed, same_cfa, same_rule}, RowEquality.{cfa_tells, rule_tells}}
+pub use Rattle.dw_row.proofs.Lent.SameRows.{same_rows}
+pub use Rattle.dw_cfa.specs.Inner.{Machine.{State, after, begun, fde_fault, half_fault}, Runs.{Placed, fault_or, row_if}}
+pub use Rattle.dw_cfa.proofs.Lent.{InstrCounts.{counts_exists, one_count}, RowsAt.{Gives, instrs_of, never_falls, rows_at}}
 pub use Rattle.dw_cfa.proofs.Lent.Spellings.{AdvanceSpells, Factored, IsSpelled, Plain, RuleSpells, SignedFactored, by_table, in_table}
 pub use Rattle.dw_section.specs.{Accepted.Accepted, Among.IsAmong, Changes.{AreChanges, HoldsAt, kept_by}, Cut.{Cut, IsItem, Piece, is_cie, pieces}, Fits.{CfaFits, HasBlock, RowFits, RuleFits}}
 pub use Rattle.dw_section.specs.{Headers.{CieHead, FdeHead, Has, Head, Headers}, Meaning.{AreFdes, ChangesOf, FdeSays, HasLengths, Lists, RowStarts, RulesAt, Starts, total}, Overlap.{AreApart, Ascends, IsIndex}}

@@ -1,7 +1,8 @@
 -- What holds of normal forms.
 use Rattle.std.specs.Prelude.{◌≡◌, ◌↔◌, ℕ, ◌<◌, ◌≤◌, List, length, map}
 use Rattle.dw_num.specs.{Input.AreBytes, declared.target.Target.Target}
-use Rattle.dw_cfa.specs.{Location.row_starts, Rows.Rules, declared.instr.Instr.Instr}
+use Rattle.dw_row.specs.Rows.{Rules}
+use Rattle.dw_cfa.specs.{Location.row_starts, declared.instr.Instr.Instr}
 use Rattle.dw_section.specs.{Accepted.Accepted, Meaning.{ChangesOf, Covers, FdeSays, RowStarts, RulesAt, total}, Meanings.SameMeaning, declared.lookup.Fde.Fde}
 use Rattle.dw_canon.specs.{Members.{Member, changes_of}, Normal.IsNormalForm}
 

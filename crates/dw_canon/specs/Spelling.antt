@@ -4,9 +4,11 @@ use Rattle.std.specs.{Prelude.{ℕ, ◌+◌, ◌++◌, neg_ℤ, unsigned_abs, Li
 use Rattle.dw_num.specs.{Fixed.fixed_bytes, Shortest.{shortest_uleb, shortest_sleb}, Target.byte_count}
 use Rattle.dw_num.specs.declared.target.{Order.Order, Target.Target}
 use Rattle.dw_op.specs.declared.op.Op.{Op}
-use Rattle.dw_cfa.specs.declared.instr.{Instr.Instr, Instr.TheVariants.{Nop, SetLoc, Advance, DefCfa, DefCfaRegister, DefCfaOffset}}
-use Rattle.dw_cfa.specs.declared.{instr.Instr.TheVariants.{DefCfaExpression, Set, Restore, RememberState, RestoreState}, rule.RegRule.RegRule}
-use Rattle.dw_cfa.specs.declared.rule.RegRule.TheVariants as rules
+use Rattle.dw_row.specs.declared.rule.RegRule.{RegRule}
+use Rattle.dw_row.specs.declared.rule.RegRule.TheVariants as rules
+use Rattle.dw_cfa.specs.declared.instr.Instr.TheVariants.{Nop, SetLoc, Advance, DefCfa, DefCfaRegister, DefCfaOffset, DefCfaExpression, Set, Restore}
+use Rattle.dw_cfa.specs.declared.instr.Instr.TheVariants.{RememberState, RestoreState}
+use Rattle.dw_cfa.specs.declared.instr.Instr.{Instr}
 
 -- a block behind its length
 abbrev pub counted_block : List ℕ → List ℕ

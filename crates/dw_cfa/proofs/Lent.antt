@@ -2,7 +2,6 @@
 pub mod Spellings
 pub mod InstrLaws
 pub mod Listings
-pub mod RowLists
 pub mod Forward
 pub mod RowsAt
 pub mod RunLaws
@@ -12,8 +11,5 @@ pub mod Given
 pub mod FaultPlaces
 pub mod FaultLaws
 pub mod BehindLaws
-pub mod SameRows
 pub mod InstrCounts
-pub mod Narrowed
-pub mod Equal
 pub mod Openings

@@ -1,9 +1,12 @@
 -- What a CIE's program specifies is specified in every row of its FDEs.
+use Rattle.dw_row.proofs.Lent.{Narrowed.left_too, RowLists.Entry}
+use Rattle.dw_cfa.proofs.Words.{◌≡◌, ℕ, Bool, List, [], ◌∷◌, Option, Some, None, refl, sym, ap, ◌∙◌, subst, arith, inl, inr, IsTrue, AllZip, AreBytes}
+use Rattle.dw_cfa.proofs.Words.{Factors, Input, Instr, Leading, LocatedRow, Machine, Outcome, Progress, Refusal, RegRule, Rules, Stepping, is_kept, kept}
+use Rattle.dw_cfa.proofs.Words.{IsRowAfter, GivesUpTo, ends, is_specified, rule, RunsSo, rows_behind, rows_left, program_input, AllKeep, AllSpecify, IsLed}
+use Rattle.dw_cfa.proofs.Words.{WalkKeeps, WalksSo, finished, initial_of, walk_of}
+use Rattle.dw_cfa.proofs.{Lent.{FaultLaws.initial_leaves, Given.behind_runs, Openings.{AllSet, all_set, stays_specified}}, RunSteps.started}
+use Rattle.dw_cfa.proofs.Walks.{KeptWhere, row_left}
 use Rattle.dw_cfa.specs.declared.next_row.Progress.TheVariants as progress
-use Rattle.dw_cfa.proofs.Words.{◌≡◌, ℕ, Bool, List, [], ◌∷◌, Option, Some, None, refl, sym, ap, ◌∙◌, subst, arith, inl, inr, IsTrue, AllZip, AreBytes, Factors, Input, Instr}
-use Rattle.dw_cfa.proofs.Words.{Leading, LocatedRow, Machine, Outcome, Progress, Refusal, RegRule, Rules, Stepping, is_kept, kept, IsRowAfter, GivesUpTo, ends, is_specified}
-use Rattle.dw_cfa.proofs.Words.{rule, RunsSo, rows_behind, rows_left, program_input, AllKeep, AllSpecify, IsLed, WalkKeeps, WalksSo, finished, initial_of, walk_of}
-use Rattle.dw_cfa.proofs.{Lent.FaultLaws.initial_leaves, Lent.Given.behind_runs, Lent.Narrowed.left_too, Lent.Openings.{AllSet, all_set, stays_specified}, Lent.RowLists.Entry, RunSteps.started, Walks.{KeptWhere, row_left}}
 
 -- ---- a run
 

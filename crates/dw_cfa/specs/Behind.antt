@@ -3,9 +3,10 @@
 -- instruction. It starts at the location there, and holds the rules there.
 use Rattle.std.specs.{Prelude.{◌≡◌, ℕ, suc, List, [], ◌∷◌, map, Option, Some, None, Result, Ok, Err, if◌then◌else◌}, List.AllZip}
 use Rattle.dw_num.specs.{Input.Input, Target.address_limit, declared.refusal.Refusal.Refusal}
-use Rattle.dw_cfa.specs.{Column.{cfa_after, rule_after}, Faults.{CieFault, FdeFaultBehind}, InitialRules.{initial_cfa, initial_rule}, InstrSpells.ProgramSpells}
-use Rattle.dw_cfa.specs.{Kept.{CieKept, FdeKept}, Location.{location, moves_location}, Rows.{Rules, AreSpecified, rule}, Runs.Outcome}
-use Rattle.dw_cfa.specs.declared.{execution.LocatedRow.LocatedRow, instr.Factors.Factors, instr.Instr.Instr}
+use Rattle.dw_row.specs.Rows.{Rules, AreSpecified, rule}
+use Rattle.dw_cfa.specs.{Column.{cfa_after, rule_after}, Faults.{CieFault, FdeFaultBehind}, InitialRules.{initial_cfa, initial_rule}}
+use Rattle.dw_cfa.specs.{InstrSpells.ProgramSpells, Kept.{CieKept, FdeKept}, Location.{location, moves_location}, Runs.Outcome}
+use Rattle.dw_cfa.specs.declared.{execution.LocatedRow.LocatedRow, instr.{Factors.Factors, Instr.Instr}}
 
 -- ---- a CIE's program
 

@@ -1,7 +1,8 @@
 -- Where the faults of programs lie: DWARF 5, 6.4.2.
 use Rattle.std.specs.Prelude.{◌⊎◌, ℕ, ◌+◌, ◌≤◌, length}
 use Rattle.dw_num.specs.{Input.{Input, AreBytes}, declared.refusal.Refusal.Refusal}
-use Rattle.dw_cfa.specs.{Faults.{CieFault, FdeFault, RunFault}, declared.instr.Factors.Factors, declared.rule.CfaRule.CfaRule}
+use Rattle.dw_row.specs.declared.rule.CfaRule.{CfaRule}
+use Rattle.dw_cfa.specs.{Faults.{CieFault, FdeFault, RunFault}, declared.instr.Factors.Factors}
 
 -- a place from the program's first byte to its end
 abbrev pub LiesInProgram : Input → Refusal → Type 0

@@ -3,10 +3,10 @@
 use Rattle.std.specs.Prelude.{◌≡◌, ◌⊎◌, ℕ, ◌+◌, ◌<◌, ◌≤◌, List, ◌++◌, length, IsTrue, not}
 use Rattle.dw_num.specs.{Input.Input, Target.address_limit, declared.refusal.Code.Code, declared.refusal.Code.TheVariants.{NotInCie, LocationBackwards}}
 use Rattle.dw_num.specs.declared.refusal.{Code.TheVariants.{LocationTooLarge, EmptyStateStack, StateStackFull, CfaNotRegister}, Refusal.Refusal}
+use Rattle.dw_row.specs.declared.rule.CfaRule.{CfaRule, TheVariants.Unset}
 use Rattle.dw_cfa.specs.{Column.cfa_after, InitialRules.initial_cfa, InstrSpells.{InstrSpells, ProgramSpells}}
 use Rattle.dw_cfa.specs.{Kept.{in_cie, keeps_half, IsRegisterRule, remembered, restored, CieKept, FdeKept}, Listing.ProgramFault, Location.location}
-use Rattle.dw_cfa.specs.declared.instr.{Factors.Factors, Instr.Instr, Instr.TheVariants.{SetLoc, Advance, RememberState, RestoreState}}
-use Rattle.dw_cfa.specs.declared.rule.{CfaRule.CfaRule, CfaRule.TheVariants.Unset}
+use Rattle.dw_cfa.specs.declared.instr.{Factors.Factors, Instr.{Instr, TheVariants.{SetLoc, Advance, RememberState, RestoreState}}}
 
 -- half of the CFA's rule is kept, and that rule is no register and offset
 abbrev pub BreaksHalf : CfaRule → Instr → Code → Type 0

@@ -1,8 +1,9 @@
 -- What two programs give: DWARF 5, 6.4.3. The FDE's program begins with the row that the CIE's program leaves.
 use Rattle.std.specs.Prelude.{◌≡◌, ◌⊎◌, ℕ, List}
 use Rattle.dw_num.specs.{Input.Input, declared.refusal.Refusal.Refusal}
-use Rattle.dw_cfa.specs.{Behind.{Leaves, GivesBehind, RunsBehind}, Faults.CieFault, Rows.Rules, Runs.{Outcome, fails}}
-use Rattle.dw_cfa.specs.declared.{execution.LocatedRow.LocatedRow, instr.Factors.Factors, instr.Instr.Instr}
+use Rattle.dw_row.specs.Rows.{Rules}
+use Rattle.dw_cfa.specs.{Behind.{Leaves, GivesBehind, RunsBehind}, Faults.CieFault, Runs.{Outcome, fails}}
+use Rattle.dw_cfa.specs.declared.{execution.LocatedRow.LocatedRow, instr.{Factors.Factors, Instr.Instr}}
 
 -- two programs that keep their rules, and the rows that they give
 abbrev pub Gives : Factors → Input → Input → ℕ → List LocatedRow → Type 0

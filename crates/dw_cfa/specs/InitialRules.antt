@@ -1,7 +1,7 @@
 -- What the rows of two programs are, in the standard's terms: DWARF 5, 6.4.3.
 use Rattle.std.specs.Prelude.{◌≡◌, ℕ, List, length}
-use Rattle.dw_cfa.specs.{Column.{cfa_after, rule_after}, Rows.{Rules, AreSpecified, rule}, declared.instr.Instr.Instr}
-use Rattle.dw_cfa.specs.declared.rule.{CfaRule.CfaRule, CfaRule.TheVariants.Unset, RegRule.RegRule, RegRule.TheVariants.Unspecified}
+use Rattle.dw_row.specs.{Rows.{Rules, AreSpecified, rule}, declared.rule.{CfaRule.{CfaRule, TheVariants.Unset}, RegRule.{RegRule, TheVariants.Unspecified}}}
+use Rattle.dw_cfa.specs.{Column.{cfa_after, rule_after}, declared.instr.Instr.Instr}
 
 -- the initial rules: those that a CIE's program leaves
 abbrev pub initial_cfa : List Instr → CfaRule

@@ -1,7 +1,8 @@
 -- What a restore_state restores: DWARF 5, 6.4.2.4. Lists of instructions are given with the last of them first.
 use Rattle.std.specs.Prelude.{◌≡◌, ◌≢◌, ℕ, ◌+◌, List, ◌∷◌, ◌++◌, slice_get, Some}
+use Rattle.dw_row.specs.declared.rule.{CfaRule.CfaRule, RegRule.RegRule}
 use Rattle.dw_cfa.specs.{Column.{look_back, cfa_change, rule_change}, Kept.{remembered, restored, FdeKept}, Location.back_from}
-use Rattle.dw_cfa.specs.declared.{instr.Instr.Instr, instr.Instr.TheVariants.{RememberState, RestoreState}, rule.CfaRule.CfaRule, rule.RegRule.RegRule}
+use Rattle.dw_cfa.specs.declared.instr.Instr.{Instr, TheVariants.{RememberState, RestoreState}}
 
 -- `between` stands, the last first, between a restore_state, with `inner` more to be passed, and its remember_state
 pub record IsBetween (inner : ℕ) (between : List Instr) : Type 0 where

@@ -1,7 +1,9 @@
 -- How an FDE's program begins: DWARF 5, 6.4.3.
 use Rattle.std.specs.Prelude.{Bool, true, false, List, [], ◌∷◌, Option, Some, None, nat_lt, if◌then◌else◌, ℤ}
-use Rattle.dw_cfa.specs.{Column.with_offset, declared.instr.Instr.Instr, declared.instr.Instr.TheVariants.{Nop, Advance, DefCfaOffset}}
-use Rattle.dw_cfa.specs.declared.{opening.FirstRow.FirstRow, opening.FirstRow.TheVariants.{Initial, CfaOffset, Other}, rule.CfaRule.CfaRule}
+use Rattle.dw_row.specs.declared.rule.CfaRule.{CfaRule}
+use Rattle.dw_cfa.specs.declared.instr.Instr.{Instr, TheVariants.{Nop, Advance, DefCfaOffset}}
+use Rattle.dw_cfa.specs.declared.opening.FirstRow.{FirstRow, TheVariants.{Initial, CfaOffset, Other}}
+use Rattle.dw_cfa.specs.Column.{with_offset}
 
 -- whether the first instruction that is no nop advances the location by more than 0, or there is none
 abbrev pub moves_first : List Instr → Bool

@@ -1,9 +1,12 @@
 -- Codes of call frame instructions, and the operands behind each: DWARF 5, 6.4.2 and 7.24.
 use Rattle.std.specs.Prelude.{ℕ, ◌*◌, ◌-◌, List, [], ◌∷◌, Option, Some, if◌then◌else◌, ℤ, pos, ◌*ℤ◌}
 use Rattle.dw_op.specs.{Expression.Expression, Operands.{look_up, in_range}}
-use Rattle.dw_cfa.specs.declared.instr.{Factors.Factors, Instr.Instr, Instr.TheVariants.{Nop, SetLoc, Advance, DefCfa, DefCfaRegister, DefCfaOffset}}
-use Rattle.dw_cfa.specs.declared.{instr.Instr.TheVariants.{DefCfaExpression, Set, Restore, RememberState, RestoreState}, rule.RegRule.RegRule}
-use Rattle.dw_cfa.specs.declared.rule.RegRule.TheVariants as rules
+use Rattle.dw_row.specs.declared.rule.RegRule.{RegRule}
+use Rattle.dw_row.specs.declared.rule.RegRule.TheVariants as rules
+use Rattle.dw_cfa.specs.declared.instr.Instr.TheVariants.{Nop, SetLoc, Advance, DefCfa, DefCfaRegister, DefCfaOffset, DefCfaExpression, Set, Restore}
+use Rattle.dw_cfa.specs.declared.instr.Instr.TheVariants.{RememberState, RestoreState}
+use Rattle.dw_cfa.specs.declared.instr.Instr.{Instr}
+use Rattle.dw_cfa.specs.declared.instr.Factors.{Factors}
 
 -- an address of the target; a number of n bytes; the LEB of a register, of a number, of a signed number; an expression's block behind its length
 pub data Operand : Type 0 where

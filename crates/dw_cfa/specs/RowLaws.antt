@@ -1,10 +1,11 @@
 -- What is so of the rows that programs give: DWARF 5, 6.4.3. The bytes are bytes, and an FDE begins in the address space.
 use Rattle.std.specs.Prelude.{◌≡◌, ℕ, ◌≤◌, List, Option, Some, None, Result, ◌↔◌, ℤ}
 use Rattle.dw_num.specs.{Input.{Input, AreBytes}, Target.address_limit, declared.refusal.Refusal.Refusal}
+use Rattle.dw_row.specs.Rows.{Rules, AreSpecified, rule}
 use Rattle.dw_cfa.specs.{Behind.{GivesBehind, HoldsBehind, Leaves, LeavesTo, RunsBehind}, Faults.{FdeFault, RunFault}, Gives.{Gives, RunsTo}}
 use Rattle.dw_cfa.specs.{InitialRules.{initial_cfa, HoldsAfter}, InstrSpells.ProgramSpells, Kept.{CieKept, FdeKept}, Location.Counts}
-use Rattle.dw_cfa.specs.{Opening.{cfa_with, first_row, row_with}, Rows.{Rules, AreSpecified, rule}, RuleAt.{last_at, NeverFalls}, RulesBehind.RulesBehind}
-use Rattle.dw_cfa.specs.{Runs.Outcome, declared.execution.LocatedRow.LocatedRow, declared.instr.Factors.Factors, declared.instr.Instr.Instr}
+use Rattle.dw_cfa.specs.{Opening.{cfa_with, first_row, row_with}, RuleAt.{last_at, NeverFalls}, RulesBehind.RulesBehind, Runs.Outcome}
+use Rattle.dw_cfa.specs.declared.{execution.LocatedRow.LocatedRow, instr.{Factors.Factors, Instr.Instr}}
 
 -- of two programs, in their bytes and from this begin on
 abbrev pub OfRuns : (Factors → Input → Input → ℕ → Type 0) → Type 0

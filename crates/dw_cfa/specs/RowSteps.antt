@@ -1,7 +1,8 @@
 -- Rows given one at a time.
 use Rattle.std.specs.Prelude.{◌≡◌, ◌⊎◌, ℕ, Option, Some, None, Result, Ok, Err}
 use Rattle.dw_num.specs.{Input.Input, Refusals.Refuses, declared.error.ReadError.ReadError, declared.program.Program.Program, declared.target.Target.Target}
-use Rattle.dw_cfa.specs.{Rows.Rules, Runs.{Outcome, finished, fails, row_then}, declared.execution.LocatedRow.LocatedRow}
+use Rattle.dw_row.specs.Rows.{Rules}
+use Rattle.dw_cfa.specs.{Runs.{Outcome, finished, fails, row_then}, declared.execution.LocatedRow.LocatedRow}
 
 -- the rows still to come, the row that is lent, and the error that was answered, after which it is answered again
 pub record Stepping : Type 0 where

@@ -1,8 +1,8 @@
 -- The programs of one FDE after another, run in one room.
 use Rattle.std.specs.{Prelude.{◌≡◌, pos, List, [], Option, Some, None, Ok, MatchOption}, List.AllByRecursion}
 use Rattle.dw_num.specs.{Input.Input, declared.target.Target.Target}
-use Rattle.dw_cfa.specs.{Agreement.kept, Behind.LeavesTo, RowSteps.Stepping, Rows.Rules, Runs.{Outcome, finished}}
-use Rattle.dw_cfa.specs.declared.{execution.LocatedRow.LocatedRow, instr.Factors.Factors}
+use Rattle.dw_row.specs.{Agreement.kept, Rows.Rules}
+use Rattle.dw_cfa.specs.{Behind.LeavesTo, RowSteps.Stepping, Runs.{Outcome, finished}, declared.{execution.LocatedRow.LocatedRow, instr.Factors.Factors}}
 
 -- the program of a CIE, where it stands, and the CIE's factors
 pub record Led : Type 0 where

@@ -1,6 +1,7 @@
 -- The row of an address among the rows of a run: DWARF 5, 6.4.3.
 use Rattle.std.specs.{Prelude.{ℕ, ◌≤◌, List, [], ◌∷◌, Option, Some, None, nat_le, if◌then◌else◌}}
-use Rattle.dw_cfa.specs.{Rows.Rules, declared.execution.LocatedRow.LocatedRow}
+use Rattle.dw_row.specs.Rows.{Rules}
+use Rattle.dw_cfa.specs.declared.execution.LocatedRow.{LocatedRow}
 
 abbrev pub or_here : ℕ → LocatedRow → Option Rules → Option Rules
 or_here a first (Some row) = Some row

@@ -1,8 +1,9 @@
 -- The rules that the rows of an FDE's program hold: DWARF 5, 6.4.3.
 use Rattle.std.specs.Prelude.{◌≡◌, ℕ, ◌≤◌, List, length, Some}
 use Rattle.dw_num.specs.{Input.Input, Target.address_limit}
-use Rattle.dw_cfa.specs.{Behind.HoldsBehind, InstrSpells.ProgramSpells, Kept.FdeKept, Location.{Counts, row_starts}, Rows.Rules, RuleAt.{last_at, NeverFalls}}
-use Rattle.dw_cfa.specs.declared.{execution.LocatedRow.LocatedRow, instr.Factors.Factors, instr.Instr.Instr}
+use Rattle.dw_row.specs.Rows.{Rules}
+use Rattle.dw_cfa.specs.{Behind.HoldsBehind, InstrSpells.ProgramSpells, Kept.FdeKept, Location.{Counts, row_starts}, RuleAt.{last_at, NeverFalls}}
+use Rattle.dw_cfa.specs.declared.{execution.LocatedRow.LocatedRow, instr.{Factors.Factors, Instr.Instr}}
 
 -- a program of an FDE that keeps its rules, and rows that hold the rules at each address
 pub record RulesBehind (f : Factors) (initial : Rules) (fde : Input) (begin : ℕ) (instrs : List Instr) (rows : List LocatedRow) : Type 0 where

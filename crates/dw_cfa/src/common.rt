@@ -7,8 +7,8 @@ use crate::instr::Factors;
 use crate::keep::Keep;
 use crate::machine::{End, refused};
 use crate::opcode::{distance, factored, plain, signed};
-use crate::rule::RegRule;
 use dw_num::{Cursor, Refusal};
+use dw_row::RegRule;
 
 /// Moves the location on by a delta of so many bytes, which is still to be factored.
 #[tactic(auto, unfolding(crate::specs::Inner::ByOpcode::advance_at))]

@@ -6,10 +6,9 @@ ghost use Rattle.dw_cfa.specs.Inner.{Coverage.{is_unset, leaves_one, lacks_from}
 
 use crate::instr::Factors;
 use crate::machine::{End, Machine};
-use crate::row::Row;
-use crate::rule::CfaRule;
 use crate::turn::turn;
 use dw_num::{Code, Cursor, ReadError, Refusal};
+use dw_row::{CfaRule, Row};
 
 // Whether a row has no rule for the CFA.
 fn is_unset(row: &Row<'_>) -> bool

@@ -7,9 +7,9 @@ ghost use Rattle.dw_cfa.specs.{RuleAt.last_at, Inner.{Runs.{RunsSo, StopsAbove, 
 use crate::instr::Factors;
 use crate::keep::Keep;
 use crate::machine::End;
-use crate::row::Row;
 use crate::turn::turn;
 use dw_num::{Code, Cursor, ReadError, Refusal};
+use dw_row::Row;
 
 /// A row of the call frame table (6.4.1, 6.4.3), and the location that it starts at. It holds up to the location of the next row.
 #[derive(Clone, Debug, Drop, PartialEq, Eq)]

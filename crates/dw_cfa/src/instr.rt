@@ -1,7 +1,7 @@
 //! Call frame instructions (6.4.2), with their factors multiplied out.
 
-use crate::rule::RegRule;
 use dw_op::ExprRef;
+use dw_row::RegRule;
 
 /// What the factored operands of instructions are multiplied by, from a CIE (6.4.1).
 #[derive(Clone, Copy, Debug, PartialEq, Eq)]

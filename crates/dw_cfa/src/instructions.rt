@@ -2,15 +2,16 @@
 
 ghost use Rattle.std.specs.{Prelude.{◌≡◌, ◌+◌, ◌≤◌, ◌↔◌, IfSome, List, length}, Iterator.{YieldsFirst, item_count}};
 ghost use Rattle.dw_num.specs.{declared.refusal.Refusal.{Refusal}, Inner.Front.Gives};
-ghost use Rattle.dw_cfa.specs.{InstrSpells.ProgramSpells, Listing.{ProgramFault, complete, faulty, answers}, Rows.blank};
-ghost use Rattle.dw_cfa.specs.{declared.{instr.Instr.Instr, machine.End.End}, Inner.{FrontInstr.instr_at, Listing.{Yields, left_of}, Turns.cie_machine}};
+ghost use Rattle.dw_row.specs.Rows.{blank};
+ghost use Rattle.dw_cfa.specs.{InstrSpells.ProgramSpells, Listing.{ProgramFault, complete, faulty, answers}, declared.{instr.Instr.Instr, machine.End.End}};
+ghost use Rattle.dw_cfa.specs.Inner.{FrontInstr.instr_at, Listing.{Yields, left_of}, Turns.cie_machine};
 
 use crate::instr::{Factors, Instr};
 use crate::keep::Keep;
 use crate::machine::End;
-use crate::rule::RegRule;
 use crate::turn::execute;
 use dw_num::{Code, Cursor, Program, Refusal, Target, are_bytes};
+use dw_row::RegRule;
 use std::marker::Model;
 
 // The last instruction of a program that was read. It runs none: its machine stays as it is.

@@ -7,9 +7,8 @@ ghost use Rattle.dw_cfa.specs.{declared.machine.Machine.Machine, Inner.Machine.h
 
 use crate::instr::Instr;
 use crate::machine::{End, Machine, refuse};
-use crate::row::Row;
-use crate::rule::{CfaRule, RegRule};
 use dw_num::{Code, Refusal};
+use dw_row::{CfaRule, RegRule, Row};
 
 // How many states can be remembered at once.
 const MOST_REMEMBERED: usize = 64;

@@ -2,16 +2,17 @@
 
 ghost use Rattle.std.specs.Prelude.{◌≡◌, ◌<◌, Ok, Err, IfErr, IsTrue, OnOk, false, length};
 ghost use Rattle.dw_num.specs.Refusals.{Refuses};
-ghost use Rattle.dw_cfa.specs.{Behind.LeavesTo, RowSteps.program_input, Inner.States.BeganWith, Inner.Turns.Entered};
-ghost use Rattle.dw_cfa.specs.{declared.instr.{Factors.{Factors as TheFactors}, Instr.TheVariants.Nop}, Inner.FrontInstr.instr_at};
-ghost use Rattle.dw_cfa.specs.Inner.RowWalk.{HasInitial, IsLed, LeadsSame, led_row};
+ghost use Rattle.dw_row.specs.States.{BeganWith};
+ghost use Rattle.dw_cfa.specs.{Behind.LeavesTo, RowSteps.program_input};
+ghost use Rattle.dw_cfa.specs.Inner.{Turns.Entered, FrontInstr.instr_at, RowWalk.{HasInitial, IsLed, LeadsSame, led_row}};
+ghost use Rattle.dw_cfa.specs.declared.instr.{Factors.{Factors as TheFactors}, Instr.TheVariants.Nop};
 
 use crate::instr::{Factors, Instr};
 use crate::keep::Keep;
 use crate::machine::{End, Machine};
-use crate::row::Row;
 use crate::turn::execute;
 use dw_num::{Code, Cursor, Program, ReadError, Refusal, Target, are_bytes};
+use dw_row::Row;
 
 /// A CIE's program, and what it is read with.
 #[derive(Clone, Copy)]
@@ -108,7 +109,7 @@ pub(crate) fn lead<'a>(leading: &Leading<'a>, machine: &mut Machine<'a>) -> Resu
 }
 
 /// Runs a CIE's program, or brings its row back where the machine has it.
-#[tactic(auto, using(crate::proofs::StatesLaws::began))]
+#[tactic(auto, using(dw_row::proofs::StatesLaws::began))]
 #[inline(always)]
 pub(crate) fn ready<'a>(
     leading: &Leading<'a>,
@@ -132,25 +133,23 @@ pub(crate) fn ready<'a>(
     Ok(())
 }
 
-impl<'a> Row<'a> {
-    /// Becomes the row that a CIE's program (`initial_instructions`, 6.4.1) leaves, or answers its first fault, or want of memory
-    /// (`OutOfMemory`). A refusal is one of `Instructions`, or `NotInCie` (13) or `CfaNotRegister` (18) at the opcode. Its place
-    /// counts from the program's `at`. Behind an error it is some row.
-    pub fn become_initial(
-        &mut self,
-        cie_program: Program<'a>,
-        factors: Factors,
-        target: Target,
-    ) -> Result<(), ReadError>
-        ensures ok { OnOk result (LeavesTo factors (program_input cie_program.entry target) (Ok self.new)) }
-        ensures err { IfErr result (Refuses (λ r. LeavesTo factors (program_input cie_program.entry target) (Err r))) }
-    {
-        are_bytes(cie_program.bytes);
-        let leading = Leading {
-            program: cie_program,
-            factors,
-            target,
-        };
-        run_initial(&leading, self)
-    }
+/// Makes a row the one that a CIE's program (`initial_instructions`, 6.4.1) leaves, or answers its first fault, or want of memory
+/// (`OutOfMemory`). A refusal is one of `Instructions`, or `NotInCie` (13) or `CfaNotRegister` (18) at the opcode. Its place
+/// counts from the program's `at`. Behind an error it is some row.
+pub fn become_initial<'a>(
+    row: &mut Row<'a>,
+    cie_program: Program<'a>,
+    factors: Factors,
+    target: Target,
+) -> Result<(), ReadError>
+    ensures ok { OnOk result (LeavesTo factors (program_input cie_program.entry target) (Ok row.new)) }
+    ensures err { IfErr result (Refuses (λ r. LeavesTo factors (program_input cie_program.entry target) (Err r))) }
+{
+    are_bytes(cie_program.bytes);
+    let leading = Leading {
+        program: cie_program,
+        factors,
+        target,
+    };
+    run_initial(&leading, row)
 }

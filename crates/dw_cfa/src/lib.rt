@@ -1,50 +1,33 @@
 //! Call frame instructions, and the machine that runs them (6.4.2, 6.4.3).
 #![tactic(auto)]
 
-mod among;
-mod behind;
 mod common;
 mod coverage;
-mod debug;
-mod entries;
-mod equality;
 mod execution;
-mod in_common;
 mod instr;
 mod instructions;
 mod keep;
-mod kept_row;
 mod laws;
 mod lead;
 mod look_up;
 mod machine;
-mod masked;
-mod near_slots;
 mod next_row;
 mod opcode;
 mod opening;
 mod rare;
-mod register_set;
 mod room;
-mod row;
 mod row_walk;
 mod rows;
-mod rule;
-mod slot;
-mod states;
 mod steps;
-mod tree;
 mod turn;
 
 pub use execution::LocatedRow;
 pub use instr::{Factors, Instr};
 pub use instructions::Instructions;
 pub use laws::row_laws;
+pub use lead::become_initial;
 pub use opening::{FirstRow, first_row};
-pub use register_set::RegisterSet;
 pub use room::RowRoom;
-pub use row::{Row, Specified};
 pub use row_walk::RowWalk;
 pub use rows::{Rows, run};
-pub use rule::{CfaRule, RegRule};
 pub use steps::RowSteps;

@@ -3,16 +3,15 @@
 
 ghost use Rattle.std.specs.Prelude.{◌≡◌, ◌≤◌, ◌+◌, false, None, IfSome};
 ghost use Rattle.dw_num.specs.Target.{address_limit};
-ghost use Rattle.dw_cfa.specs.{Rows.blank, declared.instr.Instr.TheVariants.{RememberState, RestoreState}, Inner.LookUp.{SpecifiesIn, kept_if, look_up_at}, Inner.Turns.{Did, IsWithinLimit}};
+ghost use Rattle.dw_row.specs.{Rows.blank, RegisterSets.SpecifiesIn};
+ghost use Rattle.dw_cfa.specs.declared.instr.Instr.TheVariants.{RememberState, RestoreState};
+ghost use Rattle.dw_cfa.specs.Inner.{LookUp.{kept_if, look_up_at}, Turns.{Did, IsWithinLimit}};
 
-use crate::entries::NEAR;
 use crate::instr::Instr;
 use crate::keep::{Keep, cfa_behind};
 use crate::machine::{End, refuse};
-use crate::near_slots::is_in;
-use crate::row::Row;
-use crate::rule::{CfaRule, RegRule};
 use dw_num::{Code, Refusal, Size};
+use dw_row::{CfaRule, NEAR, RegRule, Row, is_in};
 use std::alloc::Global;
 use std::snapshot::Snapshot;
 

@@ -2,11 +2,11 @@
 
 ghost use Rattle.std.specs.Prelude.{◌≡◌, None};
 ghost use Rattle.dw_num.specs.Target.{address_limit};
-ghost use Rattle.dw_cfa.specs.{Rows.blank, Inner.LookUp.look_up_at};
+ghost use Rattle.dw_row.specs.Rows.{blank};
+ghost use Rattle.dw_cfa.specs.Inner.LookUp.{look_up_at};
 
-use crate::row::Row;
-use crate::states::States;
 use dw_num::{Code, Refusal, Target};
+use dw_row::{Row, States};
 use std::alloc::Global;
 
 /// The state of the machine in an FDE's program: the initial row, the current one with the remembered ones, and

@@ -8,8 +8,8 @@ use crate::instr::{Factors, Instr};
 use crate::keep::Keep;
 use crate::machine::{End, refused};
 use crate::opcode::{Opcode, block, distance, factored, signed};
-use crate::rule::RegRule;
 use dw_num::{Cursor, Refusal};
+use dw_row::RegRule;
 
 // The rule that an instruction gives the register that was read (6.4.2.3): its operands behind that.
 #[tactic(auto, unfolding(crate::specs::Inner::ByOpcode::rule_at))]

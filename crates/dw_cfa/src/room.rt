@@ -2,16 +2,17 @@
 
 ghost use Rattle.std.specs.Prelude.{◌≡◌, ◌<◌, ◌≤◌, Some, IfErr, OnOk};
 ghost use Rattle.dw_num.specs.{Refusals.Refuses, Target.address_limit};
-ghost use Rattle.dw_cfa.specs.{Faults.{FaultUpTo, NoFaultUpTo}, Gives.RunsTo, RowSteps.program_input, Rows.blank};
-ghost use Rattle.dw_cfa.specs.{RuleAt.last_at, Runs.Outcome, Inner.RuleAt.FoundAt, Inner.Runs.RunsSo};
+ghost use Rattle.dw_row.specs.Rows.{blank};
+ghost use Rattle.dw_cfa.specs.{Faults.{FaultUpTo, NoFaultUpTo}, Gives.RunsTo, RowSteps.program_input, RuleAt.last_at, Runs.Outcome};
+ghost use Rattle.dw_cfa.specs.Inner.{RuleAt.FoundAt, Runs.RunsSo};
 
 use crate::execution::run_to;
 use crate::instr::Factors;
 use crate::lead::{Leading, lead, run_initial};
 use crate::look_up::LookUp;
 use crate::machine::Machine;
-use crate::row::Row;
 use dw_num::{Cursor, Program, ReadError, Target, are_bytes};
+use dw_row::Row;
 use std::alloc::Global;
 use std::marker::Model;
 
@@ -60,7 +61,7 @@ pub struct RowRoom<'a> {
 }
 
 impl<'a> Model for RowRoom<'a> {
-    ghost use Rattle.dw_cfa.specs.Rows.{Rules};
+    ghost use Rattle.dw_row.specs.Rows.{Rules};
 
     ghost Value = { Rules };
 

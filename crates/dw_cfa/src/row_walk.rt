@@ -2,10 +2,10 @@
 
 ghost use Rattle.std.specs.{Prelude.{◌≡◌, ◌<◌, false, None, Ok, Err, List, ◌∷◌, IfErr, IfOk, IsTrue, ◌↔◌, MatchResult, OnOk, Some}, Bool.MatchBool};
 ghost use Rattle.dw_num.specs.{Refusals.Refuses, Target.address_limit};
-ghost use Rattle.dw_cfa.specs.{Behind.LeavesTo, Coverage.Lacks, Difference.{FirstDifference, place_behind}, Gives.RunsTo};
-ghost use Rattle.dw_cfa.specs.{RowSteps.{Advances, Failed, program_input, stepping}, RowWalk.{AllKeep, CieKeeps, StandsOn, unled}, Rows.{AreSpecified, Rules, blank}};
-ghost use Rattle.dw_cfa.specs.{Runs.finished, declared.execution.LocatedRow.LocatedRow, Inner.Runs.run_rows};
-ghost use Rattle.dw_cfa.specs.Inner.{RowWalk.{AreLeft, HasInitial, IsLed, led_row}, States.BeganWith};
+ghost use Rattle.dw_row.specs.{Difference.{FirstDifference, place_behind}, Rows.{AreSpecified, Rules, blank}, States.BeganWith};
+ghost use Rattle.dw_cfa.specs.{Behind.LeavesTo, Coverage.Lacks, Gives.RunsTo, RowSteps.{Advances, Failed, program_input, stepping}};
+ghost use Rattle.dw_cfa.specs.{RowWalk.{AllKeep, CieKeeps, StandsOn, unled}, Runs.finished, declared.execution.LocatedRow.LocatedRow};
+ghost use Rattle.dw_cfa.specs.Inner.{Runs.run_rows, RowWalk.{AreLeft, HasInitial, IsLed, led_row}};
 
 use crate::coverage::lacks_rule;
 use crate::instr::Factors;
@@ -13,8 +13,8 @@ use crate::lead::{Leading, leads_same, ready};
 use crate::machine::Machine;
 use crate::next_row::{Progress, enter, fail, next_row};
 use crate::rare::copied;
-use crate::row::Row;
 use dw_num::{Cursor, Program, ReadError, Target, are_bytes};
+use dw_row::Row;
 use std::alloc::{AllocError, Global};
 use std::marker::Model;
 

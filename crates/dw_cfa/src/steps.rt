@@ -2,13 +2,14 @@
 
 ghost use Rattle.std.specs.Prelude.{◌≡◌, ◌<◌, Some, Err};
 ghost use Rattle.dw_num.specs.Target.{address_limit};
-ghost use Rattle.dw_cfa.specs.{Gives.RunsTo, RowSteps.{Advances, Answers, stepping, program_input}, Rows.blank};
+ghost use Rattle.dw_row.specs.Rows.{blank};
+ghost use Rattle.dw_cfa.specs.{Gives.RunsTo, RowSteps.{Advances, Answers, stepping, program_input}};
 
 use crate::execution::LocatedRow;
 use crate::instr::Factors;
-use crate::row::Row;
 use crate::row_walk::RowWalk;
 use dw_num::{Program, ReadError, Target};
+use dw_row::Row;
 use std::alloc::Global;
 use std::marker::Model;
 

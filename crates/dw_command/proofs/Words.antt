@@ -12,7 +12,7 @@ pub use Rattle.hex.specs.Hex.{encode_lower, lower_digits}
 pub use Rattle.itoa.proofs.Decimal.{PAIRS_at, decimal_pair, decimal_two}
 pub use Rattle.dw_num.specs.{Input.AreBytes, declared.target.Size.Size, declared.target.Target.Target}
 pub use Rattle.dw_op.specs.{Faults.{BlockFault, IsBlock}, declared.op.Op.Op, declared.op.Op.TheVariants.{Addr, Implicit}, declared.profile.Profile.TheVariants.Location}
-pub use Rattle.dw_cfa.specs.Rows.{Rules, blank}
+pub use Rattle.dw_row.specs.Rows.{Rules, blank}
 pub use Rattle.dw_section.specs.{Accepted.Accepted, Among.IsAmong, Meaning.{AreFdes, ChangesOf, Covers, RowStarts, RulesAt, total}, Table.Section, declared.lookup.Fde.Fde}
 pub use Rattle.dw_canon.specs.Members.{AreMembers, IsMember, Member, changes_of, fde_of}
 pub use Rattle.dw_canon.proofs.Lent.Canonical.{members_exist}

@@ -1,9 +1,9 @@
 -- How rows are printed: a line for an FDE, and below it one for each address from which its rules are others.
 use Rattle.std.specs.{Prelude.{ℕ, ℤ, false, List, [], ◌∷◌, ◌++◌, codes, decimal, unsigned_abs, if◌then◌else◌, Option, Some, None}, Fmt.digits, Int.is_negative}
 use Rattle.dw_op.specs.{Expression.Expression, declared.op.Op.Op}
-use Rattle.dw_cfa.specs.{Rows.Rules, declared.rule.CfaRule.CfaRule, declared.rule.RegRule.RegRule}
-use Rattle.dw_cfa.specs.declared.rule.CfaRule.TheVariants as cfa
-use Rattle.dw_cfa.specs.declared.rule.RegRule.TheVariants as rules
+use Rattle.dw_row.specs.{Rows.Rules, declared.rule.{CfaRule.CfaRule, RegRule.RegRule}}
+use Rattle.dw_row.specs.declared.rule.CfaRule.TheVariants as cfa
+use Rattle.dw_row.specs.declared.rule.RegRule.TheVariants as rules
 use Rattle.dw_section.specs.declared.lookup.Fde.{Fde}
 use Rattle.dw_canon.specs.Members.{Member, changes_of, fde_of}
 use Rattle.dw_command.specs.{OpTexts.op_text, Texts.{line_end, lines}}

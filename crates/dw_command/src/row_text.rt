@@ -6,8 +6,8 @@ ghost use Rattle.dw_command.specs.{declared.listing.TheConstants.{PIECE, ROOM}, 
 
 use crate::listing::Listing;
 use crate::texts::put_op;
-use dw_cfa::{CfaRule, RegRule, Row};
 use dw_op::ExprRef;
+use dw_row::{CfaRule, RegRule, Row};
 use dw_section::Fde;
 use std::io::Write;
 

@@ -1,7 +1,7 @@
 //! The subcommands that print rules: `rows`, at each address of a section, and `at`, at some.
 
 ghost use Rattle.std.specs.{Prelude.{◌≡◌, ℕ, ◌≤◌, ◌^◌, List, false, IfErr, OnOk, option_map}, List.AllByRecursion};
-ghost use Rattle.dw_cfa.specs.Rows.{Rules};
+ghost use Rattle.dw_row.specs.Rows.{Rules};
 ghost use Rattle.dw_section.specs.{Meaning.AreFdes, declared.lookup.Fde.{Fde as TheFde}};
 ghost use Rattle.dw_canon.specs.Members.{AreMembers, Member};
 ghost use Rattle.dw_command.specs.{Addresses.lines_in, Answers.{AtEnds, ListsFdes, Tells, TellsOf}};

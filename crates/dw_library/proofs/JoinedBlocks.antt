@@ -1,10 +1,10 @@
 -- Blocks of expressions, one behind another.
 use Rattle.dw_library.proofs.Words.{◌≡◌, ℕ, ◌+◌, List, [], ◌∷◌, ◌++◌, length, refl, sym, ap, subst, ◌∙◌, arith, append_assoc, length-append, append-nil, RegRule, Block, AreBlocks, in_cfa, in_rule}
 use Rattle.dw_op.specs.Expression.{Expression}
-use Rattle.dw_cfa.specs.declared.rule.CfaRule.{CfaRule}
+use Rattle.dw_row.specs.declared.rule.CfaRule.{CfaRule}
+use Rattle.dw_row.specs.declared.rule.CfaRule.TheVariants as cfa
+use Rattle.dw_row.specs.declared.rule.RegRule.TheVariants as rules
 use Rattle.dw_library.specs.{declared.expressions.Gathered.Gathered, Inner.Expressions.Adds}
-use Rattle.dw_cfa.specs.declared.rule.CfaRule.TheVariants as cfa
-use Rattle.dw_cfa.specs.declared.rule.RegRule.TheVariants as rules
 
 -- those of more expressions behind
 pub blocks_join : (at : ℕ) (xs ys : List (ℕ × Expression)) (bs cs : List Block) (ps qs : List ℕ)

@@ -6,7 +6,7 @@ pub use Rattle.std.proofs.{Math.Seq.{append_snoc, set-append_seam, take-length},
 pub use Rattle.dw_num.specs.declared.target.Target.{Target}
 pub use Rattle.dw_eval.specs.{Registers.held, declared.policy.Policy.Policy}
 pub use Rattle.dw_eval.proofs.Lent.MemoryBytes.{bytes_all, bytes_missing}
-pub use Rattle.dw_cfa.specs.{Rows.{AreSpecified, Rules}, declared.rule.RegRule.RegRule}
+pub use Rattle.dw_row.specs.{Rows.{AreSpecified, Rules}, declared.rule.RegRule.RegRule}
 pub use Rattle.dw_section.specs.{Accepted.Accepted, Among.IsAmong, Meaning.{AreFdes, ChangesOf, Covers, NoneCovers, RulesAt}}
 pub use Rattle.dw_section.specs.{Ranges.{IsTable, fde_in, range_in}, declared.fde_range.Ranged.Ranged, declared.lookup.Fde.Fde}
 pub use Rattle.dw_library.specs.{Answers.not_refused, CallerFrame.{IsFrame, IsUnwound, Machine, Told, held_in, no_frame, status_of, told_fault}, Changes.{AreWritten, Fits, change_of}, Expressions.{AreBlocks, expressions_of}}

@@ -1,7 +1,7 @@
 -- What a caller in C is told of the rows of an FDE.
 use Rattle.std.specs.{Prelude.{◌≡◌, ◌⊎◌, ◌-◌, ◌^◌, ◌<◌, ◌≤◌, ℕ, List, length, map, min, Option, Some, None}, List.flat_map}
 use Rattle.dw_num.specs.declared.{refusal.Refusal.Refusal, target.Target.Target}
-use Rattle.dw_cfa.specs.Rows.{Rules}
+use Rattle.dw_row.specs.Rows.{Rules}
 use Rattle.dw_section.specs.{Accepted.{Accepted, CheckFault}, Among.IsAmong, Meaning.{AreFdes, ChangesOf, Covers, NoneCovers}, declared.lookup.Fde.Fde}
 use Rattle.dw_library.specs.{Answers.{ok, refused, out_of_memory, bad_argument, too_short, not_refused, told}, Index.{over, row_of, rule_of}}
 use Rattle.dw_library.specs.declared.{answer.Refused.Refused, rows.Change.Change, rows.Totals.Totals, index.Rule.Rule}

@@ -7,8 +7,9 @@ ghost use Rattle.dw_library.specs.{Expressions.{TellsBlocks, Told, expressions_o
 use crate::answer::{Refused, Section, refuse, target_of};
 use crate::caller::COLUMN_CFA;
 use crate::names::Status;
-use dw_cfa::{CfaRule, RegRule, Row, RowRoom};
+use dw_cfa::RowRoom;
 use dw_op::ExprRef;
+use dw_row::{CfaRule, RegRule, Row};
 use dw_section::{LookUpError, Ranged, look_up};
 use std::alloc::{AllocError, Global};
 

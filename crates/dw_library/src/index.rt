@@ -9,8 +9,9 @@ ghost use Rattle.dw_library.specs.Index.{TellsRules, Told, cfa_kind_of, cfa_offs
 
 use crate::answer::{Refused, Section, put_at, put_front, refuse, target_of};
 use crate::names::Status;
-use dw_cfa::{CfaRule, RegRule, Row as CfaRow, RowRoom};
+use dw_cfa::RowRoom;
 use dw_num::{ReadError, Target};
+use dw_row::{CfaRule, RegRule, Row as CfaRow};
 use dw_section::{Fde, LookUpError, Ranged, check, look_up};
 use std::alloc::Global;
 

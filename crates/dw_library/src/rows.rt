@@ -1,7 +1,7 @@
 //! Many rows by one call: those of many addresses, and those of an FDE, one after another.
 
 ghost use Rattle.std.specs.{Prelude.{◌≡◌, ◌+◌, ◌^◌, ◌<◌, ◌≤◌, ◌++◌, ℕ, List, [], ◌∷◌, length, slice_index_or, IfOk, OnErr}, List.AllByRecursion};
-ghost use Rattle.dw_cfa.specs.Rows.{Rules};
+ghost use Rattle.dw_row.specs.Rows.{Rules};
 ghost use Rattle.dw_section.specs.{Meaning.AreFdes, Ranges.fde_in, declared.lookup.Fde.{Fde as TheFde}};
 ghost use Rattle.dw_library.specs.{Answers.target_of, Changes.{AreAllChanges, AreWritten, Fits, TellsChanges, TellsCovering, Told, no_totals}};
 ghost use Rattle.dw_library.specs.{Index.over, Looks.{AreLooks, IsLook, Look, TellsLooks, ToldRows}, declared.index.Rule.{Rule as TheRule}};
@@ -10,8 +10,9 @@ ghost use Rattle.dw_library.specs.{declared.rows.Change.{Change as TheChange}, I
 use crate::answer::{Refused, Section, put_at, refuse, target_of};
 use crate::index::{Row, Rule, told_row};
 use crate::names::Status;
-use dw_cfa::{Row as CfaRow, RowRoom};
+use dw_cfa::RowRoom;
 use dw_num::ReadError;
+use dw_row::Row as CfaRow;
 use dw_section::{Changes, Fde, FdeRef, Ranged, Table, check};
 use std::alloc::{AllocError, Global};
 

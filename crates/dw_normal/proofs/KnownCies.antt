@@ -3,8 +3,8 @@ use Rattle.dw_normal.proofs.Words.{◌≡◌, ◌⊎◌, ℕ, true, List, [], �
 use Rattle.dw_normal.proofs.Words.{BTreeMap, AreSpecified, Rules, rule, agreed, same_rule, Changing, kept_by, Member, row_of, shown_row, with_member, get, if◌then◌else◌, RegRule, is_kept, kept, is_agreed}
 use Rattle.dw_normal.proofs.Words.{rules, rule_tells, Registers, AgreesBeside, SameBeside, is_specified, same_rows, Behind, AreChanged, CieLeaves, Section, CieSet, Known, ShownBehind, Agree, AgreesAt, AreLess, HoldsAt, Notes, NotesAgree}
 use Rattle.std.proofs.lemmas.{Bool.{cases_eq, Decides.nat_tests}, Option.IfSome_then}
-use Rattle.dw_cfa.specs.declared.rule.RegRule.TheVariants.{Unspecified}
-use Rattle.dw_cfa.proofs.Lent.Narrowed.{filter_keeps, filter_rule}
+use Rattle.dw_row.specs.declared.rule.RegRule.TheVariants.{Unspecified}
+use Rattle.dw_row.proofs.Lent.Narrowed.{filter_keeps, filter_rule}
 use Rattle.dw_normal.specs.Inner.Known.{Puts}
 use Rattle.dw_normal.proofs.Grouped.{found_in}
 

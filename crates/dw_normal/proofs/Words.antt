@@ -6,10 +6,11 @@ pub use Rattle.dw_canon.specs.{Bound.{Shares, share}, Canon.return_registers, Di
 pub use Rattle.dw_canon.specs.Inner.{Canon.{canon, cie_instrs, fde_instrs, initial_of}, Difference.{cfa_difference, difference, later_changes, rule_difference, rule_to, with_register, with_registers}}
 pub use Rattle.dw_canon.specs.Inner.{Fits.{ChangesStand, InstrFits, MemberStands}, Group.{initial_row, shared_by}, Laid.{GroupsRise, IsPart, cie_of, group_of, groups_of, part_of, parts_of, place_of}}
 pub use Rattle.dw_canon.specs.Inner.{Spelling.{expression_bytes, instr_bytes, program_bytes}, Written.{Written, contents, entry_bytes, fde, filled, nop_count, section_bytes}}
-pub use Rattle.dw_cfa.proofs.Lent.{Equal.{agreed_of, cfa_test_of, differs_of, test_of}, SameRows.same_rows}
-pub use Rattle.dw_cfa.specs.{Agreement.{is_kept, kept}, Difference.{DiffersFirst, FirstDifference, place_behind}, RegisterSets.{AgreesBeside, Registers, SameBeside, has}, Rows.{AreSpecified, Rules, blank, is_specified, rule}}
-pub use Rattle.dw_cfa.specs.declared.{instr.Instr.Instr, rule.RegRule.RegRule}
-pub use Rattle.dw_cfa.specs.Inner.{Agreement.{agreed, is_agreed, same_rule}, RowEquality.rule_tells}
+pub use Rattle.dw_row.specs.{Agreement.{is_kept, kept}, Difference.{DiffersFirst, FirstDifference, place_behind}}
+pub use Rattle.dw_row.specs.{RegisterSets.{AgreesBeside, Registers, SameBeside, has}, Rows.{AreSpecified, Rules, blank, is_specified, rule}}
+pub use Rattle.dw_row.specs.{declared.rule.RegRule.RegRule, Inner.{Agreement.{agreed, is_agreed, same_rule}, RowEquality.rule_tells}}
+pub use Rattle.dw_row.proofs.Lent.{Equal.{agreed_of, cfa_test_of, differs_of, test_of}, SameRows.same_rows}
+pub use Rattle.dw_cfa.specs.declared.instr.Instr.{Instr}
 pub use Rattle.dw_normal.specs.{Answers.{FitsCap, IsTooLong, IsWithinEither, NormalFault, RefusesWithin, SameFault, WentOut, Writes, too_long}, declared.begun.Begun.Begun, declared.entry.PutError.PutError}
 pub use Rattle.dw_normal.specs.declared.{entry.PutError.TheVariants.{Memory, Write}, error.SameError.SameError, error.Which.TheVariants.{First, Second}, error.WriteError.WriteError, known.CieSet.CieSet, known.Known.Known}
 pub use Rattle.dw_normal.specs.Inner.{Answers.{IsMeasured, IsShort, LengthFault, blamed, unread, unwritten}, Apart.{NotesSame, StandsApart}, Begun.{IsBegun, IsReady, Walks}}

@@ -1,12 +1,12 @@
 //! The registers to which the row at an FDE's begin and the initial row of its group give different rules.
 
 ghost use Rattle.std.specs.{Prelude.{◌≡◌, ℕ, false, None, IfSome, OnOk}, BTreeMap.get, Ordering.nat_cmp};
-ghost use Rattle.dw_cfa.specs.{RegisterSets.SameBeside, Rows.Rules};
+ghost use Rattle.dw_row.specs.{RegisterSets.SameBeside, Rows.Rules};
 ghost use Rattle.dw_normal.specs.Inner.{Apart.{NotesSame, StandsApart}, Differences.Tells, Known.{HoldsAt, Notes}};
 
 use crate::differences::Differences;
 use crate::known::Known;
-use dw_cfa::{RegisterSet, Row};
+use dw_row::{RegisterSet, Row};
 use dw_section::Behind;
 use std::alloc::{AllocError, Global};
 use std::mem;

@@ -6,7 +6,7 @@ ghost use Rattle.dw_normal.specs.Inner.{Begun.{IsBegun, IsReady, Walks}, Groups.
 
 use crate::apart::Apart;
 use crate::groups::{Ready, go_behind_first};
-use dw_cfa::Row;
+use dw_row::Row;
 use dw_section::{Changes, Fde, FdeRef, section_laws};
 use std::alloc::{AllocError, Global};
 use std::collections::BTreeMap;

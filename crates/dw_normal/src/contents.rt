@@ -11,8 +11,8 @@ use crate::differences::Differences;
 use crate::instruction::push_uleb;
 use crate::program::{push_difference, push_first, push_later};
 use byteorder::{BigEndian, ByteOrder, LittleEndian};
-use dw_cfa::Row;
 use dw_num::{Order, Size, Target, put_fixed};
+use dw_row::Row;
 use std::alloc::AllocError;
 
 /// How long so many bytes are with their nops. With the width in each case there is no division.

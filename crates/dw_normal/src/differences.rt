@@ -1,9 +1,9 @@
 //! The registers to which two rows give different rules, found by what costs least.
 
-ghost use Rattle.dw_cfa.specs.{Difference.{FirstDifference, place_behind}, Rows.AreSpecified};
+ghost use Rattle.dw_row.specs.{Difference.{FirstDifference, place_behind}, Rows.AreSpecified};
 ghost use Rattle.dw_normal.specs.Inner.Differences.{Tells};
 
-use dw_cfa::{RegisterSet, Row};
+use dw_row::{RegisterSet, Row};
 use dw_section::Changes;
 
 /// How they are found.

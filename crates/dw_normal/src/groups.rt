@@ -1,8 +1,7 @@
 //! The initial row of each return address register, found in one pass over the FDEs.
 
 ghost use Rattle.std.specs.{Prelude.{◌≡◌, ℕ, [], ◌≤◌, length, take, None, Some, IfOk, IfSome, IsTrue, OnOk}, BTreeMap.{get, insert_entry}, Ordering.nat_cmp};
-ghost use Rattle.dw_cfa.specs.{RegisterSets.AgreesBeside, Rows.Rules};
-ghost use Rattle.dw_cfa.specs.Inner.Agreement.{agreed};
+ghost use Rattle.dw_row.specs.{RegisterSets.AgreesBeside, Rows.Rules, Inner.Agreement.agreed};
 ghost use Rattle.dw_section.specs.{Changes.kept_by, Opening.{CieLeaves, OpensBehind}, declared.opening.CieRow.{CieRow as TheRow}};
 ghost use Rattle.dw_canon.specs.Inner.Canon.{canon};
 ghost use Rattle.dw_normal.specs.Inner.{ChangeWalk.{BehindFirst, IsShown, ShownBehind, shown_row}, Groups.{HasJoined, joined_by, with_member, initial_rows}};
@@ -10,7 +9,7 @@ ghost use Rattle.dw_normal.specs.Inner.{Known.{Agree, HoldsAt, NotesAgree}, List
 
 use crate::bound::add_share;
 use crate::known::Known;
-use dw_cfa::{RegisterSet, Row};
+use dw_row::{RegisterSet, Row};
 use dw_section::{Behind, Changes, CieRow, FdeRef, Table, section_laws};
 use std::alloc::{AllocError, Global};
 use std::collections::BTreeMap;

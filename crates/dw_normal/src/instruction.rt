@@ -2,8 +2,8 @@
 
 ghost use Rattle.std.specs.{Prelude.{◌≡◌, ◌∷◌, ◌+◌, ◌++◌, ◌<◌, ◌≤◌, neg_ℤ, unsigned_abs, if◌then◌else◌, OnOk}, Int.is_positive, List.AllByRecursion};
 ghost use Rattle.dw_num.specs.{Shortest.{shortest_uleb, shortest_sleb}, Target.address_limit};
-ghost use Rattle.dw_cfa.specs.{InstrSpells.IsOffset, Rows.rule, declared.instr.Instr.TheVariants.DefCfaOffset};
-ghost use Rattle.dw_cfa.specs.Inner.Agreement.{same_cfa};
+ghost use Rattle.dw_row.specs.{Rows.rule, Inner.Agreement.same_cfa};
+ghost use Rattle.dw_cfa.specs.{InstrSpells.IsOffset, declared.instr.Instr.TheVariants.DefCfaOffset};
 ghost use Rattle.dw_section.specs.Fits.{HasBlock, RuleFits};
 ghost use Rattle.dw_canon.specs.{Difference.move, Spelling.packed};
 ghost use Rattle.dw_canon.specs.Inner.{Difference.cfa_difference, Fits.InstrFits, Spelling.{expression_bytes, rule_bytes, instr_bytes, program_bytes}};
@@ -14,9 +14,9 @@ use crate::opcode::{
     OFFSET_EXTENDED, OFFSET_EXTENDED_SF, REGISTER, SAME_VALUE, SET_LOC, UNDEFINED, VAL_EXPRESSION,
     VAL_OFFSET, VAL_OFFSET_SF,
 };
-use dw_cfa::{CfaRule, RegRule, Row};
 use dw_num::{Target, put_fixed, put_sleb, put_uleb};
 use dw_op::ExprRef;
+use dw_row::{CfaRule, RegRule, Row};
 use std::alloc::AllocError;
 
 // Apart from `push_uleb`, whose numbers are mostly small.

@@ -2,11 +2,10 @@
 //! begin is compared with its group's by what its program set, and not by all registers of the CIE.
 
 ghost use Rattle.std.specs.{Prelude.{◌≡◌, ℕ, None, Some, IfSome, OnOk}, BTreeMap.get, Ordering.nat_cmp};
-ghost use Rattle.dw_cfa.specs.{RegisterSets.{AgreesBeside, SameBeside}, Rows.Rules};
-ghost use Rattle.dw_cfa.specs.Inner.Agreement.{agreed};
+ghost use Rattle.dw_row.specs.{RegisterSets.{AgreesBeside, SameBeside}, Rows.Rules, Inner.Agreement.agreed};
 ghost use Rattle.dw_normal.specs.Inner.Known.{AreLess, HoldsAt, Notes, Puts};
 
-use dw_cfa::{RegisterSet, Row};
+use dw_row::{RegisterSet, Row};
 use std::alloc::{AllocError, Global};
 use std::collections::BTreeMap;
 use std::mem;

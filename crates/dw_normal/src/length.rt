@@ -2,7 +2,7 @@
 //! walk: no sum can wrap, and no program behind it is run.
 
 ghost use Rattle.std.specs.{Prelude.{◌≡◌, ℕ, ◌<◌, ◌≤◌, ◌^◌, List, length, slice_index_or, IfOk, OnOk}, List.AllByRecursion};
-ghost use Rattle.dw_cfa.specs.Rows.{Rules};
+ghost use Rattle.dw_row.specs.Rows.{Rules};
 ghost use Rattle.dw_canon.specs.Members.{Member, AreMembers};
 ghost use Rattle.dw_canon.specs.Inner.{Canon.{canon, cie_instrs}, Fits.InstrFits};
 ghost use Rattle.dw_normal.specs.Inner.{Begun.Walks, Lengths.{Leaves, MemberLeaves, Measures, cies_bytes, fdes_bytes}};
@@ -12,8 +12,8 @@ use crate::begun::{Begun, begin_fde, room_for};
 use crate::contents::fill_cie;
 use crate::groups::Ready;
 use crate::room::{behind, behind_fde};
-use dw_cfa::Row;
 use dw_num::Target;
+use dw_row::Row;
 use dw_section::FdeRef;
 use std::alloc::{AllocError, Global};
 use std::collections::BTreeMap;

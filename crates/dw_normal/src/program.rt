@@ -1,8 +1,7 @@
 //! Programs of the normal form, appended.
 
 ghost use Rattle.std.specs.{Prelude.{◌≡◌, ◌++◌, IfOk, OnOk}, List.AllByRecursion};
-ghost use Rattle.dw_cfa.specs.Rows.{rule};
-ghost use Rattle.dw_cfa.specs.Inner.Agreement.{same_rule};
+ghost use Rattle.dw_row.specs.{Rows.rule, Inner.Agreement.same_rule};
 ghost use Rattle.dw_canon.specs.Inner.{Difference.{difference, cfa_difference, rule_to}, Fits.InstrFits, Spelling.{instr_bytes, program_bytes}};
 ghost use Rattle.dw_normal.specs.Inner.{Apart.StandsApart, ChangeWalk.{GoesOn, IsShown, Stand, shown_row}};
 ghost use Rattle.dw_normal.specs.Inner.{Differences.Tells};
@@ -13,8 +12,8 @@ use crate::instruction::{
     push_cfa_offset, push_move, push_offset, push_other_cfa, push_packed, push_rule,
 };
 use crate::opcode::{RESTORE, RESTORE_EXTENDED};
-use dw_cfa::{CfaRule, Row};
 use dw_num::Target;
+use dw_row::{CfaRule, Row};
 use dw_section::Changes;
 use std::alloc::AllocError;
 

@@ -7,8 +7,8 @@ ghost use Rattle.dw_normal.specs.Inner.{Begun.{IsReady, KeepsFde}, ChangeWalk.{S
 use crate::begun::Begun;
 use crate::contents::filled_len;
 use crate::program::{push_first, push_later};
-use dw_cfa::Row;
 use dw_num::Target;
+use dw_row::Row;
 use dw_section::Changes;
 use std::alloc::AllocError;
 

@@ -1,6 +1,6 @@
 -- How the first change of an FDE stands to the row that the program of its CIE leaves.
-use Rattle.dw_cfa.specs.RegisterSets.{Registers, has}
-use Rattle.dw_cfa.proofs.Lent.RowLists.{Entry}
+use Rattle.dw_row.specs.RegisterSets.{Registers, has}
+use Rattle.dw_row.proofs.Lent.RowLists.{Entry}
 use Rattle.dw_section.specs.declared.change.Behind.{Behind}
 use Rattle.dw_section.proofs.Words.{◌≡◌, ℕ, suc, ◌<◌, Bool, true, false, List, [], ◌∷◌, Option, Some, None, Ok, refl, sym, ap, subst, arith, inl, inr, filter, nat_tests, cases_Bool, cases_lt, IfSome, IsTrue, MatchOption, AreBytes}
 use Rattle.dw_section.proofs.Words.{LocatedRow, RegRule, Rules, Led, Walking, AllKeep, AreSpecified, Head, Headers, LedTo, Section, changes_among, is_kept, is_specified, kept, kept_by, leaves_one, rule, rule_in, shown_if, unlisted}

@@ -1,7 +1,7 @@
 -- The list of the changes among rows, and how the code finds one after another.
 use Rattle.dw_section.proofs.Words.{◌≡◌, ◌⊎◌, ℕ, Bool, false, List, [], ◌∷◌, Option, Some, None, Ok, refl, sym, ap, ◌∙◌, subst, inl, inr, ◌&&◌, not, nat_lt, Decides, cases_Bool, Decides-and, Decides-ltb, Decides-not, LocatedRow, Rules}
 use Rattle.dw_section.proofs.Words.{Outcome, Among, Before, Shows, changes_among, ChangesKeep, Stepping, Advances, AllKeep, row_then, is_before, repeats}
-use Rattle.dw_cfa.proofs.Lent.Equal.{row_test}
+use Rattle.dw_row.proofs.Lent.Equal.{row_test}
 
 before_tells : (end a : ℕ) (rows : List LocatedRow) → Decides (is_before end a rows) (Before end a rows)
 before_tells end a [] = Decides-ltb a end

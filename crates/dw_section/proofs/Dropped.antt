@@ -1,7 +1,7 @@
 -- The registers that a change drops from a row that was narrowed by the row before it.
 use Rattle.dw_section.proofs.Words.{◌≡◌, ℕ, suc, Bool, true, false, List, [], ◌∷◌, Option, Some, None, Ok, refl, sym, ap, ◌∙◌, subst, arith, nat_eq, nat_lt, nat_tests, not, inl, inr, filter, cases_Bool, RegRule, kept, Rules, rule, rule_in}
 use Rattle.dw_section.proofs.Words.{is_specified, kept_by, AreSpecified, ChangesKeep, DiffersFirst, is_kept, Changing, GivesAddress, before_then, same_rows, if◌then◌else◌, filter_keeps, filter_rule, without, FirstDifference, Unspecified}
-use Rattle.dw_cfa.proofs.Lent.RowLists.{Entry}
+use Rattle.dw_row.proofs.Lent.RowLists.{Entry}
 
 -- a rule that stays where a test keeps it
 abbrev left : (Entry → Bool) → ℕ → RegRule → RegRule

@@ -2,8 +2,8 @@
 use Rattle.dw_section.proofs.Words.{◌≡◌, ℕ, Bool, true, false, List, [], ◌∷◌, length, Option, Some, None, nat_le, sym, subst, inl, inr, AllByRecursion, AllZip, Refusal, Target, Span, input_of, LocatedRow, Factors, Instr, ProgramSpells}
 use Rattle.dw_section.proofs.Words.{Rules, rule, RunsTo, last_at, or_here, Outcome, CfaFits, RowFits, if◌then◌else◌, Leaves, HoldsBehind, IsRowAfter, GivesUpTo, ends, Ruled, RulesOf}
 use Rattle.dw_section.proofs.Lent.Fitting.{Gives, instr_gives, program_all, Fitting, cfa_found, rule_found, entries_fit}
-use Rattle.dw_cfa.specs.declared.rule.CfaRule.TheVariants as cfa
-use Rattle.dw_cfa.specs.declared.rule.RegRule.TheVariants as rules
+use Rattle.dw_row.specs.declared.rule.CfaRule.TheVariants as cfa
+use Rattle.dw_row.specs.declared.rule.RegRule.TheVariants as rules
 
 -- the initial row's rules fit
 record Begins (t : Target) (initial : Rules) : Type 0 where

@@ -1,8 +1,8 @@
 -- The addresses of an FDE at which its rules change, and the rules there: DWARF 5, 6.4.1 and 6.4.3. An FDE is given by the
 -- instructions of its CIE and of its own program, and by its range.
 use Rattle.std.specs.Prelude.{◌≡◌, ℕ, suc, ◌<◌, ◌≤◌, List, [], ◌∷◌, Option, Some, None, Bool, true, false, Result, Ok, Err}
-use Rattle.dw_cfa.specs.{Agreement.kept, Column.{cfa_after, rule_after}, InitialRules.{initial_cfa, initial_rule, HoldsAfter}}
-use Rattle.dw_cfa.specs.{Location.Counts, Rows.Rules, declared.instr.Instr.Instr}
+use Rattle.dw_row.specs.{Agreement.kept, Rows.Rules}
+use Rattle.dw_cfa.specs.{Column.{cfa_after, rule_after}, InitialRules.{initial_cfa, initial_rule, HoldsAfter}, Location.Counts, declared.instr.Instr.Instr}
 use Rattle.dw_section.specs.Table.{Section}
 
 -- after j and after k instructions each column has the same rule

@@ -2,9 +2,10 @@
 use Rattle.std.specs.{Prelude.{◌≡◌, ℕ, ◌<◌, ◌^◌, List, length}, List.AllByRecursion}
 use Rattle.dw_num.specs.declared.target.Target.{Target}
 use Rattle.dw_op.specs.{Block.FrameBlock, Expression.Expression}
-use Rattle.dw_cfa.specs.{InstrSpells.IsOffset, Rows.{Rules, AreSpecified}, declared.rule.CfaRule.CfaRule, declared.rule.RegRule.RegRule}
-use Rattle.dw_cfa.specs.declared.rule.CfaRule.TheVariants as cfa
-use Rattle.dw_cfa.specs.declared.rule.RegRule.TheVariants as rules
+use Rattle.dw_row.specs.{Rows.{Rules, AreSpecified}, declared.rule.{CfaRule.CfaRule, RegRule.RegRule}}
+use Rattle.dw_row.specs.declared.rule.CfaRule.TheVariants as cfa
+use Rattle.dw_row.specs.declared.rule.RegRule.TheVariants as rules
+use Rattle.dw_cfa.specs.InstrSpells.{IsOffset}
 
 -- an expression of the target that has a block whose length can be spelled
 abbrev pub HasBlock : Target → Expression → Type 0

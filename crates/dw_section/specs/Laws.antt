@@ -2,7 +2,8 @@
 use Rattle.std.specs.{Prelude.{◌≡◌, ◌↔◌, ◌⊎◌, ℕ, ◌<◌, ◌≤◌, List, ◌∷◌, ◌++◌, length, map}, List.{AllByRecursion, AllZip}}
 use Rattle.dw_num.specs.{Input.AreBytes, declared.refusal.Refusal.Refusal, declared.target.Target.Target}
 use Rattle.dw_op.specs.Faults.{IsWithin}
-use Rattle.dw_cfa.specs.{Location.row_starts, Rows.Rules, declared.instr.Instr.Instr, declared.rule.CfaRule.TheVariants.Unset}
+use Rattle.dw_row.specs.{Rows.Rules, declared.rule.CfaRule.TheVariants.Unset}
+use Rattle.dw_cfa.specs.{Location.row_starts, declared.instr.Instr.Instr}
 use Rattle.dw_section.specs.{Accepted.{Accepted, CheckFault}, Among.IsAmong, Changes.AreChanges, Faults.CutFault, Fits.RowFits}
 use Rattle.dw_section.specs.{Headers.{Head, Headers, HeadersFault}, Meaning.{FdeSays, AreFdes, Covers, RulesAt, ChangesOf, RowStarts, total}}
 use Rattle.dw_section.specs.{Meanings.SameMeaning, Opening.CieLeaves, Pieces.Entries, declared.entry.Entry.Entry, declared.lookup.Fde.Fde}

@@ -1,7 +1,8 @@
 -- What a section says: DWARF 5, 6.4.1. Its nonempty FDEs, and the rules at each address that they cover.
 use Rattle.std.specs.{Prelude.{◌≡◌, ℕ, ◌+◌, ◌<◌, ◌≤◌, List, [], ◌∷◌, length}, List.{AllByRecursion, AllZip}}
 use Rattle.dw_num.specs.declared.target.Target.{Target}
-use Rattle.dw_cfa.specs.{InitialRules.HoldsAfter, Location.{Counts, row_starts}, Rows.Rules, declared.instr.Instr.Instr}
+use Rattle.dw_row.specs.Rows.{Rules}
+use Rattle.dw_cfa.specs.{InitialRules.HoldsAfter, Location.{Counts, row_starts}, declared.instr.Instr.Instr}
 use Rattle.dw_section.specs.{Among.IsAmong, Changes.AreChanges, Headers.{CieHead, FdeHead, Head, cie, fde, Headers}}
 use Rattle.dw_section.specs.{Overlap.{Range, range_of, IsIndex, end_of}, Programs.Instrs, declared.lookup.Fde.Fde}
 

@@ -1,8 +1,8 @@
 -- How an FDE's program begins: DWARF 5, 6.4.3.
 use Rattle.std.specs.Prelude.{◌≡◌, ℕ, true, List, Ok}
 use Rattle.dw_num.specs.{Span.input_of, declared.target.Target.Target}
-use Rattle.dw_cfa.specs.{Behind.LeavesTo, Opening.{first_row, row_with}, RegisterSets.{Registers, SameBeside, has}}
-use Rattle.dw_cfa.specs.{Rows.{Rules, rule}, declared.instr.Instr.Instr}
+use Rattle.dw_row.specs.{RegisterSets.{Registers, SameBeside, has}, Rows.{Rules, rule}}
+use Rattle.dw_cfa.specs.{Behind.LeavesTo, Opening.{first_row, row_with}, declared.instr.Instr.Instr}
 use Rattle.dw_section.specs.{Among.IsAmong, Headers.{CieHead, Head, Headers, cie}, Meaning.FdeSays, Programs.{InitialInstrs, factors_of}}
 use Rattle.dw_section.specs.declared.{lookup.Fde.Fde, opening.CieRow.CieRow}
 

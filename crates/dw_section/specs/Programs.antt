@@ -2,8 +2,9 @@
 use Rattle.std.specs.Prelude.{◌≡◌, ℕ, ◌+◌, ◌<◌, ◌≤◌, List}
 use Rattle.dw_num.specs.{Span.{Span, input_of}, Target.address_limit}
 use Rattle.dw_num.specs.declared.{refusal.Code.TheVariants.NoCfaRule, refusal.Refusal.Refusal, target.Target.Target}
+use Rattle.dw_row.specs.declared.rule.CfaRule.TheVariants.{Unset}
 use Rattle.dw_cfa.specs.{Column.cfa_after, Faults.{CieFault, FdeFault}, InitialRules.initial_cfa, InstrSpells.ProgramSpells, Kept.{CieKept, FdeKept}}
-use Rattle.dw_cfa.specs.{Location.Counts, declared.instr.Factors.Factors, declared.instr.Instr.Instr, declared.rule.CfaRule.TheVariants.Unset}
+use Rattle.dw_cfa.specs.{Location.Counts, declared.instr.{Factors.Factors, Instr.Instr}}
 use Rattle.dw_section.specs.{Among.IsAmong, Headers.{CieHead, Head, cie, fde}}
 
 abbrev pub factors_of : CieHead → Factors

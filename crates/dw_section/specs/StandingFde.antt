@@ -11,7 +11,8 @@
 use Rattle.std.specs.Prelude.{◌≡◌, ◌⊎◌, ℕ, ◌+◌, ◌<◌, ◌≤◌, List, [], ◌∷◌, ◌++◌, length, take, drop, Option, Some, None, Err}
 use Rattle.dw_num.specs.{Fixed.Fixed, Span.input_of, declared.refusal.Code.TheVariants.SectionTooLarge}
 use Rattle.dw_num.specs.declared.{refusal.Refusal.Refusal, target.Order.Order, target.Target.Target}
-use Rattle.dw_cfa.specs.{Faults.{FaultUpTo, NoFaultUpTo}, Gives.RunsTo, Rows.Rules, RuleAt.last_at, Runs.Outcome}
+use Rattle.dw_row.specs.Rows.{Rules}
+use Rattle.dw_cfa.specs.{Faults.{FaultUpTo, NoFaultUpTo}, Gives.RunsTo, RuleAt.last_at, Runs.Outcome}
 use Rattle.dw_section.specs.{Cut.{Item, IsItem, Piece, id_width, item_bytes, piece_of}, Faults.item_at}
 use Rattle.dw_section.specs.{Headers.{CieHead, FdeHead, Has, cie, fde, CieStuck, FdeHolds, FdeStuck}, Meaning.Covers, Programs.factors_of}
 use Rattle.dw_section.specs.{Ranges.LeadsTo, Stage.Then, declared.entry.Kind.Kind, declared.fde_range.Ranged.Ranged, declared.lookup.Fde.Fde}

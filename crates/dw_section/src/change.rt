@@ -3,16 +3,18 @@
 
 ghost use Rattle.std.specs.Prelude.{◌⊎◌, ◌≡◌, ◌+◌, ◌<◌, ◌↔◌, ℕ, List, [], IsTrue, Ok, Some, None, true, IsErr, IfOk, IfSome, OnErr, OnOk, MatchOption};
 ghost use Rattle.dw_num.specs.{Input.AreBytes, Target.address_limit};
-ghost use Rattle.dw_cfa.specs.{Agreement.kept, Difference.{FirstDifference, place_behind}, RegisterSets.{SameBeside, has}, RowWalk.{AllKeep, StandsOn}};
-ghost use Rattle.dw_cfa.specs.{Rows.{AreSpecified, Rules, is_specified, rule}, declared.execution.LocatedRow.LocatedRow};
+ghost use Rattle.dw_row.specs.{Agreement.kept, Difference.{FirstDifference, place_behind}, RegisterSets.{SameBeside, has}};
+ghost use Rattle.dw_row.specs.Rows.{AreSpecified, Rules, is_specified, rule};
+ghost use Rattle.dw_cfa.specs.{RowWalk.{AllKeep, StandsOn}, declared.execution.LocatedRow.LocatedRow};
 ghost use Rattle.dw_section.specs.{Among.IsAmong, Changes.{GivesAddress, GivesChange, GoesOn, before_then, behind_all, kept_by}, Headers.{Head, Headers}};
 ghost use Rattle.dw_section.specs.{Opening.{AreChanged, CieLeaves}, Inner.{Changes.{Before, FindsChange, FindsFirst, ShownBehind, changing}, Lookup.AreRowsOf}};
 ghost use Rattle.dw_section.specs.Inner.{NarrowRow.NarrowedBy, PieceHeader.initial_in, Shown.{shown_if, shown_of}};
 
 use crate::listed_fde::FoundFde;
 use crate::walks::Walks;
-use dw_cfa::{RegisterSet, Row, RowWalk};
+use dw_cfa::RowWalk;
 use dw_num::{Target, are_bytes};
+use dw_row::{RegisterSet, Row};
 use std::alloc::{AllocError, Global};
 use std::marker::Model;
 

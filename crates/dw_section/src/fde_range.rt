@@ -12,8 +12,9 @@ ghost use Rattle.dw_section.specs.declared.fde_range.Ranged.{Ranged as TheRanged
 use crate::entry::next_piece;
 use crate::header::{Cies, FdeEntry, Initial, fde_of, or_fields_fault};
 use crate::walks::Walks;
-use dw_cfa::Row;
+use dw_cfa::become_initial;
 use dw_num::{Cursor, ReadError, Target, are_bytes};
+use dw_row::Row;
 use std::alloc::{AllocError, Global};
 
 /// A nonempty FDE as an index lists it: its first address (`initial_location`), how many addresses it covers
@@ -50,7 +51,7 @@ pub(crate) fn run_cies(
 {
     let mut row = Row::blank(alloc);
     for cie in initials {
-        row.become_initial(cie.program, cie.factors, target)?;
+        become_initial(&mut row, cie.program, cie.factors, target)?;
     }
     Ok(())
 }

@@ -2,7 +2,8 @@
 
 ghost use Rattle.std.specs.Prelude.{◌≡◌, List, Some};
 ghost use Rattle.dw_num.specs.declared.target.Target.{Target as TheTarget};
-ghost use Rattle.dw_cfa.specs.{RowSteps.stepping, Rows.blank, Runs.finished};
+ghost use Rattle.dw_row.specs.Rows.{blank};
+ghost use Rattle.dw_cfa.specs.{RowSteps.stepping, Runs.finished};
 ghost use Rattle.dw_section.specs.{Among.IsAmong, Headers.Head, Inner.{PieceHeader.initial_in, Walks.{AreAway, AreLed, LedTo}}};
 
 use crate::header::Initial;

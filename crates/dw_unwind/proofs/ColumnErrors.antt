@@ -1,8 +1,8 @@
 -- What is so of each error of a column.
 use Rattle.dw_unwind.proofs.Words.{◌≡◌, ℕ, List, [], Option, Some, None, Result, Ok, Err, refl, sym, subst, ok_or, option_map, byte_count, Expression, CfaRule, RegRule, EvalError, Context, read_at, Evaluates, Policy, Column, Cfa, Register}
 use Rattle.dw_unwind.proofs.Words.{UnwindError, Unreadable, NoRegister, in_column, recovered, on_value, on_cfa, saved_at, value_in, plus, ValueIs, SavedBy, CfaIs, RegisterIs}
-use Rattle.dw_cfa.specs.declared.rule.CfaRule.TheVariants as cfa
-use Rattle.dw_cfa.specs.declared.rule.RegRule.TheVariants as rules
+use Rattle.dw_row.specs.declared.rule.CfaRule.TheVariants as cfa
+use Rattle.dw_row.specs.declared.rule.RegRule.TheVariants as rules
 
 -- an answer, whose error is so
 abbrev pub Holds : {X : Type 0} → (UnwindError → Type 0) → Result X UnwindError → Type 0

@@ -1,7 +1,7 @@
 -- A fault of an unwinding names a column of the frame.
 use Rattle.dw_eval.specs.declared.error.EvalError.TheVariants as eval
-use Rattle.dw_cfa.specs.declared.rule.CfaRule.TheVariants as cfa
-use Rattle.dw_cfa.specs.declared.rule.RegRule.TheVariants as rules
+use Rattle.dw_row.specs.declared.rule.CfaRule.TheVariants as cfa
+use Rattle.dw_row.specs.declared.rule.RegRule.TheVariants as rules
 use Rattle.dw_unwind.proofs.Words.{◌≡◌, ℕ, List, Some, None, Result, Ok, Err, refl, sym, ◌∙◌, ap, subst, inl, inr, Expression, CfaRule, RegRule, Rules, rule, EvalError, Context, Column, Cfa, Register, Frame, Policy, UnwindError}
 use Rattle.dw_unwind.proofs.{Words.{Device, in_column, CfaIs, RegisterIs, ValueFails, SavedByFails, CfaFails, RegisterFails, column_of, IsInFrame, FaultsInFrame, FrameIs, FrameFails}, ColumnErrors.{Holds, cfa_holds, register_holds}}
 

@@ -2,7 +2,7 @@
 use Rattle.std.proofs.Common.{rules}
 use Rattle.dw_unwind.proofs.Words.{◌≡◌, ℕ, zero, suc, ◌<◌, ◌≤◌, true, false, List, [], ◌∷◌, ◌++◌, length, get_or, Option, None, Ok, refl, sym, subst, ◌∙◌, arith, inl, inr, AllByRecursion, AllPairs, ◌||◌, Bool, IsTrue, is_some, cases_lt}
 use Rattle.dw_unwind.proofs.Words.{ne_eqb, RegRule, Rules, AreSpecified, is_specified, rule, rule_in, Context, Fde, IsAmong, Policy, is_listed, IsListed, Recovers, AreRegisters, Reached, Rise, SoFar, IsLeft}
-use Rattle.dw_cfa.specs.declared.rule.RegRule.TheVariants.{Unspecified}
+use Rattle.dw_row.specs.declared.rule.RegRule.TheVariants.{Unspecified}
 use Rattle.dw_unwind.proofs.Elements.{all_push, all_more, all_among}
 
 or-true : (b : Bool) → (b || true) ≡ true

@@ -1,7 +1,7 @@
 -- A frame, or the first fault in its way, is one.
 use Rattle.dw_eval.proofs.Lent.Results.{same_value}
-use Rattle.dw_cfa.specs.declared.rule.CfaRule.TheVariants as cfa
-use Rattle.dw_cfa.specs.declared.rule.RegRule.TheVariants as rules
+use Rattle.dw_row.specs.declared.rule.CfaRule.TheVariants as cfa
+use Rattle.dw_row.specs.declared.rule.RegRule.TheVariants as rules
 use Rattle.dw_section.specs.{Accepted.Accepted, Headers.Head, Overlap.{Range, AreApart, IsIndex, end_of}}
 use Rattle.dw_unwind.proofs.Words.{◌≡◌, ℕ, suc, ◌≤◌, List, [], ◌∷◌, Option, Result, Ok, Err, refl, sym, ap, subst, ◌∙◌, arith, inl, inr, AllByRecursion, AllZip, Target, Expression, CfaRule, RegRule}
 use Rattle.dw_unwind.proofs.Words.{Rules, rule, Context, Fde, OneFdes, OneHeaders, OneRules, IsAmong, Lists, Covers, NoneCovers, Column, Frame, Policy, UnwindError, in_column, recovered, on_value, saved_at, on_cfa}

@@ -1,7 +1,7 @@
 -- A section gives each machine that stopped a frame or a fault. What holds below is taken by the public laws.
 use Rattle.dw_op.specs.Laws.{BlockInRange}
-use Rattle.dw_cfa.specs.declared.rule.CfaRule.TheVariants as cfa
-use Rattle.dw_cfa.specs.declared.rule.RegRule.TheVariants as rules
+use Rattle.dw_row.specs.declared.rule.CfaRule.TheVariants as cfa
+use Rattle.dw_row.specs.declared.rule.RegRule.TheVariants as rules
 use Rattle.dw_unwind.proofs.Words.{◌≡◌, ◌⊎◌, ℕ, zero, suc, ◌+◌, ◌<◌, ◌≤◌, true, false, List, [], ◌∷◌, ◌++◌, length, Option, Some, None, Result, Ok, Err, refl, ap, arith, inl, inr, ok_or, option_map, option_and_then, AllByRecursion}
 use Rattle.dw_unwind.proofs.Words.{cases_Bool, cases_lt, ne_eqb, slice_get_past, Target, Expression, CfaRule, RegRule, Rules, rule, rule_in, Context, OneResult, held, Policy, Fde, IsAmong, CfaFits, HasBlock, RowFits, RuleFits, CfaIsSet}
 use Rattle.dw_unwind.proofs.Words.{FdesExist, RulesExist, RulesFit, Covers, NoneCovers, rule_fits, Column, Cfa, Register, Frame, UnwindError, NoFde, NoRegister, in_column, recovered, on_value, saved_at, on_cfa, plus, defaulted}

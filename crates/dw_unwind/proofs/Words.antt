@@ -10,7 +10,7 @@ pub use Rattle.hex.specs.Hex.{decode_of}
 pub use Rattle.dw_num.specs.{Digits.{digit, number_behind}, Target.{address_limit, byte_count}, declared.target.Target.Target}
 pub use Rattle.dw_op.specs.Expression.{Expression}
 pub use Rattle.dw_eval.specs.{Context.{Context, context, read_at}, Evaluation.{Evaluates, MayFailAt, first_stack}, Laws.{OneResult, WantedByValue}, Registers.held, declared.error.EvalError.EvalError, declared.policy.Policy.Policy}
-pub use Rattle.dw_cfa.specs.{Rows.{AreSpecified, Rules, is_specified, rule, rule_in}, declared.rule.CfaRule.CfaRule, declared.rule.RegRule.RegRule}
+pub use Rattle.dw_row.specs.{Rows.{AreSpecified, Rules, is_specified, rule, rule_in}, declared.rule.{CfaRule.CfaRule, RegRule.RegRule}}
 pub use Rattle.dw_section.specs.{Among.IsAmong, Fits.{CfaFits, HasBlock, RowFits, RuleFits}, Laws.{CfaIsSet, FdesExist, OneFdes, OneHeaders, OneRules, RulesExist, RulesFit}}
 pub use Rattle.dw_section.specs.{Meaning.{Covers, Lists, NoneCovers}, Ranges.{IsTable, fde_in, range_in}, declared.lookup.Fde.Fde}
 pub use Rattle.dw_section.proofs.Lent.RowFits.{rule_fits}

@@ -6,9 +6,9 @@ use Rattle.dw_eval.specs.{Context.{Context, read_at}, Evaluation.{first_stack, E
 use Rattle.dw_eval.specs.declared.{error.EvalError.EvalError, policy.Policy.Policy, policy.Policy.TheVariants.{SameValue, Undefined}}
 use Rattle.dw_eval.specs.declared.error.EvalError.TheVariants as eval
 use Rattle.dw_eval.specs.declared.error.Kind.TheVariants as kinds
-use Rattle.dw_cfa.specs.declared.rule.{CfaRule.CfaRule, RegRule.RegRule}
-use Rattle.dw_cfa.specs.declared.rule.CfaRule.TheVariants as cfa
-use Rattle.dw_cfa.specs.declared.rule.RegRule.TheVariants as rules
+use Rattle.dw_row.specs.declared.rule.{CfaRule.CfaRule, RegRule.RegRule}
+use Rattle.dw_row.specs.declared.rule.CfaRule.TheVariants as cfa
+use Rattle.dw_row.specs.declared.rule.RegRule.TheVariants as rules
 use Rattle.dw_unwind.specs.declared.frame.{Column.Column, Column.TheVariants.{Cfa, Register}, UnwindError.UnwindError}
 use Rattle.dw_unwind.specs.declared.frame.UnwindError.TheVariants.{Eval, Unreadable, Device, NoRegister, OutOfMemory}
 

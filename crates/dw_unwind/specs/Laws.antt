@@ -2,7 +2,7 @@
 use Rattle.std.specs.Prelude.{◌≡◌, ◌⊎◌, ◌≤◌, ℕ, List, length, Option, Some, None, Err, ⊤, IsTrue}
 use Rattle.dw_num.specs.declared.target.Target.{Target}
 use Rattle.dw_eval.specs.{Context.{Context, read_at}, Wanted.IsMissing, declared.policy.Policy.Policy}
-use Rattle.dw_cfa.specs.Rows.{Rules}
+use Rattle.dw_row.specs.Rows.{Rules}
 use Rattle.dw_section.specs.declared.fde_range.Ranged.{Ranged}
 use Rattle.dw_unwind.specs.{Dump.{Say, FirstFault}, Statement.Statement, Unwound.{IsCovered, is_listed, FrameIs, Unwound, UnwindFails}, UnwoundAt.UnwoundAt}
 use Rattle.dw_unwind.specs.declared.{by_index.UnwindAtError.TheVariants.Unwind, fault.DumpError.DumpError, fault.DumpFault.DumpFault}

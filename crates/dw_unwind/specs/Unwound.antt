@@ -3,7 +3,7 @@ use Rattle.std.specs.{Prelude.{◌≡◌, ◌⊎◌, ◌<◌, ◌==◌, ◌||◌
 use Rattle.dw_num.specs.{Input.AreBytes, Laws.HoldsOfOne, declared.target.Target.Target}
 use Rattle.dw_eval.specs.{Context.Context, Registers.held, declared.policy.Policy.Policy}
 use Rattle.dw_eval.specs.declared.error.Kind.TheVariants as kinds
-use Rattle.dw_cfa.specs.Rows.{Rules, rule, is_specified}
+use Rattle.dw_row.specs.Rows.{Rules, rule, is_specified}
 use Rattle.dw_section.specs.{Accepted.Accepted, Among.IsAmong, Meaning.{AreFdes, Covers, NoneCovers, RulesAt}, declared.lookup.Fde.Fde}
 use Rattle.dw_unwind.specs.Columns.{CfaIs, RegisterIs, CfaFails, RegisterFails}
 use Rattle.dw_unwind.specs.declared.frame.{Frame.Frame, UnwindError.UnwindError, UnwindError.TheVariants.{NoFde, Eval, Device}}

@@ -3,7 +3,7 @@ use Rattle.std.specs.Prelude.{◌≡◌, ◌⊎◌, ℕ, List, Result, Ok, Err}
 use Rattle.dw_num.specs.declared.target.Target.{Target}
 use Rattle.dw_op.specs.Faults.{IsWithin}
 use Rattle.dw_eval.specs.{Context.Context, declared.policy.Policy.Policy}
-use Rattle.dw_cfa.specs.{Rows.Rules, declared.rule.CfaRule.TheVariants.Unset}
+use Rattle.dw_row.specs.{Rows.Rules, declared.rule.CfaRule.TheVariants.Unset}
 use Rattle.dw_section.specs.{Ranges.{LeadsTo, Uncovered}, StandingFde.{LookUpFault, Misleads, RulesOf}}
 use Rattle.dw_section.specs.declared.{fde_range.Ranged.Ranged, lookup.Fde.Fde}
 use Rattle.dw_unwind.specs.Unwound.{FrameIs, FrameFails}

@@ -1,7 +1,7 @@
 //! The frame of the caller by an index that was kept, or by the table of a section (6.4.1).
 
 ghost use Rattle.std.specs.Prelude.{◌≡◌, ◌⊎◌, ◌-◌, ◌^◌, ◌<◌, ◌≤◌, true, IfOk, IfErr, OnOk, MatchResult, Result, Err};
-ghost use Rattle.dw_cfa.specs.declared.rule.CfaRule.TheVariants.{Unset};
+ghost use Rattle.dw_row.specs.declared.rule.CfaRule.TheVariants.{Unset};
 ghost use Rattle.dw_section.specs.{Fits.RowFits, Ranges.IsTable};
 ghost use Rattle.dw_unwind.specs.Unwound.{IsCovered, IsUncovered, Unwound, UnwindFails, is_device, stopped};
 ghost use Rattle.dw_unwind.specs.UnwoundAt.{IsLed, LacksRow, UnwoundAt, UnwindAtFails, by_index};
@@ -12,9 +12,10 @@ ghost use Rattle.dw_unwind.specs.declared.by_index.UnwindAtError.TheVariants as 
 use crate::frame::{Frame, UnwindError};
 use crate::frame_room::FrameRoom;
 use crate::machine::unwind_row;
-use dw_cfa::{CfaRule, RowRoom};
+use dw_cfa::RowRoom;
 use dw_eval::{Memory, Policy, Registers};
 use dw_num::{Refusal, Target, are_bytes};
+use dw_row::CfaRule;
 use dw_section::{LookUpError, Ranged, Table, look_up, section_laws};
 use std::alloc::Global;
 use thiserror::Error;

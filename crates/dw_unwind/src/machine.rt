@@ -2,7 +2,7 @@
 
 ghost use Rattle.std.specs.Prelude.{◌≡◌, ◌⊎◌, ℕ, ◌+◌, ◌-◌, ◌^◌, ◌<◌, ◌≤◌, true, Option, IsTrue, OnOk, Err};
 ghost use Rattle.dw_eval.specs.{Context.context, Evaluation.first_stack, Registers.held};
-ghost use Rattle.dw_cfa.specs.{Rows.{rule, is_specified}, declared.rule.CfaRule.TheVariants.Unset, declared.rule.RegRule.TheVariants.Unspecified};
+ghost use Rattle.dw_row.specs.{Rows.{rule, is_specified}, declared.rule.{CfaRule.TheVariants.Unset, RegRule.TheVariants.Unspecified}};
 ghost use Rattle.dw_section.specs.Fits.{CfaFits, RowFits, RuleFits};
 ghost use Rattle.dw_unwind.specs.{Columns.{CfaFails, CfaIs, RegisterFails, RegisterIs, SavedFails, ValueFails, ValueIs, defaulted, in_column}};
 ghost use Rattle.dw_unwind.specs.{Columns.{saved_at, value_in}, Unwound.{FrameFails, FrameIs, RegistersAre, RegistersFail, is_device, is_listed, stopped}};
@@ -11,12 +11,12 @@ ghost use Rattle.dw_unwind.specs.Inner.Recovery.{Adds, Over, SoFar};
 
 use crate::frame::{Column, Frame, UnwindError};
 use crate::frame_room::{FrameRegisters, FrameRoom};
-use dw_cfa::{CfaRule, RegRule, Row};
 use dw_eval::{
     Env, EvalError, Memory, Policy, ReadFault, Registers, evaluate, is_in_space, offset_by, reduced,
 };
 use dw_num::Target;
 use dw_op::ExprRef;
+use dw_row::{CfaRule, RegRule, Row};
 use std::alloc::{AllocError, Global};
 
 // A machine that stopped, what its unset registers are taken as, how many steps an expression may take, and the row that

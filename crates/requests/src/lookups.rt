@@ -1,8 +1,9 @@
 //! Look-ups of addresses one after another, to be counted beside those of another reader (`bench/run`).
 
 use crate::Calls;
-use dw_cfa::{CfaRule, RegRule, Row, RowRoom};
+use dw_cfa::RowRoom;
 use dw_num::Target;
+use dw_row::{CfaRule, RegRule, Row};
 use dw_section::{Fde, Table, check};
 use std::alloc::AllocError;
 use std::test::Fail;

@@ -5,8 +5,9 @@ ghost use Rattle.dw_num.specs.Target.{address_limit};
 
 use crate::Calls;
 use crate::expressions::on_expression;
-use dw_cfa::{CfaRule, Factors, Instr, Instructions, RegRule, Row, RowSteps, RowWalk, run};
+use dw_cfa::{Factors, Instr, Instructions, RowSteps, RowWalk, become_initial, run};
 use dw_num::{Program, Target};
+use dw_row::{CfaRule, RegRule, Row};
 use dw_section::{Header, headers};
 use std::io;
 use std::test::Fail;
@@ -168,7 +169,7 @@ fn lacking(rt: &impl Calls, entry: Entry<'_>, begin: u64, target: Target) -> Res
 
 fn print_initial(rt: &impl Calls, entry: Entry<'_>, target: Target) -> Result<(), Fail> {
     let mut row = Row::blank(rt.alloc());
-    row.become_initial(entry.cie, entry.factors, target)?;
+    become_initial(&mut row, entry.cie, entry.factors, target)?;
     Ok(print_row(rt, 0, &row)?)
 }
 
@@ -192,7 +193,7 @@ fn on_fde(rt: &impl Calls, call: &str, entry: Entry<'_>, target: Target) -> Resu
         _ => return print_initial(rt, entry, target),
     }
     let mut row = Row::blank(rt.alloc());
-    row.become_initial(entry.cie, entry.factors, target)?;
+    become_initial(&mut row, entry.cie, entry.factors, target)?;
     print_copied(rt, &row)
 }
 

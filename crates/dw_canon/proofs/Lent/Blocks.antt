@@ -2,7 +2,7 @@
 use Rattle.dw_canon.proofs.Words.{◌≡◌, ℕ, List, [], ◌∷◌, ◌++◌, refl, ap, ◌∙◌, AllByRecursion, Target, Op, LeastBlock, least_block, Expression, shortest_uleb, least_block_exists, Instr, DefCfaExpression, Set, RegRule, HasBlock, RuleFits}
 use Rattle.dw_canon.proofs.Words.{InstrFits, counted_block}
 use Rattle.dw_canon.specs.Spelling.{rule_bytes, program_bytes, instr_bytes as instr_with}
-use Rattle.dw_cfa.specs.declared.rule.RegRule.TheVariants as rules
+use Rattle.dw_row.specs.declared.rule.RegRule.TheVariants as rules
 
 module _ (t : Target) (block : List Op → List ℕ) (least : (ops : List Op) (bytes : List ℕ) → LeastBlock t ops bytes → block ops ≡ bytes) where
   same_block : (e : Expression) → HasBlock t e → block e.ops ≡ least_block t e.ops

@@ -2,10 +2,10 @@
 use Rattle.dw_canon.proofs.Words.{◌≡◌, ◌⊎◌, ℕ, Bool, true, false, List, [], ◌∷◌, ◌++◌, None, refl, sym, ap, ◌∙◌, subst, inl, inr, arith, nat_eq, nat_lt, if◌then◌else◌, map, flat_map, cases_Bool, eqb-true, eqb-false}
 use Rattle.dw_canon.proofs.Words.{Target, Instr, Set, Restore, CfaRule, RegRule, moves_location, keeps_half, State, after, half_fault, fde_fault, Rules, AreSpecified, rule, rule_in, same_rows, cfa_to, either, cfa_difference}
 use Rattle.dw_canon.proofs.Words.{rule_difference, difference, with_register, with_registers, CfaFits, RowFits, same_cfa, same_rule, cfa_tells, rule_tells}
-use Rattle.dw_cfa.specs.Inner.Rows.{with_cfa, with_rule}
-use Rattle.dw_cfa.proofs.Lent.RowLists.{put_rule, put_keeps}
-use Rattle.dw_cfa.specs.declared.rule.CfaRule.TheVariants as cfa
-use Rattle.dw_cfa.specs.declared.rule.RegRule.TheVariants as rules
+use Rattle.dw_row.specs.Rows.{with_cfa, with_rule}
+use Rattle.dw_row.proofs.Lent.RowLists.{put_rule, put_keeps}
+use Rattle.dw_row.specs.declared.rule.CfaRule.TheVariants as cfa
+use Rattle.dw_row.specs.declared.rule.RegRule.TheVariants as rules
 
 -- ---- instructions that move no location, and run without a fault from one state to another
 

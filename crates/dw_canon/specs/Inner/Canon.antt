@@ -2,8 +2,8 @@
 use Rattle.std.specs.Prelude.{ℕ, List}
 use Rattle.dw_num.specs.declared.target.Target.{Target}
 use Rattle.dw_op.specs.Inner.LeastBlock.{least_block}
-use Rattle.dw_cfa.specs.{Rows.Rules, declared.instr.Instr.Instr}
-use Rattle.dw_cfa.specs.Inner.Agreement.{same_cfa, same_rule}
+use Rattle.dw_row.specs.{Rows.Rules, Inner.Agreement.{same_cfa, same_rule}}
+use Rattle.dw_cfa.specs.declared.instr.Instr.{Instr}
 use Rattle.dw_canon.specs.{Group.group, Members.Member, Inner.Group.initial_row}
 use Rattle.dw_canon.specs.Canon as form
 

@@ -1,7 +1,7 @@
 -- The instructions that lead from one row to another, by the tests that the code has.
 use Rattle.std.specs.{Prelude.{ℕ, List}, BTreeSet.insert_key, List.fold, Ordering.nat_cmp}
-use Rattle.dw_cfa.specs.{Rows.Rules, declared.instr.Instr.Instr, declared.rule.CfaRule.CfaRule, declared.rule.RegRule.RegRule}
-use Rattle.dw_cfa.specs.Inner.Agreement.{same_cfa, same_rule}
+use Rattle.dw_row.specs.{Rows.Rules, declared.rule.{CfaRule.CfaRule, RegRule.RegRule}, Inner.Agreement.{same_cfa, same_rule}}
+use Rattle.dw_cfa.specs.declared.instr.Instr.{Instr}
 use Rattle.dw_canon.specs.Difference as form
 
 -- an ascending list with a register more

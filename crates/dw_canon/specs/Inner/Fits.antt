@@ -1,10 +1,11 @@
 -- What is so of the rules of an accepted section, so that instructions can give them, and of these instructions.
 use Rattle.std.specs.Prelude.{◌≡◌, ℕ, ◌<◌, ◌≤◌, ◌^◌, List, [], ◌∷◌, IsTrue}
 use Rattle.dw_num.specs.{Target.address_limit, declared.target.Target.Target}
-use Rattle.dw_cfa.specs.{InstrSpells.IsOffset, Rows.{Rules, rule, is_specified}}
-use Rattle.dw_cfa.specs.declared.instr.{Instr.Instr, Instr.TheVariants.{SetLoc, Advance, DefCfa, DefCfaRegister, DefCfaOffset, DefCfaExpression, Set, Restore}}
-use Rattle.dw_cfa.specs.declared.rule.CfaRule.TheVariants as cfa
-use Rattle.dw_cfa.specs.declared.rule.RegRule.TheVariants as rules
+use Rattle.dw_row.specs.Rows.{Rules, rule, is_specified}
+use Rattle.dw_row.specs.declared.rule.CfaRule.TheVariants as cfa
+use Rattle.dw_row.specs.declared.rule.RegRule.TheVariants as rules
+use Rattle.dw_cfa.specs.InstrSpells.{IsOffset}
+use Rattle.dw_cfa.specs.declared.instr.Instr.{Instr, TheVariants.{SetLoc, Advance, DefCfa, DefCfaRegister, DefCfaOffset, DefCfaExpression, Set, Restore}}
 use Rattle.dw_section.specs.Fits.{HasBlock, RowFits, RuleFits}
 use Rattle.dw_canon.specs.Members.{Member}
 

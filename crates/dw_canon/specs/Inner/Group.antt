@@ -1,7 +1,6 @@
 -- What the FDEs of one return address register share, in one pass over all their rows.
 use Rattle.std.specs.Prelude.{List, [], ◌∷◌}
-use Rattle.dw_cfa.specs.Rows.{Rules, blank}
-use Rattle.dw_cfa.specs.Inner.Agreement.{agreed}
+use Rattle.dw_row.specs.{Rows.{Rules, blank}, Inner.Agreement.agreed}
 use Rattle.dw_section.specs.Changes.{kept_by}
 use Rattle.dw_canon.specs.Members.{Member}
 

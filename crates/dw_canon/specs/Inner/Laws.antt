@@ -1,8 +1,9 @@
 -- What holds of the programs of a normal form, and of changes: premises of the laws of normal forms.
 use Rattle.std.specs.Prelude.{◌≡◌, ℕ, ◌<◌, List, length}
 use Rattle.dw_num.specs.{Target.address_limit, declared.target.Target.Target}
-use Rattle.dw_cfa.specs.{InitialRules.{initial_cfa, initial_rule}, InstrSpells.ProgramSpells, Kept.{CieKept, FdeKept}}
-use Rattle.dw_cfa.specs.{Location.row_starts, Rows.{Rules, rule}, declared.instr.Instr.Instr}
+use Rattle.dw_row.specs.Rows.{Rules, rule}
+use Rattle.dw_cfa.specs.{InitialRules.{initial_cfa, initial_rule}, InstrSpells.ProgramSpells, Kept.{CieKept, FdeKept}, Location.row_starts}
+use Rattle.dw_cfa.specs.declared.instr.Instr.{Instr}
 use Rattle.dw_section.specs.{Changes.AreChanges, Fits.RowFits}
 use Rattle.dw_canon.specs.{Members.{Member, changes_of}, Inner.Canon.{cie_instrs, fde_instrs}}
 use Rattle.dw_canon.specs.Inner.{Fits.MemberStands, Spelling.program_bytes, Written.factors}

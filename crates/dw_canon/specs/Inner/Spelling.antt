@@ -3,7 +3,8 @@ use Rattle.std.specs.Prelude.{ℕ, List}
 use Rattle.dw_num.specs.declared.target.Target.{Target}
 use Rattle.dw_op.specs.Expression.{Expression}
 use Rattle.dw_op.specs.Inner.LeastBlock.{least_block}
-use Rattle.dw_cfa.specs.declared.{instr.Instr.Instr, rule.RegRule.RegRule}
+use Rattle.dw_row.specs.declared.rule.RegRule.{RegRule}
+use Rattle.dw_cfa.specs.declared.instr.Instr.{Instr}
 use Rattle.dw_canon.specs.Spelling as spelling
 
 abbrev pub expression_bytes : Target → Expression → List ℕ

@@ -2,11 +2,15 @@
 use Rattle.std.specs.Prelude.{ℕ, ◌^◌, Result, Ok, nat_lt, if◌then◌else◌, ℤ, pos, ◌*ℤ◌, unsigned_abs}
 use Rattle.dw_num.specs.{Front.{Read, fault, fixed_at, register_at, uleb_at, sleb_at, address_at, ◌>>=◌}, Input.Input}
 use Rattle.dw_num.specs.declared.refusal.{Code.TheVariants.OffsetTooLarge, Refusal.Refusal}
-use Rattle.dw_cfa.specs.{Operands.advanced, declared.instr.Factors.Factors, declared.instr.Instr.Instr, declared.instr.Instr.TheVariants.{Nop, SetLoc}}
-use Rattle.dw_cfa.specs.declared.instr.Instr.TheVariants.{DefCfa, DefCfaRegister, DefCfaOffset, DefCfaExpression, Set, Restore, RememberState, RestoreState}
-use Rattle.dw_cfa.specs.{declared.opcode.Opcode.Opcode, declared.rule.RegRule.RegRule, Inner.FrontInstr.{leaving, block_at, with_instr}}
+use Rattle.dw_row.specs.declared.rule.RegRule.{RegRule}
+use Rattle.dw_row.specs.declared.rule.RegRule.TheVariants as rules
+use Rattle.dw_cfa.specs.declared.instr.Instr.TheVariants.{Nop, SetLoc, DefCfa, DefCfaRegister, DefCfaOffset, DefCfaExpression, Set, Restore, RememberState}
+use Rattle.dw_cfa.specs.declared.instr.Instr.TheVariants.{RestoreState}
+use Rattle.dw_cfa.specs.declared.instr.Instr.{Instr}
+use Rattle.dw_cfa.specs.declared.instr.Factors.{Factors}
+use Rattle.dw_cfa.specs.declared.opcode.Opcode.{Opcode}
+use Rattle.dw_cfa.specs.{Operands.advanced, Inner.FrontInstr.{leaving, block_at, with_instr}}
 use Rattle.dw_cfa.specs.declared.opcode.Opcode.TheVariants as opcodes
-use Rattle.dw_cfa.specs.declared.rule.RegRule.TheVariants as rules
 
 -- ---- offsets
 

@@ -1,6 +1,7 @@
 -- How the code finds that rows leave an address without a rule for the CFA.
 use Rattle.std.specs.Prelude.{ℕ, ◌&&◌, ◌||◌, Bool, true, false, List, [], ◌∷◌, nat_lt}
-use Rattle.dw_cfa.specs.declared.{execution.LocatedRow.LocatedRow, rule.CfaRule.CfaRule, rule.CfaRule.TheVariants.Unset}
+use Rattle.dw_row.specs.declared.rule.CfaRule.{CfaRule, TheVariants.Unset}
+use Rattle.dw_cfa.specs.declared.execution.LocatedRow.{LocatedRow}
 
 abbrev pub is_unset : CfaRule → Bool
 is_unset Unset = true

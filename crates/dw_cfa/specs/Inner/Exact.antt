@@ -1,9 +1,9 @@
 -- What the programs of a CIE and of an FDE give, by the run that the code keeps to.
 use Rattle.std.specs.Prelude.{◌≡◌, ℕ, ◌≤◌, List, None, Ok}
 use Rattle.dw_num.specs.{Input.{Input, AreBytes}, Target.address_limit}
-use Rattle.dw_cfa.specs.{Behind.Leaves, InstrSpells.ProgramSpells, Kept.{CieKept, FdeKept}, Rows.{Rules, AreSpecified, blank}, RulesBehind.RulesBehind}
-use Rattle.dw_cfa.specs.declared.{execution.LocatedRow.LocatedRow, instr.Factors.Factors, instr.Instr.Instr}
-use Rattle.dw_cfa.specs.Inner.Runs.{placed, initial_row, rows_behind}
+use Rattle.dw_row.specs.Rows.{Rules, AreSpecified, blank}
+use Rattle.dw_cfa.specs.{Behind.Leaves, InstrSpells.ProgramSpells, Kept.{CieKept, FdeKept}, RulesBehind.RulesBehind}
+use Rattle.dw_cfa.specs.{declared.{execution.LocatedRow.LocatedRow, instr.{Factors.Factors, Instr.Instr}}, Inner.Runs.{placed, initial_row, rows_behind}}
 
 -- a CIE's program that leaves a row is one that keeps its rules
 abbrev pub InitialLeaves : Type 0

@@ -1,6 +1,7 @@
 -- What a look-up keeps, in the words of the machine.
-use Rattle.std.specs.{Prelude.{◌≡◌, ℕ, ◌<◌, List, [], ◌∷◌, Bool, true, false, Option, Some, None}, Int.bit_at}
-use Rattle.dw_cfa.specs.{Rows.{Rules, blank, rule}, declared.machine.Machine.Machine, declared.rule.RegRule.TheVariants.Unspecified}
+use Rattle.std.specs.Prelude.{ℕ, List, [], ◌∷◌, Bool, true, false, Option, Some, None}
+use Rattle.dw_row.specs.Rows.{Rules, blank}
+use Rattle.dw_cfa.specs.declared.machine.Machine.{Machine}
 
 -- at most one row is remembered
 abbrev pub stack_of : Option Rules → List Rules
@@ -16,7 +17,3 @@ kept_if false kept = None
 abbrev pub look_up_at : Rules → ℕ → Rules → Option Rules → ℕ → Machine
 look_up_at initial limit row remembered location =
     record { initial = initial; states = record { row = row; stack = stack_of remembered; first = None; kept = blank }; location = location; limit = limit }
-
--- of the registers below 128 a row specifies none but those in a mask
-abbrev pub SpecifiesIn : ℕ → Rules → Type 0
-SpecifiesIn mask row = (r : ℕ) → r < 128 → bit_at mask r ≡ 0 → rule row r ≡ Unspecified

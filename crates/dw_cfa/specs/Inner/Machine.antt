@@ -2,10 +2,10 @@
 use Rattle.std.specs.Prelude.{ℕ, ◌+◌, List, [], ◌∷◌, length, Bool, true, false, Option, Some, None, nat_lt, if◌then◌else◌}
 use Rattle.dw_num.specs.declared.refusal.Code.{Code}
 use Rattle.dw_num.specs.declared.refusal.Code.TheVariants.{NotInCie, LocationBackwards, LocationTooLarge, EmptyStateStack, StateStackFull, CfaNotRegister}
-use Rattle.dw_cfa.specs.{Column.cfa_change, Kept.{in_cie, keeps_half}, Rows.{Rules, rule}}
-use Rattle.dw_cfa.specs.declared.instr.{Instr.Instr, Instr.TheVariants.{SetLoc, Advance, Set, Restore, RememberState, RestoreState}}
-use Rattle.dw_cfa.specs.{declared.rule.CfaRule.CfaRule, Inner.Rows.{with_cfa, with_rule}}
-use Rattle.dw_cfa.specs.declared.rule.CfaRule.TheVariants as cfa
+use Rattle.dw_row.specs.{Rows.{Rules, rule, with_cfa, with_rule}, declared.rule.CfaRule.CfaRule}
+use Rattle.dw_row.specs.declared.rule.CfaRule.TheVariants as cfa
+use Rattle.dw_cfa.specs.{Column.cfa_change, Kept.{in_cie, keeps_half}}
+use Rattle.dw_cfa.specs.declared.instr.Instr.{Instr, TheVariants.{SetLoc, Advance, Set, Restore, RememberState, RestoreState}}
 
 -- the current row, the remembered ones, the last first, and the location
 pub record State : Type 0 where

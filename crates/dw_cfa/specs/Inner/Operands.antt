@@ -1,11 +1,13 @@
 -- What the code knows of an opcode, beside the table of codes.
 use Rattle.std.specs.Prelude.{ℕ, ◌-◌, List, [], ◌∷◌, Option, Some, if◌then◌else◌, pos, ◌*ℤ◌}
 use Rattle.dw_op.specs.Operands.{look_up, in_range}
+use Rattle.dw_row.specs.declared.rule.RegRule.TheVariants as rules
+use Rattle.dw_cfa.specs.declared.instr.Instr.TheVariants.{Nop, SetLoc, DefCfa, DefCfaRegister, DefCfaOffset, DefCfaExpression, Set, Restore, RememberState}
+use Rattle.dw_cfa.specs.declared.instr.Instr.TheVariants.{RestoreState}
+use Rattle.dw_cfa.specs.declared.instr.Factors.{Factors}
+use Rattle.dw_cfa.specs.declared.opcode.Opcode.{Opcode}
 use Rattle.dw_cfa.specs.Operands.{address, fixed, register, unsigned, signed, expression, InstrForm, none, one, two, advanced}
-use Rattle.dw_cfa.specs.declared.instr.{Factors.Factors, Instr.TheVariants.{Nop, SetLoc, DefCfa, DefCfaRegister, DefCfaOffset}}
-use Rattle.dw_cfa.specs.declared.{instr.Instr.TheVariants.{DefCfaExpression, Set, Restore, RememberState, RestoreState}, opcode.Opcode.Opcode}
 use Rattle.dw_cfa.specs.declared.opcode.Opcode.TheVariants as opcodes
-use Rattle.dw_cfa.specs.declared.rule.RegRule.TheVariants as rules
 
 -- the codes that are a whole byte
 abbrev pub opcode_table : List (ℕ × Opcode)

@@ -1,10 +1,11 @@
 -- How the code runs the programs of one FDE after another in one room.
 use Rattle.std.specs.{Prelude.{◌≡◌, ℕ, Bool, true, false, if◌then◌else◌, IsTrue, IfSome, List, Option, Some, Result, Ok, Err, None, []}, List.AllByRecursion}
 use Rattle.dw_num.specs.{Input.Input, Refusals.Refuses, declared.error.ReadError.ReadError, declared.refusal.Refusal.Refusal}
-use Rattle.dw_cfa.specs.{Behind.LeavesTo, RowSteps.{Failed, Stepping, program_input, stepping}, RowWalk.Led, Rows.{Rules, blank, is_specified, rule}}
-use Rattle.dw_cfa.specs.{Runs.{Outcome, fails, finished, row_then}, declared.execution.LocatedRow.LocatedRow}
-use Rattle.dw_cfa.specs.declared.{instr.Factors.Factors, lead.Leading.Leading, machine.Machine.Machine, next_row.Progress.Progress}
-use Rattle.dw_cfa.specs.Inner.{Runs.{RunsSo, initial_row, placed, rows_left, run_rows}, States.BeganWith}
+use Rattle.dw_row.specs.{Rows.{Rules, blank, is_specified, rule}, States.BeganWith}
+use Rattle.dw_cfa.specs.declared.{execution.LocatedRow.LocatedRow, instr.Factors.Factors, lead.Leading.Leading, machine.Machine.Machine}
+use Rattle.dw_cfa.specs.declared.next_row.Progress.{Progress}
+use Rattle.dw_cfa.specs.{Behind.LeavesTo, RowSteps.{Failed, Stepping, program_input, stepping}, RowWalk.Led, Runs.{Outcome, fails, finished, row_then}}
+use Rattle.dw_cfa.specs.Inner.Runs.{RunsSo, initial_row, placed, rows_left, run_rows}
 use Rattle.dw_cfa.specs.declared.next_row.Progress.TheVariants as progress
 
 abbrev pub led_of : Leading → Led

@@ -1,7 +1,8 @@
 -- What the code and its proofs say beside RuleAt.
 use Rattle.std.specs.Prelude.{◌≡◌, ℕ, ◌≤◌, List, Result, Ok, Err, Some, length}
 use Rattle.dw_num.specs.{Input.Input, Refusals.Refuses, declared.error.ReadError.ReadError}
-use Rattle.dw_cfa.specs.{Location.{onto, location_back}, Rows.Rules, RuleAt.last_at, declared.instr.{Factors.Factors, Instr.Instr}}
+use Rattle.dw_row.specs.Rows.{Rules}
+use Rattle.dw_cfa.specs.{Location.{onto, location_back}, RuleAt.last_at, declared.instr.{Factors.Factors, Instr.Instr}}
 use Rattle.dw_cfa.specs.Inner.Runs.{StopsAbove, run_rows, run_stop}
 
 -- the instructions that count at address a, behind those that came earlier, are the next k

@@ -4,9 +4,10 @@ use Rattle.dw_num.specs.{Input.Input, Target.address_limit}
 use Rattle.dw_num.specs.declared.{refusal.Code.Code, refusal.Refusal.Refusal}
 use Rattle.dw_op.specs.Walks.{Walked}
 use Rattle.dw_op.specs.Inner.Walks.{walked}
-use Rattle.dw_cfa.specs.{Location.moves_location, Rows.{Rules, blank}, Runs.{Outcome, finished, fails, row_then}}
-use Rattle.dw_cfa.specs.declared.{execution.LocatedRow.LocatedRow, instr.Factors.Factors, instr.Instr.Instr, machine.Machine.Machine}
-use Rattle.dw_cfa.specs.Inner.{FrontInstr.instr_at, Machine.{State, begun, written, after, cie_fault, fde_fault}, States.BeganWith, Steps.state_of}
+use Rattle.dw_row.specs.{Rows.{Rules, blank}, States.BeganWith}
+use Rattle.dw_cfa.specs.{Location.moves_location, Runs.{Outcome, finished, fails, row_then}}
+use Rattle.dw_cfa.specs.declared.{execution.LocatedRow.LocatedRow, instr.{Factors.Factors, Instr.Instr}, machine.Machine.Machine}
+use Rattle.dw_cfa.specs.Inner.{FrontInstr.instr_at, Machine.{State, begun, written, after, cie_fault, fde_fault}, Steps.state_of}
 
 -- an instruction and the place of its opcode
 pub record Placed : Type 0 where

@@ -1,8 +1,8 @@
 -- One turn of the loop that runs an FDE's program.
 use Rattle.std.specs.Prelude.{◌≡◌, ℕ, ◌≤◌, ◌^◌, Bool, true, false, [], Some, None, Ok, Err}
 use Rattle.dw_num.specs.{Front.Read, Input.Input, declared.refusal.Refusal.Refusal}
-use Rattle.dw_cfa.specs.{Location.moves_location, Rows.{Rules, blank}, Runs.fails}
-use Rattle.dw_cfa.specs.declared.{instr.Factors.Factors, instr.Instr.Instr, machine.End.End, machine.Machine.Machine}
+use Rattle.dw_row.specs.Rows.{Rules, blank}
+use Rattle.dw_cfa.specs.{Location.moves_location, Runs.fails, declared.{instr.{Factors.Factors, Instr.Instr}, machine.{End.End, Machine.Machine}}}
 use Rattle.dw_cfa.specs.Inner.{Machine.program_fault, Runs.{initial_row, placed, rows_left, RanTo, WroteTo}, Steps.{state_of, IsAfter}}
 use Rattle.dw_cfa.specs.declared.machine.End.TheVariants as ends
 

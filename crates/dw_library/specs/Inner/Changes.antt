@@ -1,6 +1,6 @@
 -- How the code keeps what it tells of changes.
 use Rattle.std.specs.Prelude.{◌<◌, ◌^◌, ℕ}
-use Rattle.dw_cfa.specs.Rows.{Rules}
+use Rattle.dw_row.specs.Rows.{Rules}
 
 -- an address of at most 64 bits
 abbrev pub IsLow : ℕ × Rules → Type 0

@@ -2,7 +2,7 @@
 use Rattle.std.specs.Prelude.{◌≡◌, ℕ, ◌≤◌, List, length}
 use Rattle.dw_num.specs.{Input.AreBytes, declared.error.ReadError.ReadError, declared.target.Target.Target}
 use Rattle.dw_num.specs.declared.error.ReadError.TheVariants as read_error
-use Rattle.dw_cfa.specs.Rows.{Rules}
+use Rattle.dw_row.specs.Rows.{Rules}
 use Rattle.dw_section.specs.Accepted.{Accepted}
 use Rattle.dw_canon.specs.Members.{Member, AreMembers}
 use Rattle.dw_canon.specs.Inner.Canon.{canon}

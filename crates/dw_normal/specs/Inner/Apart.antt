@@ -1,6 +1,6 @@
 -- How the registers are listed to which two rows give different rules.
 use Rattle.std.specs.{Prelude.{◌≡◌, ℕ, Option, Some, None, IsTrue}, BTreeMap.BTreeMap}
-use Rattle.dw_cfa.specs.{RegisterSets.SameBeside, Rows.Rules}
+use Rattle.dw_row.specs.{RegisterSets.SameBeside, Rows.Rules}
 use Rattle.dw_section.specs.declared.change.Behind.{Behind}
 use Rattle.dw_normal.specs.{declared.apart.Apart.Apart, declared.known.CieSet.CieSet, declared.known.Known.Known, Inner.Known.Notes}
 

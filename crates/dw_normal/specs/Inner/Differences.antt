@@ -1,6 +1,6 @@
 -- How the registers are found to which two rows give different rules.
 use Rattle.std.specs.Prelude.{◌≡◌, Some}
-use Rattle.dw_cfa.specs.{RegisterSets.SameBeside, Rows.Rules}
+use Rattle.dw_row.specs.{RegisterSets.SameBeside, Rows.Rules}
 use Rattle.dw_normal.specs.declared.differences.{Differences.Differences, Differences.TheVariants.{Rows, Among, Altered}}
 
 -- it is so of these two rows

@@ -1,6 +1,6 @@
 -- What is known of CIEs by their places.
 use Rattle.std.specs.{Prelude.{◌≡◌, ◌⊎◌, ℕ, List, Option, Some, None, IfSome}, BTreeMap.{BTreeMap, get}, Ordering.nat_cmp}
-use Rattle.dw_cfa.specs.{RegisterSets.{Registers, AgreesBeside, SameBeside}, Rows.Rules}
+use Rattle.dw_row.specs.{RegisterSets.{Registers, AgreesBeside, SameBeside}, Rows.Rules}
 use Rattle.dw_section.specs.{Opening.CieLeaves, Table.Section, declared.change.Behind.Behind}
 use Rattle.dw_normal.specs.{declared.known.CieSet.CieSet, declared.known.Known.Known, Inner.Groups.row_of}
 

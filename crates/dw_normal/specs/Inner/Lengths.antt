@@ -1,7 +1,8 @@
 -- How much room bytes leave.
 use Rattle.std.specs.Prelude.{◌≡◌, ℕ, ◌+◌, ◌<◌, ◌≤◌, List, ◌++◌, length, map, Option, Some, None}
 use Rattle.dw_num.specs.declared.target.Target.{Target}
-use Rattle.dw_cfa.specs.{Rows.Rules, declared.instr.Instr.Instr}
+use Rattle.dw_row.specs.Rows.{Rules}
+use Rattle.dw_cfa.specs.declared.instr.Instr.{Instr}
 use Rattle.dw_section.specs.Changes.{Changing}
 use Rattle.dw_canon.specs.Members.{Member}
 use Rattle.dw_canon.specs.Inner.{Canon.{cie_instrs, fde_instrs, initial_of}, Difference.{difference, later_changes}}

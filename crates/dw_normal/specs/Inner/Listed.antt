@@ -1,7 +1,7 @@
 -- What is known of a table: of the FDEs that it lists, and of its normal form.
 use Rattle.std.specs.Prelude.{◌≡◌, ℕ, ◌<◌, ◌≤◌, List, length, slice_index_or}
 use Rattle.dw_num.specs.declared.target.Target.{Target}
-use Rattle.dw_cfa.specs.Rows.{Rules}
+use Rattle.dw_row.specs.Rows.{Rules}
 use Rattle.dw_section.specs.{Meaning.AreFdes, Table.Section, declared.lookup.Fde.Fde}
 use Rattle.dw_canon.specs.Members.{Member, AreMembers}
 use Rattle.dw_canon.specs.Inner.Canon.{canon}

@@ -1,7 +1,7 @@
 -- Where the CIEs stand.
 use Rattle.std.specs.{Prelude.{ℕ, suc, ◌+◌, ◌-◌, ◌≤◌, ◌==◌, List, [], ◌∷◌, length, Option, Some, None, if◌then◌else◌}, BTreeMap.is_at, Map.lookup, Ordering.nat_cmp}
 use Rattle.dw_num.specs.declared.target.Target.{Target}
-use Rattle.dw_cfa.specs.Rows.{Rules}
+use Rattle.dw_row.specs.Rows.{Rules}
 use Rattle.dw_canon.specs.Members.{Member}
 use Rattle.dw_canon.specs.Inner.{Canon.{fde_instrs, initial_of}, Laid.{groups_of, part_of, fde_of}, Spelling.program_bytes, Written.{Written, entry_bytes, fde}}
 use Rattle.dw_normal.specs.Inner.Lengths.{cie_with}

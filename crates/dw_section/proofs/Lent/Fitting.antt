@@ -2,10 +2,10 @@
 use Rattle.dw_section.proofs.Words.{◌≡◌, ℕ, zero, suc, ◌<◌, true, List, [], ◌∷◌, subst, arith, inl, inr, AllByRecursion, Target, Factors, Instr, CfaRule, RegRule, look_back, cfa_change, rule_change, cfa_after, rule_after, ProgramSpells}
 use Rattle.dw_section.proofs.Words.{onto, AreSpecified, is_specified, rule_in, RuleFits, CfaFits, eqb_tells, DefCfa, DefCfaRegister, DefCfaOffset, DefCfaExpression, Set, Restore, RememberState, RestoreState, IsOffset, BlockSpells}
 use Rattle.dw_section.proofs.Words.{RuleSpells, IsSpelled, by_table, unlisted, HasBlock, refl}
-use Rattle.dw_cfa.proofs.Lent.SameRows.{first_rule}
+use Rattle.dw_row.proofs.Lent.SameRows.{first_rule}
+use Rattle.dw_row.specs.declared.rule.CfaRule.TheVariants as cfa
+use Rattle.dw_row.specs.declared.rule.RegRule.TheVariants as rules
 use Rattle.dw_op.specs.Expression.{Expression}
-use Rattle.dw_cfa.specs.declared.rule.CfaRule.TheVariants as cfa
-use Rattle.dw_cfa.specs.declared.rule.RegRule.TheVariants as rules
 
 -- ---- what an instruction gives
 

@@ -3,7 +3,7 @@ use Rattle.dw_section.proofs.Words.{◌≡◌, ℕ, zero, suc, ◌+◌, ◌≤�
 use Rattle.dw_section.proofs.Words.{AllByRecursion, Target, Factors, Instr, CfaRule, RegRule, ProgramSpells, look_back, cfa_change, rule_change, cfa_after, rule_after, CieKept, FdeKept, initial_cfa, initial_rule, onto, back_from, Counts}
 use Rattle.dw_section.proofs.Words.{moves_location, row_starts, one_count, cases_lt, length-append, take_all, sum_by-cons, sum_by-append, sum_by-take-le, Nop, in_cie, is_remember, is_restore, keeps_half, KeepsHalves, location_back}
 use Rattle.dw_section.proofs.Words.{location, in_table, sum_by-replicate, Unspecified}
-use Rattle.dw_cfa.specs.declared.rule.CfaRule.TheVariants as cfa
+use Rattle.dw_row.specs.declared.rule.CfaRule.TheVariants as cfa
 
 abbrev pub nops : ℕ → List Instr
 nops n = replicate n Nop

@@ -1,6 +1,6 @@
 -- The rules of an accepted section fit: programs that are spelled give no others.
-use Rattle.dw_cfa.specs.declared.rule.CfaRule.TheVariants as cfa
-use Rattle.dw_cfa.specs.declared.rule.RegRule.TheVariants as rules
+use Rattle.dw_row.specs.declared.rule.CfaRule.TheVariants as cfa
+use Rattle.dw_row.specs.declared.rule.RegRule.TheVariants as rules
 use Rattle.dw_section.specs.Inner.Sound.{ChangeFits, Steps, AllStep, SoundSection}
 use Rattle.dw_section.proofs.Words.{ℕ, suc, ◌<◌, ◌≤◌, List, [], ◌∷◌, length, sym, ap, subst, ◌∙◌, arith, AllByRecursion, Target, Instr, initial_cfa, initial_rule, Rules, rule, HoldsAt, ChangesBehind}
 use Rattle.dw_section.proofs.{Words.{AreChanges, RowFits, factors_of, FdeSays, Fde, counts_exists, CfaFits}, Lent.Fitting.{Gives, instr_gives, program_all, Fitting, cfa_found, rule_found, entries_fit}}

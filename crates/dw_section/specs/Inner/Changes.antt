@@ -1,7 +1,8 @@
 -- What the code and its proofs say beside Changes.
 use Rattle.std.specs.Prelude.{◌≡◌, ◌⊎◌, ℕ, ◌<◌, nat_lt, ◌&&◌, not, if◌then◌else◌, List, [], ◌∷◌, Option, Some, None, Result, Ok, Err, Bool, false}
-use Rattle.dw_cfa.specs.{Behind.LeavesTo, RegisterSets.Registers, RowSteps.Stepping, RowWalk.Walking, Rows.Rules, declared.execution.LocatedRow.LocatedRow}
-use Rattle.dw_cfa.proofs.Lent.Equal.{row_test}
+use Rattle.dw_row.specs.{RegisterSets.Registers, Rows.Rules}
+use Rattle.dw_row.proofs.Lent.Equal.{row_test}
+use Rattle.dw_cfa.specs.{Behind.LeavesTo, RowSteps.Stepping, RowWalk.Walking, declared.execution.LocatedRow.LocatedRow}
 use Rattle.dw_section.specs.{Changes.Changing, Headers.{Head, Headers}, Opening.AreChanged, Table.Section, declared.walks.Walks.Walks, Inner.Walks.AreLed}
 
 -- ---- changes among rows

@@ -1,6 +1,6 @@
 -- How a row is narrowed to what all changes specify.
 use Rattle.std.specs.{Prelude.{◌≡◌, ℕ, List, Option, Some}, List.AllByRecursion}
-use Rattle.dw_cfa.specs.{Agreement.kept, Rows.Rules}
+use Rattle.dw_row.specs.{Agreement.kept, Rows.Rules}
 
 -- none of these changes leaves a register Unspecified that a row specifies
 abbrev pub ChangesKeep : Rules → List (ℕ × Rules) → Type 0

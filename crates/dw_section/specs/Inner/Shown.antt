@@ -1,6 +1,6 @@
 -- The row that was shown last.
 use Rattle.std.specs.Prelude.{Bool, true, false, Option, Some, None}
-use Rattle.dw_cfa.specs.Rows.{Rules}
+use Rattle.dw_row.specs.Rows.{Rules}
 
 -- room that holds a row, or none
 abbrev pub shown_if : {A : Type 0} → Bool → A → Option A

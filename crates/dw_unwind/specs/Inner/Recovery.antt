@@ -2,7 +2,7 @@
 use Rattle.std.specs.{Prelude.{◌≡◌, ◌<◌, ◌≤◌, ℕ, suc, List, [], ◌∷◌, Option, Result, Ok, Err}, List.AllByRecursion}
 use Rattle.dw_eval.specs.{Context.Context, declared.policy.Policy.Policy}
 use Rattle.dw_eval.specs.declared.error.Kind.TheVariants as kinds
-use Rattle.dw_cfa.specs.{Rows.{Rules, AreSpecified, rule, rule_in}, declared.rule.RegRule.RegRule}
+use Rattle.dw_row.specs.{Rows.{Rules, AreSpecified, rule, rule_in}, declared.rule.RegRule.RegRule}
 use Rattle.dw_section.specs.Among.{IsAmong}
 use Rattle.dw_unwind.specs.Unwound.{IsListed, IsRegisterEntry, RegistersAre}
 use Rattle.dw_unwind.specs.declared.frame.{UnwindError.UnwindError, UnwindError.TheVariants.{Eval, Device, OutOfMemory}}

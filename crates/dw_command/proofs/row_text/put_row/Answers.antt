@@ -1,4 +1,4 @@
-use Rattle.dw_cfa.specs.declared.rule.{CfaRule.CfaRule, RegRule.RegRule}
+use Rattle.dw_row.specs.declared.rule.{CfaRule.CfaRule, RegRule.RegRule}
 use Rattle.dw_command.proofs.{Words.{◌++◌, ◌∙◌, ℕ, List, codes, append_assoc, false, subst, sym, digits, Adds, cfa_text, column_text, lines}, Puts.{kept_on, on, on_kept}, TextLines.{Leads, leads_to}}
 use Rattle.dw_command.proofs.row_text.put_row.Goals as goal
 

@@ -1,5 +1,5 @@
 use Rattle.dw_unwind.proofs.Words.{◌≡◌, map, refl, sym, subst, ◌∙◌, inr, Rules, fde_in, IsLed}
-use Rattle.dw_cfa.specs.declared.rule.CfaRule.TheVariants.{Unset}
+use Rattle.dw_row.specs.declared.rule.CfaRule.TheVariants.{Unset}
 use Rattle.dw_section.proofs.Lent.FdeLookup.{are_fdes}
 use Rattle.dw_unwind.proofs.by_index.row_at.Goals as goal
 

@@ -1,8 +1,0 @@
-use Rattle.dw_cfa.proofs.{Words.length, Difference.BothLeft}
-use Rattle.dw_cfa.proofs.tree.first_difference.Given as goal
-
-abbrev pub invariant-rules : goal.invariant-rules
-invariant-rules l = BothLeft l.fn.rules l.fn.others l.rules l.others
-
-abbrev pub decreases-rules : goal.decreases-rules
-decreases-rules l = length l.rules

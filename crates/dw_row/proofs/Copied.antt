@@ -1,0 +1,87 @@
+-- A row that becomes a copy of another one: the slots of a mask, outside which all rules are the same.
+use Rattle.std.proofs.lemmas.List.{nil_from_length}
+use Rattle.dw_row.proofs.Words.{◌≡◌, ℕ, List, refl, sym, ap, ◌∙◌, arith, nat_tests, cases_lt, bit_at, Entries, EntriesSo, entries_of, rule_in, has}
+use Rattle.dw_row.proofs.Words.{CopiedUpTo, SameUnset, ◌<◌, get_or, inl, inr, false, is_specified, length, near_rule, no_slot, subst, IsTrue, RegRule}
+use Rattle.dw_row.proofs.Words.{SameSlots, Slot, bit_at-lt, bit_and, bit_at_and, slot_rule, SameOutside, Unspecified}
+use lib.ListN.{get_or-eq_default}
+use Rattle.dw_row.proofs.{Lent.RowLists.Entry, Slots.{behind_slots, cases_bit, not_set, set_rule, slot_rule_is, unset_rule}}
+
+no_rule : (x : RegRule) → is_specified x ≡ false → x ≡ Unspecified
+no_rule Unspecified e = refl
+no_rule x e = absurd cc
+
+-- a row in which nothing is set differs in the registers that are set alone
+pub beside_blank : (e : Entries) → EntriesSo e → (r : ℕ) → has (record { near = e.used; far = e.far.entries }) r ≡ false → Unspecified ≡ rule_in (entries_of e) r
+beside_blank e so r none = elim (cases_lt r 128) [
+  | inl lt ↦ sym (not_set e so r lt (grind (arith, nat_tests, none, lt, bit_at-lt e.used r)))
+  | inr ge ↦ sym (behind_slots e so r ge ∙ no_rule (rule_in e.far.entries r) (grind (arith, nat_tests, none, ge)))
+]
+
+-- ---- slots alone
+
+-- those of the registers below a place were copied
+abbrev pub SameBelow : ℕ → ℕ → List Slot → List Slot → Type 0
+SameBelow k mask others near = (q : ℕ) → q < k → bit_at mask q ≡ 1 → get_or near q no_slot ≡ get_or others q no_slot
+
+-- ---- the slots of a mask, outside which all rules are the same
+
+unspecified_not : IsTrue (is_specified Unspecified) → ⊥
+unspecified_not e = absurd cc
+
+module _ (old others : Entries) (slots : List Slot) (so : EntriesSo old) (so' : EntriesSo others) (mask : ℕ) (len : length slots ≡ 128) (none : length old.expressions.entries ≡ 0) (none' : length others.expressions.entries ≡ 0)
+    (same : SameUnset mask (entries_of old) (entries_of others)) (copied : SameSlots (bit_and others.used mask) others.slots slots) (stays : SameOutside (bit_and others.used mask) old.slots slots) where
+  abbrev new : Entries
+  new = record { slots = slots; used = others.used; expressions = old.expressions; far = old.far }
+
+  abbrev wanted : ℕ → RegRule
+  wanted q = near_rule others.used others.slots others.expressions.entries q
+
+  -- both have no rules beside slots
+  x : old.expressions.entries ≡ others.expressions.entries
+  x = nil_from_length old.expressions.entries none ∙ sym (nil_from_length others.expressions.entries none')
+
+  -- a register outside the mask had its rule before
+  stayed : (q : ℕ) → q < 128 → bit_at others.used q ≡ 1 → bit_at mask q ≡ 0 → slot_rule (get_or old.slots q no_slot) (rule_in old.expressions.entries q) ≡ wanted q
+  stayed q lt one out =
+      let is : near_rule old.used old.slots old.expressions.entries q ≡ wanted q = sym (slot_rule_is old so q lt) ∙ same q lt out ∙ slot_rule_is others so' q lt in
+      elim (cases_bit (bit_at old.used q) (bit_at-lt old.used q)) [
+        | inl none ↦
+            absurd (unspecified_not (subst (λ (r : RegRule). IsTrue (is_specified r)) (sym is ∙ unset_rule old.used old.slots old.expressions.entries q none) (so'.used q one)))
+        | inr some ↦ sym (set_rule old.used old.slots old.expressions.entries q some) ∙ is
+      ]
+
+  -- and one whose slot is that of the others has it now
+  moved : (q : ℕ) → bit_at others.used q ≡ 1 → get_or slots q no_slot ≡ get_or others.slots q no_slot → slot_rule (get_or slots q no_slot) (rule_in old.expressions.entries q) ≡ wanted q
+  moved q one is =
+      ap (λ (s : Slot). slot_rule s (rule_in old.expressions.entries q)) is
+      ∙ ap (λ (l : List Entry). slot_rule (get_or others.slots q no_slot) (rule_in l q)) x
+      ∙ sym (set_rule others.used others.slots others.expressions.entries q one)
+
+  held : (q : ℕ) → bit_at others.used q ≡ 1 → slot_rule (get_or slots q no_slot) (rule_in old.expressions.entries q) ≡ wanted q
+  held q one = elim (cases_lt q 128) [
+    | inl lt ↦ elim (cases_bit (bit_at mask q) (bit_at-lt mask q)) [
+      | inl out ↦ ap (λ (s : Slot). slot_rule s (rule_in old.expressions.entries q)) (stays q (omega (arith, out, bit_at_and others.used mask q))) ∙ stayed q lt one out
+      | inr in_mask ↦ moved q one (copied q (omega (arith, one, in_mask, bit_at_and others.used mask q)))
+    ]
+    | inr ge ↦ moved q one (get_or-eq_default slots no_slot {n = q} (omega (arith, len, ge)) ∙ sym (get_or-eq_default others.slots no_slot {n = q} (omega (arith, so'.slots, ge))))
+  ]
+
+  rules_are : (q : ℕ) → near_rule others.used slots old.expressions.entries q ≡ wanted q
+  rules_are q = elim (cases_bit (bit_at others.used q) (bit_at-lt others.used q)) [
+    | inl none ↦ unset_rule others.used slots old.expressions.entries q none ∙ sym (unset_rule others.used others.slots others.expressions.entries q none)
+    | inr one ↦ set_rule others.used slots old.expressions.entries q one ∙ held q one
+  ]
+
+  pub masked_so : EntriesSo new
+  masked_so = record {
+    used = λ q one. subst (λ (r : RegRule). IsTrue (is_specified r)) (sym (rules_are q)) (so'.used q one);
+    slots = len;
+    expressions = so.expressions;
+    far = so.far;
+  }
+
+  pub masked_copied : CopiedUpTo 128 (entries_of others) (entries_of old) (entries_of new)
+  masked_copied = record {
+    below = λ q lt. slot_rule_is new masked_so q lt ∙ rules_are q ∙ sym (slot_rule_is others so' q lt);
+    above = λ q le. behind_slots new masked_so q le ∙ sym (behind_slots old so q le);
+  }

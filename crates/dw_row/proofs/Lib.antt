@@ -1,0 +1,9 @@
+pub mod Words
+pub mod WideRows
+pub mod Slots
+pub mod Difference
+pub mod Marked
+pub mod RegisterSets
+pub mod Copied
+pub mod StatesLaws
+pub mod Lent

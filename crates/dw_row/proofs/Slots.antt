@@ -1,0 +1,344 @@
+-- Registers in slots: what is set in one register's slot is what setting that register leaves.
+use Rattle.dw_row.proofs.Words.{if◌then◌else◌, nat_lt, ◌≡◌, ◌⊎◌, Bool, true, false, inl, inr, cases_eq, cases_lt, ℕ, zero, suc, ◌+◌, ◌<◌, ◌≤◌, cond, Some}
+use Rattle.dw_row.proofs.Words.{None, List, [], ◌∷◌, length, get_or, refl, sym, ap, ◌∙◌, subst, arith, get_or-set_same, get_or-set_other, nat_tests, IsTrue}
+use Rattle.dw_row.proofs.Words.{nat_eq, ◌-◌, ◌*◌, ◌/◌, ◌%◌, ◌^◌, bit_or, bit_and, bit_at, bit_not, trailing_zeros, w64, w128, Option, not, div-le_self}
+use Rattle.dw_row.proofs.Words.{bit_at-zero, bit_at_above, bit_at-trailing_zeros, bit_at_set_same, bit_at_set_other, bit_at_clear_other, bit_at_clear_same}
+use Rattle.dw_row.proofs.Words.{bit_at_or, Entries, RegRule, Slot, Unspecified, is_specified, AreSpecified, rule_in, listed, put, EntriesSo, length-set}
+use Rattle.dw_row.proofs.Words.{entries_of, slot_rule, listed_from, listed_near, near_rule, no_slot, rule_if, FirstBit, FirstIn, Holds, IsSlotOf, set}
+use Rattle.dw_row.proofs.Words.{pow-add, shr-shr, bit_at-lt, bit_at_and, bit_at_cat_low}
+use Rattle.dw_row.proofs.Lent.RowLists.{Entry, lower, listed_is, listed_keeps, listed_rule, other_rule, put_keeps, put_rule, same_rule_set, unlisted}
+use Rattle.dw_row.proofs.Lent.SameRows.{first_rule, same_entries}
+use Rattle.dw_row.specs.declared.slot.Slot.TheVariants as slots
+use Rattle.std.proofs.lemmas.{List.nil_from_length, Nat.one_shl}
+
+-- ---- registers from one on, and those behind them
+
+pub from_ascends : (k n : ℕ) (f : ℕ → RegRule) (far : List Entry) (m : ℕ) → k + n ≤ m → AreSpecified m far → AreSpecified k (listed_from k n f far)
+unfolding listed_from
+from_ascends k zero f far m le up = lower m k far (omega arith) up
+from_ascends k (suc n) f far m le up = listed_keeps k (f k) k (listed_from (suc k) n f far) (from_ascends (suc k) n f far m (omega arith) up) (omega arith)
+
+pub rule_from : (k n : ℕ) (f : ℕ → RegRule) (far : List Entry) (m : ℕ) → k + n ≤ m → AreSpecified m far → (q : ℕ)
+    → rule_in (listed_from k n f far) q ≡ (if nat_lt q k then Unspecified else (if nat_lt q (k + n) then f q else rule_in far q))
+unfolding listed_from
+rule_from k zero f far m le up q = grind (arith, nat_tests, unlisted q m far up)
+rule_from k (suc n) f far m le up q =
+    let here = listed_rule k (f k) q (listed_from (suc k) n f far) (from_ascends (suc k) n f far m (omega arith) up) in
+    grind (arith, nat_tests, here, rule_from (suc k) n f far m (omega arith) up q)
+
+-- ---- all registers
+
+module _ (f : ℕ → RegRule) (far : List Entry) (up : AreSpecified 128 far) where
+  pub slots_ascend : AreSpecified 0 (listed_from 0 128 f far)
+  slots_ascend = from_ascends 0 128 f far 128 (omega arith) up
+
+  pub row_rule : (q : ℕ) → rule_in (listed_from 0 128 f far) q ≡ (if nat_lt q 128 then f q else rule_in far q)
+  row_rule q = grind (arith, nat_tests, rule_from 0 128 f far 128 (omega arith) up q)
+
+  pub near_is : (q : ℕ) → q < 128 → rule_in (listed_from 0 128 f far) q ≡ f q
+  near_is q lt = grind (arith, nat_tests, row_rule q)
+
+  pub far_is : (q : ℕ) → 128 ≤ q → rule_in (listed_from 0 128 f far) q ≡ rule_in far q
+  far_is q le = grind (arith, nat_tests, row_rule q)
+
+pub entries_ascend : (e : Entries) → EntriesSo e → AreSpecified 0 (entries_of e)
+entries_ascend e so = slots_ascend (near_rule e.used e.slots e.expressions.entries) e.far.entries so.far
+
+pub slot_rule_is : (e : Entries) → EntriesSo e → (q : ℕ) → q < 128 → rule_in (entries_of e) q ≡ near_rule e.used e.slots e.expressions.entries q
+slot_rule_is e so q lt = near_is (near_rule e.used e.slots e.expressions.entries) e.far.entries so.far q lt
+
+pub behind_slots : (e : Entries) → EntriesSo e → (q : ℕ) → 128 ≤ q → rule_in (entries_of e) q ≡ rule_in e.far.entries q
+behind_slots e so q le = far_is (near_rule e.used e.slots e.expressions.entries) e.far.entries so.far q le
+
+-- a tree that has an entry gives a register from 128 on a rule, and one that has none gives none
+far_given : (xs : List Entry) → AreSpecified 128 xs → 0 < length xs → (r : ℕ) × (128 ≤ r) × IsTrue (is_specified (rule_in xs r))
+far_given [] up some = absurd (omega (arith, some))
+far_given (x ∷ xs) up some = (x.0, up.0, subst (λ (rule : RegRule). IsTrue (is_specified rule)) (sym (first_rule x xs)) up.1)
+
+pub first_far : (e : Entries) → EntriesSo e → 0 < length e.far.entries → (r : ℕ) × (128 ≤ r) × IsTrue (is_specified (rule_in (entries_of e) r))
+first_far e so some =
+    let given = far_given e.far.entries so.far some in
+    (given.0, given.1, subst (λ (rule : RegRule). IsTrue (is_specified rule)) (sym (behind_slots e so given.0 given.1)) given.2)
+
+pub none_far : (e : Entries) → EntriesSo e → length e.far.entries ≡ 0 → (r : ℕ) → 128 ≤ r → rule_in (entries_of e) r ≡ Unspecified
+none_far e so none r le = behind_slots e so r le ∙ ap (λ (xs : List Entry). rule_in xs r) (nil_from_length e.far.entries none)
+
+pub put_so : (r low : ℕ) (rule : RegRule) (old new : List Entry) → new ≡ put r rule old → AreSpecified low old → low ≤ r → AreSpecified low new
+put_so r low rule old new is up le = subst (AreSpecified low) (sym is) (put_keeps r rule low old up le)
+
+-- a list in which a register has a rule, and all others keep theirs
+pub is_put : (r : ℕ) (rule : RegRule) (old new : List Entry) → AreSpecified 0 old → AreSpecified 0 new → ((q : ℕ) → rule_in new q ≡ cond (nat_eq r q) rule (rule_in old q)) → new ≡ put r rule old
+is_put r rule old new up up' is = same_entries 0 new (put r rule old) up' (put_keeps r rule 0 old up (omega arith)) (λ q. is q ∙ sym (put_rule r rule 0 old q up))
+
+module _ (f g : ℕ → RegRule) (far : List Entry) (up : AreSpecified 128 far) where
+  pub rules_put : (r : ℕ) (rule : RegRule) → r < 128 → g r ≡ rule → ((q : ℕ) → q < 128 → (q ≡ r → ⊥) → g q ≡ f q) → listed_from 0 128 g far ≡ put r rule (listed_from 0 128 f far)
+  rules_put r rule lt is others =
+      is_put r rule (listed_from 0 128 f far) (listed_from 0 128 g far) (slots_ascend f far up) (slots_ascend g far up) (λ q.
+      grind (arith, nat_tests, row_rule g far up q, row_rule f far up q, others q, is))
+
+-- a rule is set behind the slots
+pub far_set : (f : ℕ → RegRule) (far : List Entry) (r : ℕ) (rule : RegRule) (far' : List Entry) → AreSpecified 128 far → 128 ≤ r → far' ≡ put r rule far → listed_from 0 128 f far' ≡ put r rule (listed_from 0 128 f far)
+far_set f far r rule far' up le is =
+    let up' = put_so r 128 rule far far' is up le in
+    is_put r rule (listed_from 0 128 f far) (listed_from 0 128 f far') (slots_ascend f far up) (slots_ascend f far' up') (λ q.
+    grind (arith, nat_tests, is, row_rule f far' up' q, row_rule f far up q, put_rule r rule 128 far q up))
+
+-- ---- a slot under the mask
+
+pub unset_rule : (used : ℕ) (near : List Slot) (expressions : List Entry) (q : ℕ) → bit_at used q ≡ 0 → near_rule used near expressions q ≡ Unspecified
+unset_rule used near expressions q none = ap (λ (n : ℕ). rule_if n (get_or near q no_slot) (rule_in expressions q)) none
+
+pub set_rule : (used : ℕ) (near : List Slot) (expressions : List Entry) (q : ℕ) → bit_at used q ≡ 1 → near_rule used near expressions q ≡ slot_rule (get_or near q no_slot) (rule_in expressions q)
+set_rule used near expressions q one = ap (λ (n : ℕ). rule_if n (get_or near q no_slot) (rule_in expressions q)) one
+
+-- a register whose bit is not set has no rule
+pub not_set : (e : Entries) → EntriesSo e → (q : ℕ) → q < 128 → bit_at e.used q ≡ 0 → rule_in (entries_of e) q ≡ Unspecified
+not_set e so q lt none = slot_rule_is e so q lt ∙ unset_rule e.used e.slots e.expressions.entries q none
+
+-- and one whose bit is set has its slot's
+pub is_set : (e : Entries) → EntriesSo e → (q : ℕ) → q < 128 → bit_at e.used q ≡ 1 → rule_in (entries_of e) q ≡ slot_rule (get_or e.slots q no_slot) (rule_in e.expressions.entries q)
+is_set e so q lt one = slot_rule_is e so q lt ∙ set_rule e.used e.slots e.expressions.entries q one
+
+pub is_given : (e : Entries) → EntriesSo e → (q : ℕ) → q < 128 → bit_at e.used q ≡ 1 → IsTrue (is_specified (rule_in (entries_of e) q))
+is_given e so q lt one = subst (λ (rule : RegRule). IsTrue (is_specified rule)) (sym (slot_rule_is e so q lt)) (so.used q one)
+
+-- a test of the mask
+pub not_in : (n q : ℕ) (b : Bool) → b ≡ nat_eq (bit_at n q) 1 → b ≡ false → bit_at n q ≡ 0
+not_in n q b is e = grind (arith, nat_tests, is, e, bit_at-lt n q)
+
+pub one_in : (n q : ℕ) (b : Bool) → b ≡ nat_eq (bit_at n q) 1 → b ≡ true → bit_at n q ≡ 1
+one_in n q b is e = grind (arith, nat_tests, is, e)
+
+-- no register is held by an empty mask
+pub none_hold : (near : List Slot) (expressions : List Entry) → Holds 0 near expressions
+none_hold near expressions q one = absurd (omega (arith, one, bit_at-zero q))
+
+pub none_listed : (near : List Slot) (expressions far : List Entry) → far ≡ [] → listed_near 0 0 near expressions far ≡ []
+none_listed near expressions far none =
+    let f = near_rule 0 near expressions in let e = ap (λ (l : List Entry). listed_from 0 128 f l) none in
+    e ∙ same_entries 0 (listed_from 0 128 f []) [] (slots_ascend f [] tt) tt (λ q. row_rule f [] tt q ∙ grind (arith, nat_tests, unset_rule 0 near expressions q (bit_at-zero q)))
+
+-- ---- one bit of a mask
+
+pub cases_bit : (n : ℕ) → n < 2 → (n ≡ 0) ⊎ (n ≡ 1)
+cases_bit n lt = elim (cases_eq n 0) [ inl e ↦ inl e | inr ne ↦ inr (grind (arith, ne, lt)) ]
+
+-- the bit of a register, by halves
+pub low_bit : (r : ℕ) → r < 64 → 1 * 2 ^ r % 2 ^ 64 ≡ 1 * 2 ^ r % 2 ^ 128
+low_bit r lt = one_shl r 64 lt ∙ sym (one_shl r 128 (omega arith))
+
+pub high_bit : (r : ℕ) → 64 ≤ r → r < 128 → (1 * 2 ^ (r - 64) % 2 ^ 64) * 2 ^ 64 % 2 ^ 128 ≡ 1 * 2 ^ r % 2 ^ 128
+high_bit r le lt =
+    let at : (r - 64) + 64 ≡ r = omega arith in
+    let whole : 2 ^ (r - 64) * 2 ^ 64 ≡ 2 ^ r = sym (pow-add 2 (r - 64) 64) ∙ ap (λ (n : ℕ). 2 ^ n) at in
+    let one : 2 ^ r ≡ 1 * 2 ^ r = omega arith in
+    ap (λ (n : ℕ). n * 2 ^ 64 % 2 ^ 128) (one_shl (r - 64) 64 (omega arith)) ∙ ap (λ (n : ℕ). n % 2 ^ 128) (whole ∙ one)
+
+module _ (n r b : ℕ) (lt : r < 128) (bit : b ≡ 1 * 2 ^ r % 2 ^ 128) where
+  pub bit_set_same : bit_at (bit_or n b) r ≡ 1
+  bit_set_same = ap (λ (m : ℕ). bit_at (bit_or n m) r) bit ∙ bit_at_set_same w128 n r lt
+
+  pub bit_set_other : (q : ℕ) → (q ≡ r → ⊥) → bit_at (bit_or n b) q ≡ bit_at n q
+  bit_set_other q ne = ap (λ (m : ℕ). bit_at (bit_or n m) q) bit ∙ bit_at_set_other w128 n r lt q ne
+
+  pub bit_clear_same : bit_at (bit_and n (bit_not w128 b)) r ≡ 0
+  bit_clear_same = ap (λ (m : ℕ). bit_at (bit_and n (bit_not w128 m)) r) bit ∙ bit_at_clear_same w128 n r lt
+
+  pub bit_clear_other : (q : ℕ) → q < 128 → (q ≡ r → ⊥) → bit_at (bit_and n (bit_not w128 b)) q ≡ bit_at n q
+  bit_clear_other q low ne = ap (λ (m : ℕ). bit_at (bit_and n (bit_not w128 m)) q) bit ∙ bit_at_clear_other w128 n r lt q low ne
+
+-- ---- a slot that is set
+
+module _ (used : ℕ) (near : List Slot) (expressions expressions' : List Entry) (r p : ℕ) (s : Slot) (lt : r < 128) (b : ℕ) (bit : b ≡ 1 * 2 ^ r % 2 ^ 128) (at : p ≡ r) (room : r < length near)
+    (others : (q : ℕ) → (q ≡ r → ⊥) → rule_in expressions' q ≡ rule_in expressions q) where
+  pub put_rule_is : near_rule (bit_or used b) (set near p s) expressions' r ≡ slot_rule s (rule_in expressions' r)
+  put_rule_is =
+      set_rule (bit_or used b) (set near p s) expressions' r (bit_set_same used r b lt bit)
+      ∙ ap (λ (x : Slot). slot_rule x (rule_in expressions' r)) (ap (λ (n : ℕ). get_or (set near n s) r no_slot) at ∙ get_or-set_same near r s no_slot room)
+
+  pub other_rule_is : (q : ℕ) → (q ≡ r → ⊥) → near_rule (bit_or used b) (set near p s) expressions' q ≡ near_rule used near expressions q
+  other_rule_is q ne =
+      ap (λ (n : ℕ). rule_if n (get_or (set near p s) q no_slot) (rule_in expressions' q)) (bit_set_other used r b lt bit q ne)
+      ∙ ap (λ (x : Slot). rule_if (bit_at used q) x (rule_in expressions' q)) (get_or-set_other near p q s no_slot (λ e. ne (e ∙ at)))
+      ∙ ap (rule_if (bit_at used q) (get_or near q no_slot)) (others q ne)
+
+  pub put_holds : Holds used near expressions → IsTrue (is_specified (slot_rule s (rule_in expressions' r))) → Holds (bit_or used b) (set near p s) expressions'
+  put_holds holds given q one = elim (cases_eq q r) [
+    | inl e ↦ subst (λ (n : ℕ). IsTrue (is_specified (near_rule (bit_or used b) (set near p s) expressions' n))) (sym e) (subst (λ (rule : RegRule). IsTrue (is_specified rule)) (sym put_rule_is) given)
+    | inr ne ↦
+        subst (λ (rule : RegRule). IsTrue (is_specified rule)) (sym (other_rule_is q ne)) (holds q (sym (bit_set_other used r b lt bit q ne) ∙ one))
+  ]
+
+-- ---- as the code sets them
+
+held_rule : (s : Slot) (rule : RegRule) → (s ≡ slots.Beside → ⊥) → IsSlotOf rule s → (block : RegRule) → slot_rule s block ≡ rule
+held_rule slots.Beside rule not is block = absurd (not refl)
+held_rule s rule not is block = is block
+
+plain_given : (s : Slot) (block : RegRule) → (s ≡ slots.Beside → ⊥) → IsTrue (is_specified (slot_rule s block))
+plain_given slots.Beside block not = absurd (not refl)
+plain_given s block not = refl
+
+pub set_length : (near : List Slot) (p : ℕ) (s : Slot) → length near ≡ 128 → length (set near p s) ≡ 128
+set_length near p s e = length-set near p s ∙ e
+
+module _ (e : Entries) (so : EntriesSo e) (r : ℕ) (s : Slot) (new : List Slot) (lt : r < 128) (b : ℕ) (bit : b ≡ 1 * 2 ^ r % 2 ^ 128) (stored : new ≡ set e.slots r s) where
+  room : r < length e.slots
+  room = omega (arith, lt, so.slots)
+
+  abbrev with_bit : ℕ
+  with_bit = bit_or e.used b
+
+  module _ (expressions' : List Entry) (stay : (q : ℕ) → (q ≡ r → ⊥) → rule_in expressions' q ≡ rule_in e.expressions.entries q) where
+    slot_put : (rule : RegRule) → slot_rule s (rule_in expressions' r) ≡ rule → listed_near 0 with_bit new expressions' e.far.entries ≡ put r rule (entries_of e)
+    slot_put rule here =
+        let x = e.expressions.entries in
+        ap (λ (l : List Slot). listed_near 0 with_bit l expressions' e.far.entries) stored
+        ∙ rules_put (near_rule e.used e.slots x) (near_rule with_bit (set e.slots r s) expressions') e.far.entries so.far r rule lt
+        (put_rule_is e.used e.slots x expressions' r r s lt b bit refl room stay ∙ here)
+        (λ q low. other_rule_is e.used e.slots x expressions' r r s lt b bit refl room stay q)
+
+    slot_holds : IsTrue (is_specified (slot_rule s (rule_in expressions' r))) → Holds with_bit new expressions'
+    slot_holds given = subst (λ (l : List Slot). Holds with_bit l expressions') (sym stored) (put_holds e.used e.slots e.expressions.entries expressions' r r s lt b bit refl room stay so.used given)
+
+  pub plain_put : (s ≡ slots.Beside → ⊥) → (rule : RegRule) → IsSlotOf rule s → listed_near 0 (bit_or e.used b) new e.expressions.entries e.far.entries ≡ put r rule (entries_of e)
+  plain_put not rule is = slot_put e.expressions.entries (λ q ne. refl) rule (held_rule s rule not is (rule_in e.expressions.entries r))
+
+  pub plain_holds : (s ≡ slots.Beside → ⊥) → Holds (bit_or e.used b) new e.expressions.entries
+  plain_holds not = slot_holds e.expressions.entries (λ q ne. refl) (plain_given s (rule_in e.expressions.entries r) not)
+
+  module _ (rule : RegRule) (expressions' : List Entry) (is : s ≡ slots.Beside) (put_in : expressions' ≡ put r rule e.expressions.entries) where
+    others : (q : ℕ) → (q ≡ r → ⊥) → rule_in expressions' q ≡ rule_in e.expressions.entries q
+    others q ne = rw put_in (other_rule r q rule e.expressions.entries so.expressions ne)
+
+    here : slot_rule s (rule_in expressions' r) ≡ rule
+    here = rw (is, put_in) (same_rule_set r r rule e.expressions.entries so.expressions refl)
+
+    pub expression_put : listed_near 0 (bit_or e.used b) new expressions' e.far.entries ≡ put r rule (entries_of e)
+    expression_put = slot_put expressions' others rule here
+
+    pub expression_holds : IsTrue (is_specified rule) → Holds (bit_or e.used b) new expressions'
+    expression_holds given = slot_holds expressions' others (subst (λ (x : RegRule). IsTrue (is_specified x)) (sym here) given)
+
+-- ---- registers that are taken out of the mask
+
+-- a mask with fewer bits
+module _ (used used' : ℕ) (near : List Slot) (expressions : List Entry) (holds : Holds used near expressions) (fewer : (q : ℕ) → bit_at used' q ≡ 1 → bit_at used q ≡ 1) where
+  pub fewer_rule : (q : ℕ) → bit_at used' q ≡ 1 → near_rule used' near expressions q ≡ near_rule used near expressions q
+  fewer_rule q one = set_rule used' near expressions q one ∙ sym (set_rule used near expressions q (fewer q one))
+
+  pub fewer_holds : Holds used' near expressions
+  fewer_holds q one = subst (λ (rule : RegRule). IsTrue (is_specified rule)) (sym (fewer_rule q one)) (holds q (fewer q one))
+
+module _ (e : Entries) (so : EntriesSo e) (r : ℕ) (lt : r < 128) (b : ℕ) (bit : b ≡ 1 * 2 ^ r % 2 ^ 128) where
+  abbrev dropped : ℕ
+  dropped = bit_and e.used (bit_not w128 b)
+
+  pub dropped_put : listed_near 0 (bit_and e.used (bit_not w128 b)) e.slots e.expressions.entries e.far.entries ≡ put r Unspecified (entries_of e)
+  dropped_put =
+      let x = e.expressions.entries in let near = e.slots in
+      rules_put (near_rule e.used near x) (near_rule dropped near x) e.far.entries so.far r Unspecified lt (unset_rule dropped near x r (bit_clear_same e.used r b lt bit))
+      (λ q low ne. ap (λ (n : ℕ). rule_if n (get_or near q no_slot) (rule_in x q)) (bit_clear_other e.used r b lt bit q low ne))
+
+  pub dropped_holds : Holds (bit_and e.used (bit_not w128 b)) e.slots e.expressions.entries
+  dropped_holds =
+      fewer_holds e.used dropped e.slots e.expressions.entries so.used (λ q one. omega (arith, one, bit_at_and e.used (bit_not w128 b) q, bit_at-lt e.used q))
+
+-- ---- the registers one after another
+
+shifted : (n k j : ℕ) → bit_at (n / 2 ^ k) j ≡ bit_at n (k + j)
+shifted n k j = ap (λ (m : ℕ). m % 2) (shr-shr n k j)
+
+-- a bit above a place lies in its half
+bit_inside : (half k n : ℕ) → half < 2 ^ 64 → bit_at (half / 2 ^ k) n ≡ 1 → k + n < 64
+bit_inside half k n fits one = grind (arith, bit_at_above half 64 (k + n) fits, shifted half k n)
+
+-- no bit is left from a place on
+pub no_bits : (n k : ℕ) → n / 2 ^ k ≡ 0 → (q : ℕ) → k ≤ q → bit_at n q ≡ 0
+no_bits n k none q le = let at : q ≡ k + (q - k) = omega arith in ap (bit_at n) at ∙ sym (shifted n k (q - k)) ∙ ap (λ (m : ℕ). bit_at m (q - k)) none ∙ bit_at-zero (q - k)
+
+-- the lowest bit that is left
+pub lowest_bit : (n k : ℕ) → n < 2 ^ 64 → 0 < n / 2 ^ k → FirstIn 64 (Some (k + trailing_zeros w64 (n / 2 ^ k))) n k
+lowest_bit n k fits some =
+    let within : n / 2 ^ k < 2 ^ 64 = omega (arith, div-le_self n (2 ^ k)) in
+    let j = trailing_zeros w64 (n / 2 ^ k) in
+    let z = bit_at-trailing_zeros w64 (n / 2 ^ k) some within in
+    (omega arith, bit_inside n k j fits z.1, sym (shifted n k j) ∙ z.1, λ q low high. let at : q ≡ k + (q - k) = omega arith in ap (bit_at n) at ∙ sym (shifted n k (q - k)) ∙ z.2 (q - k) (omega arith))
+
+-- a mask and its halves
+pub low_half : (n q : ℕ) → q < 64 → bit_at (n % 2 ^ 64) q ≡ bit_at n q
+low_half n q lt =
+    let whole : n ≡ n / 2 ^ 64 * 2 ^ 64 + n % 2 ^ 64 = omega arith in sym (ap (λ (m : ℕ). bit_at m q) whole ∙ bit_at_cat_low (n / 2 ^ 64) 64 (n % 2 ^ 64) q lt)
+
+pub high_half : (n q : ℕ) → bit_at (n / 2 ^ 64) q ≡ bit_at n (64 + q)
+high_half n q = shifted n 64 q
+
+pub none_high : (n k : ℕ) → 64 ≤ k → FirstIn 64 None (n / 2 ^ 64) (k - 64) → FirstIn 128 None n k
+none_high n k le none q low high = let at : q ≡ 64 + (q - 64) = omega arith in ap (bit_at n) at ∙ sym (high_half n (q - 64)) ∙ none (q - 64) (omega arith) (omega arith)
+
+pub first_high : (n k r : ℕ) → 64 ≤ k → FirstIn 64 (Some r) (n / 2 ^ 64) (k - 64) → FirstIn 128 (Some (r + 64)) n k
+first_high n k r le first =
+    let there : 64 + r ≡ r + 64 = omega arith in (
+      omega (arith, first.0),
+      omega (arith, first.1),
+      sym (high_half n r ∙ ap (bit_at n) there) ∙ first.2,
+      λ q low high. let at : q ≡ 64 + (q - 64) = omega arith in ap (bit_at n) at ∙ sym (high_half n (q - 64)) ∙ first.3 (q - 64) (omega arith) (omega arith),
+    )
+
+pub first_low : (n k r : ℕ) → FirstIn 64 (Some r) (n % 2 ^ 64) k → FirstIn 128 (Some r) n k
+first_low n k r first = (first.0, omega (arith, first.1), sym (low_half n r first.1) ∙ first.2, λ q low high. sym (low_half n q (omega (arith, high, first.1))) ∙ first.3 q low high)
+
+pub both_halves : (n k : ℕ) (o : Option ℕ) → k < 64 → FirstIn 64 None (n % 2 ^ 64) k → FirstIn 128 o n 64 → FirstIn 128 o n k
+both_halves n k None lt none rest = λ q low high. elim (cases_lt q 64) [ inl below ↦ sym (low_half n q below) ∙ none q low below | inr above ↦ rest q above high ]
+both_halves n k (Some r) lt none rest = (
+  omega (arith, lt, rest.0),
+  rest.1,
+  rest.2,
+  λ q low high. elim (cases_lt q 64) [ inl below ↦ sym (low_half n q below) ∙ none q low below | inr above ↦ rest.3 q above high ],
+)
+
+-- a bit that neither of two masks has
+pub neither : (m n q : ℕ) → bit_at (bit_or m n) q ≡ 0 → (bit_at m q ≡ 0) × (bit_at n q ≡ 0)
+neither m n q none = let e = sym (bit_at_or m n q) ∙ none in (omega (arith, e), omega (arith, e))
+
+-- registers without a rule are passed over
+skip_many : (j k m c n : ℕ) (f : ℕ → RegRule) (far : List Entry) → k + j ≡ m → c ≡ j + n → ((q : ℕ) → k ≤ q → q < m → f q ≡ Unspecified) → listed_from k c f far ≡ listed_from m n f far
+unfolding listed_from
+skip_many zero k m c n f far e e' none = let at : k ≡ m = omega arith in let count : c ≡ n = omega arith in ap (λ (x : ℕ). listed_from x c f far) at ∙ ap (λ (x : ℕ). listed_from m x f far) count
+skip_many (suc j) k m zero n f far e e' none = absurd (omega arith)
+skip_many (suc j) k m (suc c) n f far e e' none =
+    ap (λ (x : RegRule). listed k x (listed_from (suc k) c f far)) (none k (omega arith) (omega arith)) ∙ skip_many j (suc k) m c n f far (omega arith) (omega arith) (λ q low high. none q (omega arith) high)
+
+one_from : (k c m : ℕ) (f : ℕ → RegRule) (far : List Entry) → c ≡ suc m → listed_from k c f far ≡ listed k (f k) (listed_from (suc k) m f far)
+unfolding listed_from
+one_from k c m f far e = ap (λ (n : ℕ). listed_from k n f far) e
+
+none_from : (k c : ℕ) (f : ℕ → RegRule) (far : List Entry) → c ≡ 0 → listed_from k c f far ≡ far
+unfolding listed_from
+none_from k zero f far e = refl
+none_from k (suc c) f far e = absurd (omega arith)
+
+-- behind the slots the others are left
+pub slots_end : (k used : ℕ) (near : List Slot) (expressions far : List Entry) → 128 ≤ k → listed_near k used near expressions far ≡ far
+slots_end k used near expressions far le = none_from k (128 - k) (near_rule used near expressions) far (omega arith)
+
+module _ (used : ℕ) (near : List Slot) (expressions far : List Entry) where
+  skipped : (k r : ℕ) → k ≤ r → r ≤ 128 → ((q : ℕ) → k ≤ q → q < r → bit_at used q ≡ 0) → listed_near k used near expressions far ≡ listed_near r used near expressions far
+  skipped k r le within none =
+      skip_many (r - k) k r (128 - k) (128 - r) (near_rule used near expressions) far (omega arith) (omega arith) (λ q low high. unset_rule used near expressions q (none q low high))
+
+  pub none_used : (k : ℕ) → FirstBit None used k → listed_near k used near expressions far ≡ far
+  none_used k none = elim (cases_lt k 128) [
+    | inl lt ↦ skipped k 128 (omega arith) (omega arith) none ∙ slots_end 128 used near expressions far (omega arith)
+    | inr ge ↦ slots_end k used near expressions far ge
+  ]
+
+  pub next_used : Holds used near expressions → (k r : ℕ) → FirstBit (Some r) used k → (s : Slot) → s ≡ get_or near r no_slot → (rule : RegRule) → rule ≡ slot_rule s (rule_in expressions r)
+      → listed_near k used near expressions far ≡ (r, rule) ∷ listed_near (suc r) used near expressions far
+  next_used holds k r first s at rule e =
+      let f = near_rule used near expressions in
+      let is : rule ≡ f r = e ∙ ap (λ (x : Slot). slot_rule x (rule_in expressions r)) at ∙ sym (set_rule used near expressions r first.2) in
+      skipped k r first.0 (omega (arith, first.1)) first.3
+      ∙ one_from r (128 - r) (128 - suc r) f far (omega (arith, first.1))
+      ∙ listed_is r (f r) (listed_from (suc r) (128 - suc r) f far) (holds r first.2)
+      ∙ ap (λ (x : RegRule). (r, x) ∷ listed_from (suc r) (128 - suc r) f far) (sym is)

@@ -1,0 +1,6 @@
+pub mod Rows
+pub mod Difference
+pub mod Agreement
+pub mod RegisterSets
+pub mod States
+pub mod Inner

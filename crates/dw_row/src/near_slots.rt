@@ -1,0 +1,160 @@
+//! Slots of registers under a mask: a slot that the mask has not is never read.
+
+ghost use Rattle.std.specs.{Prelude.{◌≡◌, ◌<◌, ◌≤◌, ◌↔◌, ◌*◌, ◌^◌, ◌%◌, IsTrue, length, nat_eq}, Int.bit_at};
+ghost use Rattle.dw_row.specs.{Rows.rule_in, Inner.Entries.{FindsNear, FirstBit, FirstIn, Holds, SameOutside, SameSlots, slot_rule}};
+
+use crate::rule::RegRule;
+use crate::slot::{Slot, rule_of};
+use std::collections::BTreeMap;
+
+// What stands before the upper half of a mask.
+const HALF: u128 = 1 << 64;
+
+/// The mask that has one register. By halves, since a shift of 128 bits costs more.
+#[inline(always)]
+#[tactic(auto, using(crate::proofs::Slots::low_bit, crate::proofs::Slots::high_bit))]
+pub(crate) fn bit_of(register: u16) -> u128
+    requires { register < 128 }
+    ensures { result ≡ 1 * 2 ^ register % 2 ^ 128 }
+{
+    if register < 64 {
+        return u128::from(1_u64 << register);
+    }
+    u128::from(1_u64 << (register - 64)) << 64
+}
+
+/// Whether a register is in a mask, of which one half is looked at.
+#[tactic(auto, using(crate::proofs::Slots::high_half, crate::proofs::Slots::low_half))]
+#[inline(always)]
+pub fn is_in(mask: u128, register: u16) -> bool
+    requires { register < 128 }
+    ensures { result ≡ nat_eq (bit_at mask register) 1 }
+{
+    if register < 64 {
+        return ((mask % HALF) as u64 >> register) % 2 == 1;
+    }
+    ((mask >> 64) as u64 >> (register - 64)) % 2 == 1
+}
+
+// The first bit from a place on of one half of a mask.
+#[inline(always)]
+#[tactic(auto, using(crate::proofs::Slots::no_bits, crate::proofs::Slots::lowest_bit))]
+fn next_in_half(half: u64, place: u32) -> Option<u32>
+    requires { place < 64 }
+    ensures { FirstIn 64 result half place }
+{
+    let left = half >> place;
+    if left == 0 {
+        return None;
+    }
+    Some(place + left.trailing_zeros())
+}
+
+// The first register from a place on that is in the upper half of a mask.
+#[inline(always)]
+fn next_high(mask: u128, place: u32) -> Option<u32>
+    requires from { 64 ≤ place }
+    requires to { place < 128 }
+    ensures { FirstBit result mask place }
+{
+    match next_in_half((mask >> 64) as u64, place - 64) {
+        Some(bit) => Some(bit + 64),
+        None => None,
+    }
+}
+
+/// The first register from a place on that is in a mask.
+#[inline(always)]
+pub(crate) fn next_in(mask: u128, place: u32) -> Option<u32>
+    ensures { FirstBit result mask place }
+{
+    if place >= 128 {
+        return None;
+    }
+    if place >= 64 {
+        return next_high(mask, place);
+    }
+    match next_in_half((mask % HALF) as u64, place) {
+        Some(bit) => Some(bit),
+        None => next_high(mask, 64),
+    }
+}
+
+/// Copies the slots of the registers in a mask.
+#[inline(always)]
+pub(crate) fn copy_slots(slots: &mut [Slot; 128], others: &[Slot; 128], mask: u128)
+    requires slots { length slots.old ≡ 128 }
+    requires others { length others.now ≡ 128 }
+    ensures slots { length slots.new ≡ 128 }
+    ensures copied { SameSlots mask others.now slots.new }
+    ensures stays { SameOutside mask slots.old slots.new }
+{
+    let mut place = 0;
+    'slots: while let Some(register) = next_in(mask, place) {
+        slots[register as usize] = others[register as usize];
+        place = register + 1;
+    }
+}
+
+/// The first register from a place on that the mask has, and its rule.
+#[tactic(auto, using(crate::proofs::Slots::none_used, crate::proofs::Slots::next_used))]
+#[inline(always)]
+pub(crate) fn next_near<'a>(
+    at: u16,
+    slots: &[Slot; 128],
+    used: u128,
+    expressions: &BTreeMap<u16, RegRule<'a>>,
+) -> Option<(u16, RegRule<'a>)>
+    requires slots { length slots.now ≡ 128 }
+    requires holds { Holds used slots.now expressions.now.entries }
+    ensures { FindsNear result at used slots.now expressions.now.entries }
+{
+    let Some(next) = next_in(used, u32::from(at)) else {
+        return None;
+    };
+    let register = next as u16;
+    let slot = slots[usize::from(register)];
+    Some((register, rule_of(slot, expressions, register)))
+}
+
+// Whether two slots of a register give it the same rule, whatever they hold.
+#[inline(never)]
+fn same_rules(
+    slot: Slot,
+    other: Slot,
+    expressions: &BTreeMap<u16, RegRule<'_>>,
+    others: &BTreeMap<u16, RegRule<'_>>,
+    register: u16,
+) -> bool
+    ensures { IsTrue result ↔ (slot_rule slot (rule_in expressions.now.entries register) ≡ slot_rule other (rule_in others.now.entries register)) }
+{
+    rule_of(slot, expressions, register).is_same(&rule_of(other, others, register))
+}
+
+/// The same, with no look at the trees where neither holds an expression.
+#[inline(always)]
+pub(crate) fn same_slots(
+    slot: Slot,
+    other: Slot,
+    expressions: &BTreeMap<u16, RegRule<'_>>,
+    others: &BTreeMap<u16, RegRule<'_>>,
+    register: u16,
+) -> bool
+    ensures { IsTrue result ↔ (slot_rule slot (rule_in expressions.now.entries register) ≡ slot_rule other (rule_in others.now.entries register)) }
+{
+    match (slot, other) {
+        (Slot::Beside, _) | (_, Slot::Beside) => same_rules(
+            slot,
+            other,
+            expressions,
+            others,
+            register,
+        ),
+        (Slot::Undefined, Slot::Undefined) => true,
+        (Slot::SameValue, Slot::SameValue) => true,
+        (Slot::Offset(offset), Slot::Offset(n)) => offset == n,
+        (Slot::ValOffset(offset), Slot::ValOffset(n)) => offset == n,
+        (Slot::Register(register), Slot::Register(r)) => register == r,
+        _ => false,
+    }
+}

@@ -1,0 +1,430 @@
+//! The current row and the remembered ones (6.4.2.4).
+
+ghost use Rattle.std.specs.Prelude.{◌≡◌, ◌<◌, [], length, reverse, None, OnOk, IfOk, IsTrue, ◌↔◌, false};
+ghost use Rattle.dw_row.specs.{Difference.{FirstDifference, place_behind}, Rows.{AreSpecified, blank, rule_in, with_cfa, with_rule}};
+ghost use Rattle.dw_row.specs.{Inner.{Kept.KeptSo, States.{TakenBack, rows_before}}, States.{first_if, BeganWith, Restored, remembering, with_row}};
+
+use crate::entries::NEAR;
+use crate::kept_row::KeptRow;
+use crate::row::Row;
+use crate::rule::{CfaRule, RegRule};
+use smallvec::SmallVec;
+use std::alloc::{AllocError, Global};
+use std::marker::Model;
+
+// So many changes are listed without memory: those of four rows that are remembered at once, as compilers write them.
+const MOST_LISTED: usize = 32;
+
+/// What takes back a change of the current row.
+#[derive(Drop)]
+pub(crate) enum Undo<'a> {
+    /// A row was remembered, with this rule for the CFA.
+    Remembered(CfaRule<'a>),
+    /// A register had this rule.
+    Register(u16, RegRule<'a>),
+}
+
+impl<'a> Default for Undo<'a> {
+    fn default() -> Undo<'a> {
+        Undo::Remembered(CfaRule::Unset)
+    }
+}
+
+/// The current row and the remembered ones. Most programs remember one row at a time: that one is saved, and beneath all others.
+/// Of any other, what was changed since is listed, and taken back. So is what was changed since the beginning, where that is
+/// tracked.
+#[derive(Drop)]
+pub struct States<'a> {
+    row: Row<'a>,
+    kept: KeptRow<'a>,
+    undo: SmallVec<Undo<'a>, MOST_LISTED>,
+    saved: KeptRow<'a>,
+    depth: usize,
+    tracked: bool,
+    is_listed: bool,
+}
+
+impl<'a> Model for States<'a> {
+    ghost use Rattle.std.specs.Prelude.{reverse};
+    ghost use Rattle.dw_row.specs.{Inner.{Kept.KeptSo, States.{StatesSo, held, rows_before}}, States.Held};
+
+    ghost Value = { Held };
+
+    ghost view = { λ s. held s.tracked s.saved s.row s.kept.row s.undo.items };
+
+    ghost invariant = { λ s. KeptSo s.kept s.row.registers × StatesSo s.tracked s.is_listed s.saved s.depth (rows_before s.row.registers (reverse s.undo.items)) s.undo.items };
+}
+
+// Takes changes back up to the row that was remembered last, and answers the rule that the CFA had there.
+#[inline(never)]
+#[tactic(auto, using(crate::proofs::StatesLaws::change_behind, crate::proofs::StatesLaws::last_first, crate::proofs::StatesLaws::no_items))]
+fn take_back<'a>(
+    row: &mut Row<'a>,
+    kept: &mut KeptRow<'a>,
+    undo: &mut SmallVec<Undo<'a>, MOST_LISTED>,
+) -> Result<Option<CfaRule<'a>>, AllocError>
+    requires { KeptSo kept.old row.old.registers }
+    ensures ok { IfOk result (λ found. TakenBack found row.old (reverse undo.old.items) row.new (reverse undo.new.items)) }
+    ensures kept { kept.new.row ≡ kept.old.row }
+    ensures so { KeptSo kept.new row.new.registers }
+{
+    'changes: while let Some(change) = undo.pop() {
+        match change {
+            Undo::Remembered(cfa) => return Ok(Some(cfa)),
+            Undo::Register(register, rule) => kept.set(row, register, rule)?,
+        }
+    }
+    Ok(None)
+}
+
+// The same, where mostly nothing is listed.
+#[inline(always)]
+fn take_listed<'a>(
+    is_listed: bool,
+    row: &mut Row<'a>,
+    kept: &mut KeptRow<'a>,
+    undo: &mut SmallVec<Undo<'a>, MOST_LISTED>,
+) -> Result<Option<CfaRule<'a>>, AllocError>
+    requires listed { is_listed ≡ false → undo.old.items ≡ [] }
+    requires so { KeptSo kept.old row.old.registers }
+    ensures ok { IfOk result (λ found. TakenBack found row.old (reverse undo.old.items) row.new (reverse undo.new.items)) }
+    ensures kept { kept.new.row ≡ kept.old.row }
+    ensures so { KeptSo kept.new row.new.registers }
+{
+    if !is_listed {
+        return Ok(None);
+    }
+    take_back(row, kept, undo)
+}
+
+// Takes all changes of registers back.
+#[inline(never)]
+#[tactic(auto, using(crate::proofs::StatesLaws::back_mark, crate::proofs::StatesLaws::back_none, crate::proofs::StatesLaws::change_behind, crate::proofs::StatesLaws::no_items))]
+fn take_all_back<'a>(
+    row: &mut Row<'a>,
+    kept: &mut KeptRow<'a>,
+    undo: &mut SmallVec<Undo<'a>, MOST_LISTED>,
+) -> Result<(), AllocError>
+    requires { KeptSo kept.old row.old.registers }
+    ensures registers { OnOk result (row.new.registers ≡ (rows_before row.old.registers (reverse undo.old.items)).1) }
+    ensures kept { kept.new.row ≡ kept.old.row }
+    ensures so { KeptSo kept.new row.new.registers }
+{
+    'changes: while let Some(change) = undo.pop() {
+        match change {
+            Undo::Remembered(_) => {}
+            Undo::Register(register, rule) => kept.set(row, register, rule)?,
+        }
+    }
+    Ok(())
+}
+
+// Brings the initial row back.
+#[tactic(auto, using(crate::proofs::Marked::unwatched))]
+fn first_again<'a>(
+    tracked: bool,
+    row: &mut Row<'a>,
+    kept: &mut KeptRow<'a>,
+    undo: &mut SmallVec<Undo<'a>, MOST_LISTED>,
+    initial: &Row<'a>,
+) -> Result<(), AllocError>
+    requires began { BeganWith initial.now (first_if tracked (rows_before row.old.registers (reverse undo.old.items)).1) }
+    requires so { KeptSo kept.old row.old.registers }
+    ensures row { OnOk result (row.new ≡ initial.now) }
+    ensures kept { kept.new.row ≡ kept.old.row }
+    ensures so { KeptSo kept.new row.new.registers }
+{
+    if tracked {
+        take_all_back(row, kept, undo)?;
+        row.set_cfa(initial.cfa());
+        return Ok(());
+    }
+    kept.watched = false;
+    row.become_copy(initial)
+}
+
+// Empties the list, which is mostly empty.
+#[inline(always)]
+fn unlist(is_listed: bool, undo: &mut SmallVec<Undo<'_>, MOST_LISTED>)
+    requires { is_listed ≡ false → undo.old.items ≡ [] }
+    ensures { undo.new.items ≡ [] }
+{
+    if is_listed {
+        undo.clear();
+    }
+}
+
+// Whether changes are listed behind one of the rows.
+#[inline(always)]
+fn lists(tracked: bool, undo: &SmallVec<Undo<'_>, MOST_LISTED>) -> bool
+    ensures { result ≡ false → (tracked ≡ false) × (undo.now.items ≡ []) }
+{
+    tracked || !undo.is_empty()
+}
+
+// Whether a row that is remembered now is saved: nothing is there to go back to, and it is copied without memory.
+#[inline(always)]
+fn saves(tracked: bool, depth: usize, row: &Row<'_>) -> bool
+    ensures { IsTrue result → (tracked ≡ false) × (depth ≡ 0) }
+{
+    !tracked && depth == 0 && row.is_narrow()
+}
+
+impl<'a> States<'a> {
+    /// The row alone. Where changes are tracked, `rewind` brings it back in as many steps as it was changed.
+    #[tactic(auto, using(crate::proofs::StatesLaws::begun_held))]
+    pub fn new(alloc: Global, row: Row<'a>, tracked: bool) -> States<'a>
+        ensures { result ≡ record { row = row.entry; stack = []; first = first_if tracked row.entry.registers; kept = blank } }
+    {
+        States {
+            row,
+            kept: KeptRow::none(alloc),
+            undo: SmallVec::new(alloc),
+            saved: KeptRow::none(alloc),
+            depth: 0,
+            tracked,
+            is_listed: tracked,
+        }
+    }
+
+    /// The current row.
+    pub fn row(&self) -> &Row<'a>
+        ensures { result.now ≡ self.now.row }
+    {
+        &self.row
+    }
+
+    /// The current row alone.
+    pub fn into_row(self) -> Row<'a>
+        ensures { result ≡ self.entry.row }
+    {
+        self.row
+    }
+
+    /// The row that was kept, and before `keep` some row.
+    pub fn kept(&self) -> &Row<'a>
+        ensures { result.now ≡ self.now.kept }
+    {
+        &self.kept.row
+    }
+
+    /// Keeps the current row, or answers want of memory. What is kept is some row then.
+    #[inline(always)]
+    pub fn keep(&mut self) -> Result<(), AllocError>
+        ensures ok { OnOk result (self.new.kept ≡ self.old.row) }
+        ensures same { self.new ≡ record { row = self.old.row; stack = self.old.stack; first = self.old.first; kept = self.new.kept } }
+    {
+        self.kept.keep(&self.row)
+    }
+
+    /// Looks no more at what was set before, where the current row is the kept one. Takes no memory.
+    #[inline(always)]
+    pub fn keep_same(&mut self)
+        requires { self.old.kept ≡ self.old.row }
+        ensures { self.new ≡ self.old }
+    {
+        self.kept.begin();
+    }
+
+    /// Whether the current row is the one that was kept.
+    #[inline(always)]
+    pub fn is_kept(&self) -> bool
+        ensures { IsTrue result ↔ (self.now.kept ≡ self.now.row) }
+    {
+        self.kept.is_same(&self.row)
+    }
+
+    /// The least register to which the current row gives another rule than the kept one, of those behind a given one where
+    /// there is such; or none.
+    #[inline(always)]
+    pub fn next_difference(&self, behind: Option<u16>) -> Option<u16>
+        ensures first { FirstDifference (place_behind behind) self.now.kept.registers self.now.row.registers result }
+        ensures ascending { AreSpecified 0 self.now.kept.registers }
+        ensures other_ascending { AreSpecified 0 self.now.row.registers }
+    {
+        self.kept.next_difference(&self.row, behind)
+    }
+
+    /// Tracks changes no more: the first row is copied then, where `rewind` goes back to it.
+    pub fn untrack(&mut self)
+        ensures { self.new ≡ record { row = self.old.row; stack = self.old.stack; first = None; kept = self.old.kept } }
+    {
+        self.tracked = false;
+    }
+
+    /// Remembers no row, and says whether changes are tracked from the current one on.
+    pub fn track(&mut self, tracked: bool)
+        ensures { self.new ≡ record { row = self.old.row; stack = []; first = first_if tracked self.old.row.registers; kept = self.old.kept } }
+    {
+        self.undo.clear();
+        self.saved.watched = false;
+        self.depth = 0;
+        self.tracked = tracked;
+        self.is_listed = tracked;
+    }
+
+    /// How many rows are remembered.
+    pub fn depth(&self) -> usize
+        ensures { result ≡ length self.now.stack }
+    {
+        self.depth
+    }
+
+    pub fn set_cfa(&mut self, cfa: CfaRule<'a>)
+        ensures { self.new ≡ with_row (with_cfa cfa.entry self.old.row) self.old }
+    {
+        self.row.set_cfa(cfa);
+    }
+
+    // Lists the rule that a register has, and gives it another one.
+    #[tactic(auto, using(crate::proofs::StatesLaws::listed_behind, crate::proofs::StatesLaws::ruled, crate::proofs::StatesLaws::same_held, crate::proofs::StatesLaws::same_so))]
+    #[inline(never)]
+    fn change(&mut self, register: u16, rule: RegRule<'a>) -> Result<(), AllocError>
+        ensures kept { self.new.kept ≡ self.old.kept }
+        ensures changed { OnOk result (self.new ≡ with_row (with_rule register rule.entry self.old.row) self.old) }
+    {
+        self.is_listed = true;
+        self.row.ascends();
+        let older = self.row.rule(register);
+        self.undo.push(Undo::Register(register, older))?;
+        self.kept.set(&mut self.row, register, rule)?;
+        Ok(())
+    }
+
+    /// Gives a register a rule, or answers want of memory.
+    #[tactic(auto, using(crate::proofs::StatesLaws::ruled, crate::proofs::StatesLaws::set_held))]
+    #[inline(always)]
+    pub fn set(&mut self, register: u16, rule: RegRule<'a>) -> Result<(), AllocError>
+        ensures kept { self.new.kept ≡ self.old.kept }
+        ensures set { OnOk result (self.new ≡ with_row (with_rule register rule.entry self.old.row) self.old) }
+    {
+        if self.is_listed {
+            return self.change(register, rule);
+        }
+        self.saved.mark(register)?;
+        self.row.ascends();
+        self.kept.set(&mut self.row, register, rule)?;
+        Ok(())
+    }
+
+    // Gives a register the rule of a row, whatever that is. Out of line: room for a rule is cleared at each register else.
+    #[inline(never)]
+    fn set_rule_of(&mut self, row: &Row<'a>, register: u16) -> Result<(), AllocError>
+        ensures kept { self.new.kept ≡ self.old.kept }
+        ensures set { OnOk result (self.new ≡ with_row (with_rule register (rule_in row.now.registers register) self.old.row) self.old) }
+    {
+        self.set(register, row.rule(register))
+    }
+
+    /// Gives a register the rule that a row gives it, or answers want of memory. Out of line, as the loop that runs a program is
+    /// large enough.
+    #[tactic(auto, using(crate::proofs::StatesLaws::ruled, crate::proofs::StatesLaws::set_held))]
+    #[inline(never)]
+    pub fn set_as(&mut self, row: &Row<'a>, register: u16) -> Result<(), AllocError>
+        ensures kept { self.new.kept ≡ self.old.kept }
+        ensures set { OnOk result (self.new ≡ with_row (with_rule register (rule_in row.now.registers register) self.old.row) self.old) }
+    {
+        if register >= NEAR {
+            return self.set_rule_of(row, register);
+        }
+        if self.is_listed {
+            return self.set_rule_of(row, register);
+        }
+        self.saved.mark(register)?;
+        self.kept.mark(register)?;
+        self.row.ascends();
+        self.row.copy_rule(row, register)?;
+        Ok(())
+    }
+
+    // Lists the current row as one that is remembered.
+    #[tactic(auto, using(crate::proofs::StatesLaws::listed_held, crate::proofs::StatesLaws::listed_so, crate::proofs::StatesLaws::mark_behind))]
+    #[inline(never)]
+    fn list_row(&mut self) -> Result<(), AllocError>
+        requires { length self.old.stack < 64 }
+        ensures kept { self.new.kept ≡ self.old.kept }
+        ensures remembered { OnOk result (self.new ≡ remembering self.old) }
+    {
+        let cfa = self.row.cfa();
+        self.is_listed = true;
+        self.undo.push(Undo::Remembered(cfa))?;
+        self.depth += 1;
+        Ok(())
+    }
+
+    /// Remembers the current row.
+    #[inline(never)]
+    pub fn remember(&mut self) -> Result<(), AllocError>
+        requires { length self.old.stack < 64 }
+        ensures kept { self.new.kept ≡ self.old.kept }
+        ensures remembered { OnOk result (self.new ≡ remembering self.old) }
+    {
+        if !saves(self.tracked, self.depth, &self.row) {
+            return self.list_row();
+        }
+        unlist(self.is_listed, &mut self.undo);
+        self.is_listed = false;
+        self.saved.keep(&self.row)?;
+        self.depth = 1;
+        Ok(())
+    }
+
+    /// Goes back to the row that was remembered last, and tells whether there was one. Behind want of memory none is remembered.
+    #[inline(never)]
+    pub fn restore(&mut self) -> Result<bool, AllocError>
+        ensures kept { self.new.kept ≡ self.old.kept }
+        ensures restored { IfOk result (λ found. Restored found self.old self.new) }
+    {
+        match take_listed(
+            self.is_listed,
+            &mut self.row,
+            &mut self.kept,
+            &mut self.undo,
+        ) {
+            Ok(Some(cfa)) => {
+                self.row.set_cfa(cfa);
+                self.depth -= 1;
+                self.is_listed = lists(self.tracked, &self.undo);
+                Ok(true)
+            }
+            Ok(None) => {
+                if !self.saved.watched {
+                    return Ok(false);
+                }
+                let back = self.kept.go_back(&mut self.row, &self.saved);
+                self.saved.watched = false;
+                self.depth = 0;
+                back?;
+                Ok(true)
+            }
+            Err(error) => {
+                self.saved.watched = false;
+                self.is_listed = self.tracked;
+                self.undo.clear();
+                self.depth = 0;
+                Err(error)
+            }
+        }
+    }
+
+    /// Goes back to the initial row, which was the first, and remembers none.
+    #[inline(always)]
+    pub fn rewind(&mut self, initial: &Row<'a>) -> Result<(), AllocError>
+        requires { BeganWith initial.now self.old.first }
+        ensures kept { self.new.kept ≡ self.old.kept }
+        ensures rewound { OnOk result ((self.new.row ≡ initial.now) × (self.new.stack ≡ []) × BeganWith initial.now self.new.first) }
+    {
+        let taken = first_again(
+            self.tracked,
+            &mut self.row,
+            &mut self.kept,
+            &mut self.undo,
+            initial,
+        );
+        self.saved.watched = false;
+        self.is_listed = self.tracked;
+        self.undo.clear();
+        self.depth = 0;
+        taken
+    }
+}
