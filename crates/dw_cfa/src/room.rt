@@ -115,9 +115,12 @@ impl<'a> RowRoom<'a> {
         ensures { FoundAt address leading.now.factors (program_input leading.now.program leading.now.target) (program_input fde_program.entry leading.now.target) begin self.new result }
     {
         let mut fde = Cursor::new(fde_program.bytes, fde_program.at, leading.target);
-        match run_look_up(leading, &mut fde, &mut self.look, begin, address) {
-            Err(ReadError::OutOfMemory) => self.run(leading, fde_program, begin, address),
-            answer => answer,
+        let Err(error) = run_look_up(leading, &mut fde, &mut self.look, begin, address) else {
+            return Ok(());
+        };
+        match error {
+            ReadError::OutOfMemory => self.run(leading, fde_program, begin, address),
+            refused => Err(refused),
         }
     }
 
