@@ -22,9 +22,10 @@ BY_PROMISES = ("dw_section", "dw_unwind")
 BUDGETS = {
     "dw_op": (3, 52),
     "dw_eval": (1, 4),
-    "dw_cfa": (12, 48),
+    "dw_row": (4, 2),
+    "dw_cfa": (8, 49),
     "dw_section": (0, 64),
-    "dw_canon": (46, 99),
+    "dw_canon": (44, 97),
     "dw_normal": (43, 46),
     "dw_unwind": (0, 5),
     "dw_command": (3, 6),
