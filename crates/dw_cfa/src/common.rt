@@ -1,7 +1,7 @@
 //! Instructions that most programs have. They are applied in line while their operands are read.
 
 ghost use Rattle.dw_num.specs.{Fixed.IsWidth};
-ghost use Rattle.dw_cfa.specs.Inner.{ByOpcode.{advance_at, def_cfa_at, def_cfa_offset_at, def_cfa_offset_sf_at, offset_at}, Turns.{IsWithinLimit, Taken}};
+ghost use Rattle.dw_cfa.specs.Inner.{ByOpcode.{advance_at, def_cfa_at, def_cfa_offset_at, def_cfa_offset_sf_at, offset_at, offset_extended_at}, Turns.{IsWithinLimit, Taken}};
 
 use crate::instr::Factors;
 use crate::keep::Keep;
@@ -113,4 +113,33 @@ pub(crate) fn run_offset<'a, K: Keep<'a>>(
         Err(refusal) => return refused(refusal, fault),
     };
     keep.set(register, RegRule::Offset(offset), at, fault)
+}
+
+/// The same of a register that an operand names, with an offset that may be signed.
+#[tactic(auto, unfolding(crate::specs::Inner::ByOpcode::offset_extended_at))]
+#[inline(always)]
+pub(crate) fn run_offset_extended<'a, K: Keep<'a>>(
+    cursor: &mut Cursor<'a>,
+    factors: Factors,
+    keep: &mut K,
+    at: u64,
+    is_signed: bool,
+    fault: &mut Refusal,
+) -> End
+    requires { IsWithinLimit (K.machine keep.old) }
+    ensures { Taken K.takes (offset_extended_at factors at is_signed cursor.old) at keep.old result fault.new cursor.new keep.new }
+{
+    let register = match cursor.register() {
+        Ok(register) => register,
+        Err(refusal) => return refused(refusal, fault),
+    };
+    let offset = if is_signed {
+        signed(cursor, factors, at)
+    } else {
+        factored(cursor, factors, at)
+    };
+    match offset {
+        Ok(offset) => keep.set(register, RegRule::Offset(offset), at, fault),
+        Err(refusal) => refused(refusal, fault),
+    }
 }

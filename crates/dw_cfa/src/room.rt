@@ -80,23 +80,23 @@ impl<'a> RowRoom<'a> {
         }
     }
 
-    // Runs any programs by the machine.
+    // Runs any programs by the machine. What they are comes by value: what is lent lies in memory also where this is not called.
     #[inline(never)]
     fn run(
         &mut self,
-        leading: &Leading<'a>,
+        leading: Leading<'a>,
         fde_program: Program<'a>,
         begin: u64,
         address: u64,
     ) -> Result<(), ReadError>
-        requires begin { begin < address_limit leading.now.target.size }
+        requires begin { begin < address_limit leading.target.size }
         requires start { begin ≤ address }
-        ensures { FoundAt address leading.now.factors (program_input leading.now.program leading.now.target) (program_input fde_program.entry leading.now.target) begin self.new result }
+        ensures { FoundAt address leading.entry.factors (program_input leading.entry.program leading.entry.target) (program_input fde_program.entry leading.entry.target) begin self.new result }
     {
         let target = leading.target;
         let mut machine = Machine::new(self.alloc, begin, target);
         let mut fde = Cursor::new(fde_program.bytes, fde_program.at, target);
-        let result = run_both(leading, &mut fde, &mut machine, address);
+        let result = run_both(&leading, &mut fde, &mut machine, address);
         self.look.row = machine.states.into_row();
         result
     }
@@ -105,17 +105,17 @@ impl<'a> RowRoom<'a> {
     #[inline(always)]
     fn run_any(
         &mut self,
-        leading: &Leading<'a>,
+        leading: Leading<'a>,
         fde_program: Program<'a>,
         begin: u64,
         address: u64,
     ) -> Result<(), ReadError>
-        requires begin { begin < address_limit leading.now.target.size }
+        requires begin { begin < address_limit leading.target.size }
         requires start { begin ≤ address }
-        ensures { FoundAt address leading.now.factors (program_input leading.now.program leading.now.target) (program_input fde_program.entry leading.now.target) begin self.new result }
+        ensures { FoundAt address leading.entry.factors (program_input leading.entry.program leading.entry.target) (program_input fde_program.entry leading.entry.target) begin self.new result }
     {
         let mut fde = Cursor::new(fde_program.bytes, fde_program.at, leading.target);
-        let Err(error) = run_look_up(leading, &mut fde, &mut self.look, begin, address) else {
+        let Err(error) = run_look_up(&leading, &mut fde, &mut self.look, begin, address) else {
             return Ok(());
         };
         match error {
@@ -153,7 +153,7 @@ impl<'a> RowRoom<'a> {
             factors,
             target,
         };
-        self.run_any(&leading, fde_program, begin, address)
+        self.run_any(leading, fde_program, begin, address)
     }
 
     /// The row (6.4.1) that was run to.

@@ -131,6 +131,7 @@ fn any_rule(number: u16, rule: &RegRule<'_>) -> Rule
 }
 
 // Writes the rules of a row to the front of a buffer, as many as fit, and tells how many there are.
+#[inline(always)]
 fn put_rules(row: &CfaRow<'_>, out: &mut [Rule]) -> usize
     ensures count { result ≡ length row.now.registers }
     ensures rules { out.new ≡ over (map rule_of row.now.registers) out.old }

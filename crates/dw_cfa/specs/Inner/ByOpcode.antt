@@ -109,20 +109,15 @@ then_rule f at opcode r = rule_at f at opcode r.1 >>= with_instr (Set r.0)
 unfoldable pub set_at : Factors → ℕ → Opcode → Input → Read Instr
 set_at f at opcode i = register_at i >>= then_rule f at opcode
 
-unfoldable pub other_at : Factors → ℕ → Opcode → Input → Read Instr
-other_at f at opcodes.SetLoc i = set_loc_at i
-other_at f at opcodes.AdvanceLoc4 i = advance_at f 4 i
-other_at f at opcodes.RestoreExtended i = restore_at i
-other_at f at opcodes.DefCfaSf i = def_cfa_sf_at f at i
-other_at f at opcodes.DefCfaRegister i = def_cfa_register_at i
-other_at f at opcodes.DefCfaExpression i = def_cfa_expression_at i
-other_at f at opcode i = set_at f at opcode i
-
 -- the operands of an opcode that few programs have
 unfoldable pub rare_at : Factors → ℕ → Opcode → Input → Read Instr
-rare_at f at opcodes.OffsetExtended i = offset_extended_at f at false i
-rare_at f at opcodes.OffsetExtendedSf i = offset_extended_at f at true i
-rare_at f at opcode i = other_at f at opcode i
+rare_at f at opcodes.SetLoc i = set_loc_at i
+rare_at f at opcodes.AdvanceLoc4 i = advance_at f 4 i
+rare_at f at opcodes.RestoreExtended i = restore_at i
+rare_at f at opcodes.DefCfaSf i = def_cfa_sf_at f at i
+rare_at f at opcodes.DefCfaRegister i = def_cfa_register_at i
+rare_at f at opcodes.DefCfaExpression i = def_cfa_expression_at i
+rare_at f at opcode i = set_at f at opcode i
 
 -- the operands of the instruction whose opcode is at this place
 unfoldable pub operands_at : Factors → ℕ → Opcode → Input → Read Instr
@@ -134,6 +129,8 @@ operands_at f at opcodes.DefCfa i = def_cfa_at at i
 operands_at f at opcodes.DefCfaOffset i = def_cfa_offset_at at i
 operands_at f at opcodes.DefCfaOffsetSf i = def_cfa_offset_sf_at f at i
 operands_at f at (opcodes.Offset r) i = offset_at f at r i
+operands_at f at opcodes.OffsetExtended i = offset_extended_at f at false i
+operands_at f at opcodes.OffsetExtendedSf i = offset_extended_at f at true i
 operands_at f at (opcodes.Restore r) i = Ok (Restore r, i)
 operands_at f at opcodes.RememberState i = Ok (RememberState, i)
 operands_at f at opcodes.RestoreState i = Ok (RestoreState, i)
