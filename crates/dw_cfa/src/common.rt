@@ -1,12 +1,12 @@
 //! Instructions that most programs have. They are applied in line while their operands are read.
 
 ghost use Rattle.dw_num.specs.{Fixed.IsWidth};
-ghost use Rattle.dw_cfa.specs.Inner.{ByOpcode.{advance_at, def_cfa_at, def_cfa_offset_at, def_cfa_offset_sf_at, offset_at, offset_extended_at}, Turns.{IsWithinLimit, Taken}};
+ghost use Rattle.dw_cfa.specs.Inner.{ByOpcode.{advance_at, def_cfa_at, def_cfa_offset_at, def_cfa_offset_sf_at, offset_at}, Turns.{IsWithinLimit, Taken}};
 
 use crate::instr::Factors;
 use crate::keep::Keep;
 use crate::machine::{End, refused};
-use crate::opcode::{distance, factored, plain, signed};
+use crate::opcode::{Opcode, distance, factored, plain, signed};
 use dw_num::{Cursor, Refusal};
 use dw_row::RegRule;
 
@@ -94,49 +94,30 @@ pub(crate) fn run_def_cfa<'a, K: Keep<'a>>(
     keep.def_cfa(register, offset, at, fault)
 }
 
-/// A register is saved at the CFA plus an offset, which is factored.
-#[tactic(auto, unfolding(crate::specs::Inner::ByOpcode::offset_at))]
+/// A register is saved at the CFA plus an offset, which is factored. The opcode names the register, or an operand does.
+#[tactic(auto, unfolding(crate::specs::Inner::ByOpcode::offset_at, crate::specs::Inner::ByOpcode::named_at, crate::specs::Inner::ByOpcode::scaled_at))]
 #[inline(always)]
 pub(crate) fn run_offset<'a, K: Keep<'a>>(
+    opcode: Opcode,
     cursor: &mut Cursor<'a>,
     factors: Factors,
     keep: &mut K,
     at: u64,
-    register: u16,
     fault: &mut Refusal,
 ) -> End
     requires { IsWithinLimit (K.machine keep.old) }
-    ensures { Taken K.takes (offset_at factors at register cursor.old) at keep.old result fault.new cursor.new keep.new }
+    ensures { Taken K.takes (offset_at factors at opcode cursor.old) at keep.old result fault.new cursor.new keep.new }
 {
-    let offset = match factored(cursor, factors, at) {
-        Ok(offset) => offset,
-        Err(refusal) => return refused(refusal, fault),
+    let register = match opcode {
+        Opcode::Offset(register) => register,
+        _ => match cursor.register() {
+            Ok(register) => register,
+            Err(refusal) => return refused(refusal, fault),
+        },
     };
-    keep.set(register, RegRule::Offset(offset), at, fault)
-}
-
-/// The same of a register that an operand names, with an offset that may be signed.
-#[tactic(auto, unfolding(crate::specs::Inner::ByOpcode::offset_extended_at))]
-#[inline(always)]
-pub(crate) fn run_offset_extended<'a, K: Keep<'a>>(
-    cursor: &mut Cursor<'a>,
-    factors: Factors,
-    keep: &mut K,
-    at: u64,
-    is_signed: bool,
-    fault: &mut Refusal,
-) -> End
-    requires { IsWithinLimit (K.machine keep.old) }
-    ensures { Taken K.takes (offset_extended_at factors at is_signed cursor.old) at keep.old result fault.new cursor.new keep.new }
-{
-    let register = match cursor.register() {
-        Ok(register) => register,
-        Err(refusal) => return refused(refusal, fault),
-    };
-    let offset = if is_signed {
-        signed(cursor, factors, at)
-    } else {
-        factored(cursor, factors, at)
+    let offset = match opcode {
+        Opcode::OffsetExtendedSf => signed(cursor, factors, at),
+        _ => factored(cursor, factors, at),
     };
     match offset {
         Ok(offset) => keep.set(register, RegRule::Offset(offset), at, fault),

@@ -7,7 +7,6 @@ ghost use Rattle.dw_cfa.specs.Inner.{ByOpcode.operands_at, FrontInstr.instr_at, 
 
 use crate::common::{
     run_def_cfa, run_def_cfa_offset, run_def_cfa_offset_sf, run_fixed_advance, run_offset,
-    run_offset_extended,
 };
 use crate::instr::Factors;
 use crate::keep::Keep;
@@ -41,9 +40,9 @@ fn apply<'a, K: Keep<'a>>(
         Opcode::DefCfa => run_def_cfa(cursor, keep, at, fault),
         Opcode::DefCfaOffset => run_def_cfa_offset(cursor, keep, at, fault),
         Opcode::DefCfaOffsetSf => run_def_cfa_offset_sf(cursor, factors, keep, at, fault),
-        Opcode::Offset(register) => run_offset(cursor, factors, keep, at, register, fault),
-        Opcode::OffsetExtended => run_offset_extended(cursor, factors, keep, at, false, fault),
-        Opcode::OffsetExtendedSf => run_offset_extended(cursor, factors, keep, at, true, fault),
+        Opcode::Offset(_) | Opcode::OffsetExtended | Opcode::OffsetExtendedSf => {
+            run_offset(opcode, cursor, factors, keep, at, fault)
+        }
         Opcode::Restore(register) => keep.restore(register, at, fault),
         Opcode::RememberState => keep.remember(at, fault),
         Opcode::RestoreState => keep.recall(at, fault),
