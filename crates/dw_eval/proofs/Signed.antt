@@ -2,8 +2,7 @@
 use Rattle.dw_eval.proofs.Words.{◌≡◌, Bool, true, false, ℕ, zero, suc, ◌%◌, ◌^◌, ◌<◌, ◌≤◌, ℤ, pos, negsuc, ◌<ℤ◌, ◌≤ℤ◌, to_z, of_z, w32, w64, FitsSigned, refl, sym, ◌∙◌, ap, arith, min, if◌then◌else◌, ints, to_z-of_z, of_z-to_z, Size, Four}
 use Rattle.dw_eval.proofs.Words.{Eight, address_limit, signed, bit_count, shifted_signed}
 use Rattle.std.specs.{Int.{cast_signed, IsNonZero}, Int.Signed.{shr_z, mag, lt_z}}
-use Rattle.std.proofs.{Math.Facts.sfits_to_z, lemmas.Nat.div_below}
-use Rattle.dw_op.specs.Operands.{modulo}
+use Rattle.std.proofs.{Common.{inl, inr, lit<}, Math.{Facts.sfits_to_z, Nat.pow-le-pow_right}, lemmas.{Bool.cases_lt, Nat.div_below}}
 
 pub signed_whole : (size : Size) (n : ℕ) (r : ℤ) → size ≡ Eight → n < 2 ^ 64 → r ≡ cast_signed w64 n → to_z w64 (of_z w64 r) ≡ signed size n
 unfolding signed
@@ -69,6 +68,20 @@ far_by Eight s t h =
     let f : FitsSigned w64 (to_z w64 (s % 18446744073709551616)) = whole_fits (s % 18446744073709551616) (omega arith) in
     ap (λ k. shr_z (to_z w64 (s % 18446744073709551616)) (2 ^ k)) all ∙ left_of (to_z w64 (s % 18446744073709551616)) 18446744073709551616 _ (omega (arith, f.sfits)) refl
 
-pub shifted_far : (size : Size) (s t r : ℕ) (z : ℤ) → bit_count size ≤ t → z ≡ signed size s → r ≡ modulo (address_limit size) (if lt_z z (pos 0) then negsuc 0 else pos 0) → r ≡ modulo (address_limit size) (shifted_signed size s t)
-shifted_far size s t r z h e is =
-    is ∙ (ap (λ x. modulo (address_limit size) (if lt_z x (pos 0) then negsuc 0 else pos 0)) e ∙ sym (ap (modulo (address_limit size)) (far_by size s t h)))
+-- what is left after 63 bits or fewer
+pub shifted_all : (size : Size) (s t : ℕ) → shr_z (signed size s) (2 ^ min t 63) ≡ shifted_signed size s t
+unfolding signed
+shifted_all Four s t = elim (cases_lt t 32) [
+  | inl lt ↦ ap (λ k. shr_z (signed Four s) (2 ^ k)) (omega arith)
+  | inr ge ↦
+      let f : FitsSigned w32 (to_z w32 (s % 4294967296)) = sfits_to_z {w = w32} {n = s % 4294967296} (record { fits = omega arith }) in
+      let more : 2 ^ 32 ≤ 2 ^ min t 63 = let least : 32 ≤ min t 63 = omega arith in pow-le-pow_right (lit< tt) least in
+      left_of (to_z w32 (s % 4294967296)) (2 ^ min t 63) _ (omega (arith, f.sfits)) refl ∙ sym (far_by Four s t ge)
+]
+shifted_all Eight s t = elim (cases_lt t 64) [
+  | inl lt ↦ ap (λ k. shr_z (signed Eight s) (2 ^ k)) (omega arith)
+  | inr ge ↦
+      let all : min t 63 ≡ 63 = omega arith in
+      let f : FitsSigned w64 (to_z w64 (s % 18446744073709551616)) = whole_fits (s % 18446744073709551616) (omega arith) in
+      ap (λ k. shr_z (to_z w64 (s % 18446744073709551616)) (2 ^ k)) all ∙ left_of (to_z w64 (s % 18446744073709551616)) 9223372036854775808 _ (omega (arith, f.sfits)) refl ∙ sym (far_by Eight s t ge)
+]

@@ -66,10 +66,7 @@ pub(crate) fn act<M: Memory>(
         Op::Deref => read(stack, usize::from(size.byte_count()), env, memory),
         Op::Const(number) => stack.put(reduced(number, size)),
         Op::Dup => stack.pick(0),
-        Op::Drop => {
-            stack.take()?;
-            Ok(Flow::Next)
-        }
+        Op::Drop => stack.take().map(|_| Flow::Next),
         Op::Over => stack.pick(1),
         Op::Pick(index) => stack.pick(index),
         Op::Swap => stack.swap(),

@@ -50,8 +50,7 @@ pub(crate) fn quotient(s: u64, t: u64, size: Size) -> u64
     requires { 0 < t % address_limit size }
     ensures { result ≡ modulo (address_limit size) (int_div (signed size s) (signed size t)) }
 {
-    let divided = signed(s, size).wrapping_div(signed(t, size));
-    unsigned(divided, size)
+    unsigned(signed(s, size).wrapping_div(signed(t, size)), size)
 }
 
 /// How many bits a value has.
@@ -83,21 +82,9 @@ pub(crate) fn shifted_right(s: u64, t: u64, size: Size) -> u64
     }
 }
 
-// What is left of a signed number whose bits are all shifted out.
-fn sign_bits(number: i64, size: Size) -> u64
-    ensures { result ≡ modulo (address_limit size) (if int_lt number (pos 0) then negsuc 0 else pos 0) }
-{
-    if number < 0 { unsigned(-1, size) } else { 0 }
-}
-
 /// A signed number shifted to the right by any number of bits.
 pub(crate) fn shifted_signed(s: u64, t: u64, size: Size) -> u64
     ensures { result ≡ modulo (address_limit size) (shifted_signed size s t) }
 {
-    let number = signed(s, size);
-    if t < bit_count(size) {
-        unsigned(number >> t, size)
-    } else {
-        sign_bits(number, size)
-    }
+    unsigned(signed(s, size) >> t.min(63), size)
 }

@@ -85,9 +85,9 @@ impl<'a> Description<'a> {
         ensures { StepsWithoutMemory (Ok (with_piece part (state_of index self.old))) index (λ next. state_of next self.new) result }
     {
         let place = self.place();
-        if self.pieces.push(Piece { place, part }).is_err() {
-            return Err(EvalError::OutOfMemory);
-        }
+        self.pieces
+            .push(Piece { place, part })
+            .map_err(|_| EvalError::OutOfMemory)?;
         self.stack.clear();
         self.pending = None;
         Ok(index + 1)
@@ -162,10 +162,7 @@ impl<'a> Description<'a> {
         ensures some { IsTrue result → (len : ℕ) (piece : Piece) (pieces : List Piece) → pieces_of len (option_map bare_place self.now.pending) self.now.stack (piece ∷ pieces) ≡ Err (Fault MissingPiece len) }
         ensures none { result ≡ false → (len : ℕ) (piece : Piece) (pieces : List Piece) → pieces_of len (option_map bare_place self.now.pending) self.now.stack (piece ∷ pieces) ≡ Ok (piece ∷ pieces) }
     {
-        match self.pending {
-            Some(_) => true,
-            None => self.stack.len() > 0,
-        }
+        self.pending.is_some() || self.stack.len() > 0
     }
 
     /// The pieces at the end of a list of this length: one whole piece where there is none yet, and nothing
@@ -178,9 +175,7 @@ impl<'a> Description<'a> {
                 place: self.place(),
                 part: Part::Whole,
             };
-            if self.pieces.push(whole).is_err() {
-                return Err(EvalError::OutOfMemory);
-            }
+            self.pieces.push(whole).map_err(|_| EvalError::OutOfMemory)?;
             return Ok(self.pieces);
         }
         if self.leaves_some() {

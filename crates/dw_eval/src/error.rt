@@ -44,44 +44,38 @@ pub enum Kind {
 }
 
 impl Kind {
+    // Number and name.
+    fn entry(self) -> (u8, &'static str)
+        ensures { (result.0 ≡ (kind_entry self).0) × (result.1.now ≡ (kind_entry self).1) }
+    {
+        match self {
+            Kind::StackUnderflow => (1, "StackUnderflow"),
+            Kind::DivideByZero => (2, "DivideByZero"),
+            Kind::NoRegister { .. } => (3, "NoRegister"),
+            Kind::Unreadable { .. } => (4, "Unreadable"),
+            Kind::Device => (5, "Device"),
+            Kind::StepLimit => (6, "StepLimit"),
+            Kind::EmptyResult => (7, "EmptyResult"),
+            Kind::NotAValue => (8, "NotAValue"),
+            Kind::NoFrameBase => (9, "NoFrameBase"),
+            Kind::NoCfa => (10, "NoCfa"),
+            Kind::NoObject => (11, "NoObject"),
+            Kind::MissingPiece => (12, "MissingPiece"),
+        }
+    }
+
     /// The fault's number, 1 to 12.
     pub fn number(self) -> u8
         ensures { result ≡ (kind_entry self).0 }
     {
-        match self {
-            Kind::StackUnderflow => 1,
-            Kind::DivideByZero => 2,
-            Kind::NoRegister { .. } => 3,
-            Kind::Unreadable { .. } => 4,
-            Kind::Device => 5,
-            Kind::StepLimit => 6,
-            Kind::EmptyResult => 7,
-            Kind::NotAValue => 8,
-            Kind::NoFrameBase => 9,
-            Kind::NoCfa => 10,
-            Kind::NoObject => 11,
-            Kind::MissingPiece => 12,
-        }
+        self.entry().0
     }
 
     /// The fault's name, as the variant is written.
     pub fn name(self) -> &'static str
         ensures { result.now ≡ (kind_entry self).1 }
     {
-        match self {
-            Kind::StackUnderflow => "StackUnderflow",
-            Kind::DivideByZero => "DivideByZero",
-            Kind::NoRegister { .. } => "NoRegister",
-            Kind::Unreadable { .. } => "Unreadable",
-            Kind::Device => "Device",
-            Kind::StepLimit => "StepLimit",
-            Kind::EmptyResult => "EmptyResult",
-            Kind::NotAValue => "NotAValue",
-            Kind::NoFrameBase => "NoFrameBase",
-            Kind::NoCfa => "NoCfa",
-            Kind::NoObject => "NoObject",
-            Kind::MissingPiece => "MissingPiece",
-        }
+        self.entry().1
     }
 
     /// This fault of the operation at an index.

@@ -35,13 +35,12 @@ fn begin(alloc: Global, start: Option<u64>, size: Size) -> Result<Stack, EvalErr
     ensures { MatchResult result (λ s. s ≡ first_stack size start) (λ e. e ≡ OutOfMemory) }
 {
     let mut stack = Stack::new(alloc);
-    match start {
-        Some(value) => match stack.put(reduced(value, size)) {
-            Ok(_) => Ok(stack),
-            Err(_) => Err(EvalError::OutOfMemory),
-        },
-        None => Ok(stack),
+    if let Some(value) = start {
+        stack
+            .put(reduced(value, size))
+            .map_err(|_| EvalError::OutOfMemory)?;
     }
+    Ok(stack)
 }
 
 // Runs the operations from the first one on.
@@ -67,10 +66,7 @@ fn run<M: Memory>(
         index = reached(answer, index)?;
         taken += 1;
     }
-    match stack.get(0) {
-        Some(value) => Ok(value),
-        None => Err(Kind::EmptyResult.at(ops.len())),
-    }
+    stack.get(0).ok_or(Kind::EmptyResult.at(ops.len()))
 }
 
 /// The value of an expression (2.5): the top of the stack when the end is reached. It is below 2^N, where an address has

@@ -54,10 +54,7 @@ fn value_of(
     if index >= NEAR {
         return far_value(far, index - NEAR);
     }
-    if known[index] {
-        return Some(values[index]);
-    }
-    None
+    known[index].then_some(values[index])
 }
 
 // Lets a register that has a place hold a value.

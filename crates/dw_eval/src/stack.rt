@@ -84,9 +84,7 @@ impl Stack {
     pub(crate) fn put(&mut self, value: u64) -> Answer
         ensures { Does (Next (value ∷ self.old)) result self.new }
     {
-        if self.values.push(value).is_err() {
-            return Err(Stop::OutOfMemory);
-        }
+        self.values.push(value).map_err(|_| Stop::OutOfMemory)?;
         Ok(Flow::Next)
     }
 
@@ -95,10 +93,7 @@ impl Stack {
         ensures found { IfOk result (λ t. self.old ≡ t ∷ self.new) }
         ensures short { IfErr result (λ e. (e ≡ Stop.Fault StackUnderflow) × (self.old ≡ [])) }
     {
-        match self.values.pop() {
-            Some(top) => Ok(top),
-            None => Err(Stop::Fault(Kind::StackUnderflow)),
-        }
+        self.values.pop().ok_or(Stop::Fault(Kind::StackUnderflow))
     }
 
     /// Takes the second and the top, in this order, of which there have to be two.
@@ -188,9 +183,6 @@ impl Stack {
     pub(crate) fn put_known(&mut self, value: Option<u64>, missing: Kind) -> Answer
         ensures { Does (known missing value (λ v. Next (v ∷ self.old))) result self.new }
     {
-        match value {
-            Some(value) => self.put(value),
-            None => Err(Stop::Fault(missing)),
-        }
+        self.put(value.ok_or(Stop::Fault(missing))?)
     }
 }

@@ -3,10 +3,10 @@ use Rattle.dw_num.specs.{Input.AreBytes, Target.address_limit, declared.target.S
 use Rattle.dw_cfa.specs.declared.instr.Instr.{Instr}
 use Rattle.dw_section.specs.Changes.{AreChanges, Changing, ChangesBehind, GivesAddress}
 use Rattle.dw_section.proofs.Lent.{FdeLookup.listed_are, Sections.begin_low}
-use Rattle.dw_library.specs.{Changes.rules_in, declared.rows.Totals.Totals}
-use Rattle.dw_library.proofs.Words.{◌≡◌, ℕ, zero, suc, ◌+◌, ◌-◌, ◌^◌, ◌<◌, ◌≤◌, List, [], ◌∷◌, ◌++◌, length, map, min, get_or, slice_set, true, false, refl, sym, ap, subst, ◌∙◌, arith, inl, inr, Option}
+use Rattle.dw_library.specs.{Changes.{TellsCovering, Told, rules_in}, declared.rows.Totals.Totals}
+use Rattle.dw_library.proofs.Words.{◌≡◌, ℕ, zero, suc, ◌+◌, ◌-◌, ◌^◌, ◌<◌, ◌≤◌, List, [], ◌∷◌, ◌++◌, length, map, min, get_or, slice_set, refl, sym, ap, subst, ◌∙◌, arith, inl, inr, Option}
 use Rattle.dw_library.proofs.Words.{Some, None, Ok, AllByRecursion, leb_tells, flat_map_more, get_or-map, length-append, length-map, map_push, same_Some, mid_of, put_mid, Target, Rules, Accepted, IsAmong}
-use Rattle.dw_library.proofs.{Words.{AreFdes, ChangesOf, IsTable, fde_in, Ranged, Fde, Change, Rule, Room, AreWritten, change_of, over, rule_of, IsLow, IsLeft}, Written.{over_full, over_length, written_left}}
+use Rattle.dw_library.proofs.{Words.{AreFdes, ChangesOf, Covers, Fits, IsTable, fde_in, Ranged, Fde, Change, Rule, AreWritten, change_of, over, rule_of, IsLow}, Written.{over_full, over_length, written_left}}
 
 -- ---- one more
 
@@ -28,14 +28,6 @@ pushed {X} before x old now new count is few counted inside outside =
           inside (omega (arith, lt.1, same, at)) ∙ rw (is, at) (push_fits before x old lt.1)
     ]
 
--- where the next rules go
-left_at : (before : List Rule) (count place size : ℕ) → count ≡ min (length before) (2 ^ 64 - 1) → place ≡ min count size → size < 2 ^ 64 → (room : Room) × IsLeft size before room × (room.place ≡ place)
-left_at before count place size counted is few =
-    elim (leb_tells (length before) size) [
-      | inl le ↦ (record { place = place; short = false }, inl (refl, omega (arith, le.1, counted, is, few), le.1), refl)
-      | inr lt ↦ (record { place = place; short = true }, inr (refl, omega (arith, lt.1, counted, is, few), lt.1), refl)
-    ]
-
 module _ (f : Fde) (done : List (ℕ × Rules)) (change : ℕ × Rules) (changes changes_now new_changes : List Change) (rules rules_now new_rules part : List Rule) (before after : Totals) (place count : ℕ) where
   abbrev own : List Rule
   own = map rule_of change.1.registers
@@ -50,15 +42,11 @@ module _ (f : Fde) (done : List (ℕ × Rules)) (change : ℕ × Rules) (changes
       let told = map (change_of f) done in
       let so_long : length told ≡ length done = length-map done (change_of f) in
       let all : rules_in done ++ own ≡ rules_in (done ++ change ∷ []) = flat_map_more (λ (c : ℕ × Rules). map rule_of c.1.registers) [] done change in
-      let room = left_at (rules_in done) before.rules place (length rules_now) w.rule_count at few_rules in
-      let le : place ≤ length rules_now = omega (arith, at) in
-      let behind : put_mid place (length rules_now - place) rules_now part ≡ over (rules_in done ++ own) rules =
-      subst (λ (k : ℕ). part ≡ over own (mid_of k (length rules_now - k) rules_now) → k ≤ length rules_now → put_mid k (length rules_now - k) rules_now part ≡ over (rules_in done ++ own) rules) room.2
-      (λ p l. written_left (rules_in done) own rules rules_now part room.0 room.1 w.rules_are l p) part_is le in
+      let room : place ≡ min (length (rules_in done)) (length rules_now) = omega (arith, at, w.rule_count, few_rules) in
       record {
         changes_are = pushed told (change_of f change) changes changes_now new_changes before.changes w.changes_are few (w.change_count ∙ ap (λ (k : ℕ). min k (2 ^ 64 - 1)) (sym so_long)) inside outside
             ∙ ap (λ (l : List Change). over l changes) (sym (map_push (change_of f) done change));
-        rules_are = put ∙ behind ∙ ap (λ (l : List Rule). over l rules) all;
+        rules_are = put ∙ written_left (rules_in done) own rules rules_now part place room w.rules_are part_is ∙ ap (λ (l : List Rule). over l rules) all;
         change_count = omega (arith, more, w.change_count, length-append done (change ∷ []));
         rule_count = omega (arith, more_rules, w.rule_count, counted, length-map change.1.registers rule_of, length-append (rules_in done) own, ap (λ (l : List Rule). length l) all);
       }
@@ -95,7 +83,7 @@ changes_low target s b ok f changes h =
 abbrev pub no_fde : Fde
 no_fde = record { begin = 0; end = 0; return_register = 0 }
 
-pub among_get : (fs : List Fde) (k : ℕ) (d : Fde) → k < length fs → IsAmong (get_or fs k d) fs
+among_get : (fs : List Fde) (k : ℕ) (d : Fde) → k < length fs → IsAmong (get_or fs k d) fs
 among_get [] k d lt = absurd (omega arith)
 among_get (f ∷ fs) zero d lt = inl refl
 among_get (f ∷ fs) (suc k) d lt = inr (among_get fs k d (omega arith))
@@ -103,7 +91,24 @@ among_get (f ∷ fs) (suc k) d lt = inr (among_get fs k d (omega arith))
 pub place_low : (target : Target) (s : List ℕ) (index : List Ranged) → IsTable target s index → (k : ℕ) (fs : List Fde) → AreFdes target s fs → k < length fs → k < length index
 place_low target s index is k fs are lt = omega (arith, lt, ap (λ (l : List Fde). length l) (listed_are target s index is fs are), length-map index fde_in)
 
-pub entry_is : (target : Target) (s : List ℕ) (index : List Ranged) → IsTable target s index → (k : ℕ) (e : Ranged) → k < length index
+entry_is : (target : Target) (s : List ℕ) (index : List Ranged) → IsTable target s index → (k : ℕ) (e : Ranged) → k < length index
     → (fs : List Fde) → AreFdes target s fs → (d : Fde) → fde_in (get_or index k e) ≡ get_or fs k d
 entry_is target s index is k e lt fs are d =
     sym (get_or-map fde_in index k e d lt) ∙ ap (λ (l : List Fde). get_or l k d) (listed_are target s index is fs are)
+
+-- the FDE at a place covers an address, and its changes were written
+pub covering_told : (target : Target) (s : List ℕ) (index : List Ranged) → IsTable target s index → (a k : ℕ) (e : Ranged) → k < length index
+    → ((fs : List Fde) → AreFdes target s fs → (k < length fs) × ((d : Fde) → Covers a (get_or fs k d)))
+    → (fs : List Fde) → AreFdes target s fs → (all : List (ℕ × Rules)) → ((d : Fde) → ChangesOf target s (get_or fs k d) all) → (out : List Change) (rules : List Rule) (t : Told)
+    → AreWritten (fde_in (get_or index k e)) all out rules t.changes t.rules t.needed → Fits t.needed (length t.changes) (length t.rules) t.status → TellsCovering target s a out rules t
+covering_told target s index is a k e lt at fs are all so out rules t w fits =
+    let same = entry_is target s index is k e lt in
+    let changes_long : length t.changes ≡ length out = ap (λ (l : List Change). length l) w.changes_are ∙ over_length _ out in
+    let rules_long : length t.rules ≡ length rules = ap (λ (l : List Rule). length l) w.rules_are ∙ over_length _ rules in
+    let fit = subst (λ (n : ℕ). Fits t.needed n (length rules) t.status) changes_long (subst (λ (n : ℕ). Fits t.needed (length t.changes) n t.status) rules_long fits) in
+    inl (
+      fde_in (get_or index k e),
+      λ gs theirs. subst (λ (f : Fde). IsAmong f gs) (sym (same gs theirs no_fde)) (among_get gs k no_fde (at gs theirs).0),
+      subst (Covers a) (sym (same fs are no_fde)) ((at fs are).1 no_fde),
+      (all, subst (λ (f : Fde). ChangesOf target s f all) (sym (same fs are no_fde)) (so no_fde), w, fit),
+    )

@@ -1,7 +1,7 @@
 -- Rows of many addresses, and their rules one after another over a buffer.
-use Rattle.dw_library.proofs.Words.{◌≡◌, ℕ, suc, ◌+◌, ◌-◌, ◌<◌, ◌≤◌, List, [], ◌∷◌, ◌++◌, length, take, drop, map, get_or, slice_set, refl, sym, ap, subst, ◌∙◌, arith, inl, inr, AllZip, append_snoc, drop-cons}
-use Rattle.dw_library.proofs.Words.{set-append_seam, take-length, take-suc, append-nil, drop_all, flat_map_more, length-drop, length-map, length-take-le, map_push, take_all, mid_of, post_of, put_mid, Target}
-use Rattle.dw_library.proofs.Words.{Rule, Room, over, IsLook, Look, rules_in, IsLeft}
+use Rattle.dw_library.proofs.Words.{◌≡◌, ℕ, suc, ◌+◌, ◌-◌, ◌^◌, ◌<◌, ◌≤◌, List, [], ◌∷◌, ◌++◌, length, take, drop, map, min, get_or, slice_set, refl, sym, ap, subst, ◌∙◌, arith, inl, inr, leb_tells, AllZip, append_snoc, drop-cons}
+use Rattle.dw_library.proofs.Words.{set-append_seam, take-length, take-suc, append-nil, drop_all, flat_map_more, length-append, length-drop, length-map, length-take-le, map_push, take_all, mid_of, post_of, put_mid, Target}
+use Rattle.dw_library.proofs.Words.{Rule, over, IsLook, Look, rules_in}
 use Rattle.std.proofs.lemmas.Slice.Zip.{AllZip-long}
 use Rattle.dw_library.specs.declared.index.Row.{Row}
 
@@ -26,27 +26,26 @@ over_full [] own (x ∷ old) le = absurd (omega arith)
 over_full (item ∷ before) own [] le = refl
 over_full (item ∷ before) own (x ∷ old) le = ap (λ l. item ∷ l) (over_full before own old (omega arith))
 
-pub left_within : (size : ℕ) (before : List Rule) (room : Room) → IsLeft size before room → room.place ≤ size
-left_within size before room (inl fits) = omega (arith, fits.1, fits.2)
-left_within size before room (inr full) = omega (arith, full.1)
-
 -- what is left of a buffer from a place on
 rest_of : {X : Type 0} (place : ℕ) (now : List X) → place ≤ length now → mid_of place (length now - place) now ≡ drop place now
 rest_of place now le = take_all (length now - place) (drop place now) (omega (arith, length-drop place now))
 
 -- rules written to what is left of a buffer
-over_left : (before own buffer now : List Rule) (room : Room) → IsLeft (length now) before room → now ≡ over before buffer → take room.place now ++ over own (drop room.place now) ≡ over (before ++ own) buffer
-over_left before own buffer now room (inl fits) is =
-    rw (fits.1, is) (over_fits before own buffer (omega (arith, fits.2, ap (λ (l : List Rule). length l) is, over_length before buffer)))
-over_left before own buffer now room (inr full) is =
-    let le : length buffer ≤ length before = omega (arith, full.2, ap (λ (l : List Rule). length l) is, over_length before buffer) in
-    rw (full.1, take-length now, drop_all (length now) now (omega arith), over_empty own, append-nil now) (is ∙ over_full before own buffer le)
+over_left : (before own buffer now : List Rule) (place : ℕ) → place ≡ min (length before) (length now) → now ≡ over before buffer → take place now ++ over own (drop place now) ≡ over (before ++ own) buffer
+over_left before own buffer now place at is =
+    let long : length now ≡ length buffer = ap (λ (l : List Rule). length l) is ∙ over_length before buffer in
+    elim (leb_tells (length before) (length buffer)) [
+      | inl le ↦ let fits : place ≡ length before = omega (arith, at, long, le.1) in rw (fits, is) (over_fits before own buffer le.1)
+      | inr lt ↦
+          let full : place ≡ length now = omega (arith, at, long, lt.1) in
+          rw (full, take-length now, drop_all (length now) now (omega arith), over_empty own, append-nil now) (is ∙ over_full before own buffer (omega (arith, lt.1)))
+    ]
 
-pub written_left : (before own buffer now part : List Rule) (room : Room) → IsLeft (length now) before room → now ≡ over before buffer → room.place ≤ length now
-    → part ≡ over own (mid_of room.place (length now - room.place) now) → put_mid room.place (length now - room.place) now part ≡ over (before ++ own) buffer
-written_left before own buffer now part room left is le same =
-    let none : post_of room.place (length now - room.place) now ≡ [] = drop_all (length now - room.place) (drop room.place now) (omega (arith, length-drop room.place now)) in
-    rw (none, append-nil part, same, rest_of room.place now le) (over_left before own buffer now room left is)
+pub written_left : (before own buffer now part : List Rule) (place : ℕ) → place ≡ min (length before) (length now) → now ≡ over before buffer
+    → part ≡ over own (mid_of place (length now - place) now) → put_mid place (length now - place) now part ≡ over (before ++ own) buffer
+written_left before own buffer now part place at is same =
+    let none : post_of place (length now - place) now ≡ [] = drop_all (length now - place) (drop place now) (omega (arith, length-drop place now)) in
+    rw (none, append-nil part, same, rest_of place now (omega (arith, at))) (over_left before own buffer now place at is)
 
 -- one more item behind those that were put in a buffer
 pub put_next : {X : Type 0} (done old : List X) (x : X) → length done < length old → slice_set (done ++ drop (length done) old) (length done) x ≡ (done ++ x ∷ []) ++ drop (length done + 1) old
@@ -63,25 +62,18 @@ zip_more R (a ∷ xs) [] x y all r = absurd all
 zip_more R (a ∷ xs) (b ∷ ys) x y all r = (all.0, zip_more R xs ys x y all.1 r)
 
 -- what a call wrote so far, of the first n addresses
-pub record Wrote (target : Target) (s asked : List ℕ) (rows : List Row) (rules : List Rule) (n : ℕ) (rows_now : List Row) (rules_now : List Rule) (room : Room) : Type 0 where
+pub record Wrote (target : Target) (s asked : List ℕ) (rows : List Row) (rules : List Rule) (n : ℕ) (rows_now : List Row) (rules_now : List Rule) (total : ℕ) : Type 0 where
   pub looks : List Look
   pub each : AllZip (IsLook target s) (take n asked) looks
   pub rows_are : rows_now ≡ map (λ l. l.row) looks ++ drop n rows
   pub rules_are : rules_now ≡ over (rules_in looks) rules
-  pub left : IsLeft (length rules) (rules_in looks) room
+  pub counted : total ≡ min (length (rules_in looks)) (2 ^ 128 - 1)
 
-module _ {target : Target} {s asked : List ℕ} {rows rows_now : List Row} {rules rules_now : List Rule} {n : ℕ} {room : Room} (w : Wrote target s asked rows rules n rows_now rules_now room) where
-  same_long : length rules_now ≡ length rules
-  same_long = ap (λ (l : List Rule). length l) w.rules_are ∙ over_length (rules_in w.looks) rules
-
-  -- the room that is left, by the buffer as it is now
-  pub room_now : IsLeft (length rules_now) (rules_in w.looks) room
-  room_now = subst (λ (k : ℕ). IsLeft k (rules_in w.looks) room) (sym same_long) w.left
-
-  pub wrote_more : (l : Look) {row_new : Row} {rules_new : List Rule} {behind : Room} → n < length asked → n < length rows → IsLook target s (get_or asked n 0) l
-      → row_new ≡ l.row → rules_new ≡ over (rules_in w.looks ++ l.rules) rules → IsLeft (length rules) (rules_in w.looks ++ l.rules) behind
-      → Wrote target s asked rows rules (n + 1) (slice_set rows_now n row_new) rules_new behind
-  wrote_more l {behind = behind} lt fits is row_is rules_are left =
+module _ {target : Target} {s asked : List ℕ} {rows rows_now : List Row} {rules rules_now : List Rule} {n total : ℕ} (w : Wrote target s asked rows rules n rows_now rules_now total) where
+  pub wrote_more : (l : Look) {row_new : Row} {rules_new : List Rule} {count more : ℕ} → n < length asked → n < length rows → IsLook target s (get_or asked n 0) l
+      → row_new ≡ l.row → rules_new ≡ over (rules_in w.looks ++ l.rules) rules → count ≡ length l.rules → more ≡ min (total + count) (2 ^ 128 - 1)
+      → Wrote target s asked rows rules (n + 1) (slice_set rows_now n row_new) rules_new more
+  wrote_more l lt fits is row_is rules_are long_as grown =
       let next : suc n ≡ n + 1 = omega arith in
       let before = map (λ (k : Look). k.row) w.looks in
       let long : length before ≡ n = length-map w.looks (λ (k : Look). k.row) ∙ AllZip-long (IsLook target s) (take n asked) w.looks w.each ∙ length-take-le n asked (omega arith) in
@@ -95,5 +87,5 @@ module _ {target : Target} {s asked : List ℕ} {rows rows_now : List Row} {rule
         each = subst (λ (k : List ℕ). AllZip (IsLook target s) k (w.looks ++ l ∷ [])) (sym first) (zip_more (IsLook target s) (take n asked) w.looks (get_or asked n 0) l w.each is);
         rows_are = ap (λ (k : Row). slice_set rows_now n k) row_is ∙ set ∙ ap (λ (k : List Row). k ++ drop (n + 1) rows) (sym (map_push (λ (k : Look). k.row) w.looks l));
         rules_are = rules_are ∙ ap (λ (k : List Rule). over k rules) all;
-        left = subst (λ (k : List Rule). IsLeft (length rules) k behind) all left;
+        counted = omega (arith, grown, w.counted, long_as, length-append (rules_in w.looks) l.rules, ap (λ (k : List Rule). length k) all);
       }

@@ -2,5 +2,4 @@
 pub mod FrameAt
 pub mod Windows
 pub mod Expressions
-pub mod Looks
 pub mod Changes

@@ -58,14 +58,11 @@ pub(crate) fn refuse(refused: &mut Refused, section: u32, refusal: Refusal) -> u
 pub(crate) fn target_of(address_size: u32, byte_order: u32) -> Option<Target>
     ensures { result ≡ target_of address_size byte_order }
 {
-    let size = match address_size {
-        4 => Size::Four,
-        8 => Size::Eight,
-        _ => return None,
-    };
-    let order = match byte_order {
-        0 => Order::Little,
-        1 => Order::Big,
+    let (size, order) = match (address_size, byte_order) {
+        (4, 0) => (Size::Four, Order::Little),
+        (4, 1) => (Size::Four, Order::Big),
+        (8, 0) => (Size::Eight, Order::Little),
+        (8, 1) => (Size::Eight, Order::Big),
         _ => return None,
     };
     Some(Target { size, order })

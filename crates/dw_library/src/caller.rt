@@ -1,13 +1,11 @@
 //! The frame of the caller, by an index that the caller keeps, or by one that is made.
 
-ghost use Rattle.std.specs.Prelude.{◌≡◌, ◌⊎◌, map, Ok, Err, MatchResult, OnErr};
+ghost use Rattle.std.specs.Prelude.{◌≡◌, map, Ok, Err, MatchResult, OnErr};
 ghost use Rattle.dw_section.specs.Ranges.{IsTable};
-ghost use Rattle.dw_unwind.specs.{Unwound.{Unwound, stopped}, UnwoundAt.UnwoundAt, declared.frame.Frame.{Frame as TheCallerFrame}};
-ghost use Rattle.dw_unwind.specs.declared.by_index.UnwindAtError.TheVariants as TheUnwindAtError;
-ghost use Rattle.dw_unwind.specs.declared.frame.UnwindError.TheVariants as TheUnwindError;
+ghost use Rattle.dw_unwind.specs.declared.frame.Frame.{Frame as TheCallerFrame};
 ghost use Rattle.dw_library.specs.{Answers.target_of, CallerFrame.{IsFrame, IsUnwound, Told, column_of, fault_of_kind, held_in, policy_of, status_of}};
 ghost use Rattle.dw_library.specs.{CallerFrame.{told_fault, told_frame}, FrameAt.{IsAnyUnwound, IsFrameAt, IsOwnUnwound}, Registers.{told_register, AreTold}};
-ghost use Rattle.dw_library.specs.{Windows.byte_among, Inner.FrameAt.{IsOwn, Why, WhyOwn}};
+ghost use Rattle.dw_library.specs.Inner.FrameAt.{Why, WhyOwn};
 
 use crate::answer::{Refused, Section, refuse, target_of};
 use crate::held::{Held, Register, give_all};
@@ -173,43 +171,7 @@ fn put_registers(entries: &[(u16, Option<u64>)], out: &mut [Register]) -> u32
     Status::Ok as u32
 }
 
-// Writes a frame.
-fn put_frame(found: &CallerFrame<'_>, out: &mut [Register], frame: &mut Frame) -> u32
-    ensures frame { frame.new ≡ told_frame found.now }
-    ensures registers { AreTold (map told_register found.now.registers) out.old result out.new }
-{
-    *frame = Frame {
-        cfa: found.cfa,
-        count: found.registers.values().len(),
-        return_register: found.return_register,
-        reserved: [0; 3],
-    };
-    put_registers(found.registers.values(), out)
-}
-
-// The frame over registers and memory, or why there is none. The room is made first, in a function of its own: it is moved else.
-fn frame_in<'r>(
-    alloc: Global,
-    bytes: &[u8],
-    target: Target,
-    index: &[Ranged],
-    stop: &Stop,
-    default: Policy,
-    registers: &Registers,
-    memory: &mut Held<'_>,
-    frame_room: &'r mut FrameRoom,
-) -> Result<CallerFrame<'r>, UnwindAtError>
-    ensures any { (result ≡ Err (TheUnwindAtError.Unwind TheUnwindError.OutOfMemory)) ⊎ UnwoundAt target bytes.now index.now stop.now.pc (stopped target registers.now (byte_among memory.old.memory.now memory.old.windows.now)) default stop.now.steps result }
-    ensures own { IsTable target bytes.now index.now → IsOwn (Unwound target bytes.now stop.now.pc (stopped target registers.now (byte_among memory.old.memory.now memory.old.windows.now)) default stop.now.steps) result }
-{
-    let mut room = RowRoom::new(alloc);
-    let (pc, steps) = (stop.pc, stop.steps);
-    unwind_at(
-        alloc, bytes, target, index, pc, &mut room, frame_room, registers, memory, default, steps,
-    )
-}
-
-// The frame of what a machine held, or why there is none.
+// The frame of what a machine held, or why there is none. The room for the row is made first: it is moved else.
 fn frame_at<'r>(
     alloc: Global,
     bytes: &[u8],
@@ -218,18 +180,19 @@ fn frame_at<'r>(
     stop: &Stop,
     default: Policy,
     held: &Held<'_>,
-    room: &'r mut FrameRoom,
+    frame_room: &'r mut FrameRoom,
 ) -> Result<CallerFrame<'r>, UnwindAtError>
     ensures any { MatchResult result (λ f. IsFrameAt target default bytes.now index.now stop.now (held_in held.now) (Ok f)) (Why target default bytes.now index.now stop.now (held_in held.now)) }
     ensures own { IsTable target bytes.now index.now → MatchResult result (λ f. IsFrame target default bytes.now stop.now (held_in held.now) (Ok f)) (WhyOwn target default bytes.now stop.now (held_in held.now)) }
 {
-    let mut registers = Registers::new(alloc);
-    let Ok(()) = give_all(&mut registers, held.registers) else {
+    let mut room = RowRoom::new(alloc);
+    let mut given = Registers::new(alloc);
+    let Ok(()) = give_all(&mut given, held.registers) else {
         return Err(UnwindAtError::Unwind(UnwindError::OutOfMemory));
     };
-    let mut lent = *held;
-    frame_in(
-        alloc, bytes, target, index, stop, default, &registers, &mut lent, room,
+    let (pc, steps, mut lent) = (stop.pc, stop.steps, *held);
+    unwind_at(
+        alloc, bytes, target, index, pc, &mut room, frame_room, &given, &mut lent, default, steps,
     )
 }
 
@@ -250,10 +213,15 @@ fn unwound_at(
     ensures kept { OnErr result ((frame.new ≡ frame.old) × (out.new ≡ out.old)) }
 {
     let mut room = FrameRoom::new(alloc);
-    match frame_at(alloc, bytes, target, index, stop, default, held, &mut room) {
-        Ok(found) => Ok(put_frame(&found, out, frame)),
-        Err(error) => Err(error),
-    }
+    let found = frame_at(alloc, bytes, target, index, stop, default, held, &mut room)?;
+    let registers = found.registers.values();
+    *frame = Frame {
+        cfa: found.cfa,
+        count: registers.len(),
+        return_register: found.return_register,
+        reserved: [0; 3],
+    };
+    Ok(put_registers(registers, out))
 }
 
 /// The caller's frame as `dwframe_unwind` tells it, by an index of the section, which is not judged again: the FDE that stands

@@ -4,8 +4,8 @@ ghost use Rattle.std.specs.Prelude.{◌≡◌, ◌+◌, ◌^◌, ◌<◌, ℕ, I
 ghost use Rattle.dw_op.specs.Faults.{IsWithin};
 ghost use Rattle.dw_section.specs.{Ranges.IsTable, StandingFde.{LookUpFault, Misleads, RefusesAs}};
 ghost use Rattle.dw_section.specs.declared.standing_fde.LookUpError.TheVariants as TheLookUpError;
-ghost use Rattle.dw_library.specs.{Answers.target_of, Index.{HasSize, IsAnyRow, IsIndexed, IsRow, IsTold, TellsFde, TellsRow}};
-ghost use Rattle.dw_library.specs.Index.{TellsRules, Told, cfa_kind_of, cfa_offset_of, cfa_register_of, no_row, over, row_of, rule_of};
+ghost use Rattle.dw_library.specs.{Answers.target_of, Index.{HasSize, IsAnyRow, IsIndexed, IsRow, IsTold, TellsFde}};
+ghost use Rattle.dw_library.specs.Index.{TellsRules, Told, no_row, over, row_of, rule_of};
 
 use crate::answer::{Refused, Section, put_at, put_front, refuse, target_of};
 use crate::names::Status;
@@ -152,19 +152,6 @@ fn put_rules(row: &CfaRow<'_>, out: &mut [Rule]) -> usize
     }
 }
 
-// The kind of a rule of the CFA, and the register and the offset that it names.
-fn told_cfa(rule: &CfaRule<'_>) -> (u32, u16, i64)
-    ensures kind { result.0 ≡ cfa_kind_of rule.now }
-    ensures register { result.1 ≡ cfa_register_of rule.now }
-    ensures offset { result.2 ≡ cfa_offset_of rule.now }
-{
-    match rule {
-        CfaRule::Unset => (0, 0, 0),
-        CfaRule::Register { register, offset } => (1, *register, *offset),
-        CfaRule::Expression(_) => (2, 0, 0),
-    }
-}
-
 /// What is told of an FDE and of a row of it, whose rules are written to the front of a buffer, as many as fit.
 #[inline(always)]
 pub(crate) fn told_row(fde: Fde, row: &CfaRow<'_>, out: &mut [Rule]) -> Row
@@ -174,7 +161,11 @@ pub(crate) fn told_row(fde: Fde, row: &CfaRow<'_>, out: &mut [Rule]) -> Row
     ensures rules { out.new ≡ over (map rule_of row.now.registers) out.old }
 {
     let count = put_rules(row, out);
-    let (cfa_kind, cfa_register, cfa_offset) = told_cfa(row.cfa_rule());
+    let (cfa_kind, cfa_register, cfa_offset) = match row.cfa_rule() {
+        CfaRule::Unset => (0, 0, 0),
+        CfaRule::Register { register, offset } => (1, *register, *offset),
+        CfaRule::Expression(_) => (2, 0, 0),
+    };
     Row {
         begin: fde.begin,
         range: (fde.end - u128::from(fde.begin)) as u64,
@@ -183,19 +174,6 @@ pub(crate) fn told_row(fde: Fde, row: &CfaRow<'_>, out: &mut [Rule]) -> Row
         cfa_kind,
         cfa_register,
         return_register: fde.return_register,
-    }
-}
-
-// Writes an FDE and a row of it.
-fn tell(found: Fde, rules: &CfaRow<'_>, out: &mut [Rule], row: &mut Row) -> u32
-    requires { (range : ℕ) × (range < 2 ^ 64) × (found.end ≡ found.begin + range) }
-    ensures { TellsRow (record { fde = found; row = rules.now }) out.old (record { status = result; row = row.new; rules = out.new }) }
-{
-    *row = told_row(found, rules, out);
-    if row.count <= out.len() {
-        Status::Ok as u32
-    } else {
-        Status::TooShort as u32
     }
 }
 
@@ -220,7 +198,11 @@ fn put_row(
     let Some(found) = look_up(bytes, target, index, address, &mut room)? else {
         return Ok(Status::NoFde as u32);
     };
-    Ok(tell(found, room.row(), out, row))
+    *row = told_row(found, room.row(), out);
+    if row.count <= out.len() {
+        return Ok(Status::Ok as u32);
+    }
+    Ok(Status::TooShort as u32)
 }
 
 /// The rules at an address, by an index: those of the FDE that stands at the place of the entry that covers the address. It is

@@ -1,11 +1,11 @@
 //! Many rows by one call: those of many addresses, and those of an FDE, one after another.
 
-ghost use Rattle.std.specs.{Prelude.{◌≡◌, ◌+◌, ◌^◌, ◌<◌, ◌≤◌, ◌++◌, ℕ, List, [], ◌∷◌, length, slice_index_or, IfOk, OnErr}, List.AllByRecursion};
+ghost use Rattle.std.specs.{Prelude.{◌≡◌, ◌≤◌, ◌++◌, ℕ, List, [], ◌∷◌, length, IfOk, OnErr}, List.AllByRecursion};
 ghost use Rattle.dw_row.specs.Rows.{Rules};
-ghost use Rattle.dw_section.specs.{Meaning.AreFdes, Ranges.fde_in, declared.lookup.Fde.{Fde as TheFde}};
-ghost use Rattle.dw_library.specs.{Answers.target_of, Changes.{AreAllChanges, AreWritten, Fits, TellsChanges, TellsCovering, Told, no_totals}};
+ghost use Rattle.dw_section.specs.Ranges.{fde_in};
+ghost use Rattle.dw_library.specs.{Answers.target_of, Changes.{AreAllChanges, AreWritten, Fits, TellsCovering, Told, no_totals}};
 ghost use Rattle.dw_library.specs.{Index.over, Looks.{AreLooks, IsLook, Look, TellsLooks, ToldRows}, declared.index.Rule.{Rule as TheRule}};
-ghost use Rattle.dw_library.specs.{declared.rows.Change.{Change as TheChange}, Inner.{Changes.IsLow, Looks.IsLeft}};
+ghost use Rattle.dw_library.specs.{declared.rows.Change.{Change as TheChange}, Inner.Changes.IsLow};
 
 use crate::answer::{Refused, Section, put_at, refuse, target_of};
 use crate::index::{Row, Rule, told_row};
@@ -13,27 +13,8 @@ use crate::names::Status;
 use dw_cfa::RowRoom;
 use dw_num::ReadError;
 use dw_row::Row as CfaRow;
-use dw_section::{Changes, Fde, FdeRef, Ranged, Table, check};
+use dw_section::{Changes, Fde, Ranged, Table, check};
 use std::alloc::{AllocError, Global};
-
-// Where the next rules go in a buffer, and whether those before did not all fit.
-#[derive(Clone, Copy)]
-struct Room {
-    place: usize,
-    short: bool,
-}
-
-// What is left of a room of so many rules behind so many more of them.
-fn behind(room: Room, count: usize, size: usize) -> Room
-    requires { room.place ≤ size }
-    ensures { (before own : List TheRule) → IsLeft size before room → count ≡ length own → IsLeft size (before ++ own) result }
-{
-    let left = size - room.place;
-    Room {
-        place: room.place + count.min(left),
-        short: room.short || left < count,
-    }
-}
 
 // Writes the row of an address, and its rules to the front of a buffer, and tells how many rules there are.
 fn put_look<'a>(
@@ -58,7 +39,7 @@ fn put_look<'a>(
 // Writes a row for each address, and their rules one after another.
 fn put_looks<'a>(
     table: &Table<'a>,
-    row_room: &mut RowRoom<'a>,
+    room: &mut RowRoom<'a>,
     addresses: &[u64],
     rows: &mut [Row],
     rules: &mut [Rule],
@@ -68,20 +49,18 @@ fn put_looks<'a>(
     requires done { done.old ≡ 0 }
     ensures { TellsLooks table.now.target table.now.bytes addresses.now rows.old rules.old (record { status = result; done = done.new; rows = rows.new; rules = rules.new }) }
 {
-    let mut room = Room {
-        place: 0,
-        short: false,
-    };
-    let size = rules.len();
+    let mut total: u128 = 0;
+    let size = rules.len() as u128;
     'addresses: for place in 0..addresses.len() {
         let (address, row) = (addresses[place], &mut rows[place]);
-        let Ok(count) = put_look(table, row_room, address, row, &mut rules[room.place..]) else {
+        let behind = &mut rules[total.min(size) as usize..];
+        let Ok(count) = put_look(table, room, address, row, behind) else {
             return Status::OutOfMemory as u32;
         };
-        room = behind(room, count, size);
+        total = total.saturating_add(count as u128);
         *done = place + 1;
     }
-    if room.short {
+    if total > size {
         return Status::TooShort as u32;
     }
     Status::Ok as u32
@@ -140,17 +119,6 @@ pub struct Totals {
     pub rules: usize,
 }
 
-fn fde_in(entry: &Ranged) -> Fde
-    ensures is { result ≡ fde_in entry.now }
-    ensures range { (range : ℕ) × (range < 2 ^ 64) × (result.end ≡ result.begin + range) }
-{
-    Fde {
-        begin: entry.begin,
-        end: u128::from(entry.begin) + u128::from(entry.range),
-        return_register: entry.return_register,
-    }
-}
-
 // Writes a change and its rules behind those before, as far as they fit, and says how many there are then.
 fn put_change(
     row: &CfaRow<'_>,
@@ -162,8 +130,13 @@ fn put_change(
 ) -> Totals
     ensures { (done : List (ℕ × Rules)) (changes : List TheChange) (buffer : List TheRule) → AreWritten (fde_in entry.now) done changes buffer out.old rules.old before → AreWritten (fde_in entry.now) (done ++ (address, row.now) ∷ []) changes buffer out.new rules.new result }
 {
+    let fde = Fde {
+        begin: entry.begin,
+        end: u128::from(entry.begin) + u128::from(entry.range),
+        return_register: entry.return_register,
+    };
     let place = before.rules.min(rules.len());
-    let row = told_row(fde_in(entry), row, &mut rules[place..]);
+    let row = told_row(fde, row, &mut rules[place..]);
     put_at(Change { address, row }, out, before.changes);
     Totals {
         changes: before.changes.saturating_add(1),
@@ -201,26 +174,6 @@ fn fitting(totals: Totals, out: usize, rules: usize) -> u32
     Status::TooShort as u32
 }
 
-// Writes the changes of an FDE.
-fn put_fde(
-    table: &Table<'_>,
-    fde: FdeRef,
-    out: &mut [Change],
-    rules: &mut [Rule],
-    needed: &mut Totals,
-) -> Result<u32, AllocError>
-    requires place { (fs : List TheFde) → AreFdes table.now.target table.now.bytes fs → fde.place < length fs }
-    ensures told { IfOk result (λ status. (f : TheFde) × ((fs : List TheFde) → AreFdes table.now.target table.now.bytes fs → (d : TheFde) → f ≡ slice_index_or fs fde.place d) × TellsChanges table.now.target table.now.bytes f out.old rules.old (record { status = status; changes = out.new; rules = rules.new; needed = needed.new })) }
-    ensures kept { OnErr result (needed.new ≡ needed.old) }
-{
-    table.accepted();
-    let entry = table.index()[fde.place];
-    let mut changes = table.changes(fde);
-    let totals = put_changes(&mut changes, &entry, out, rules)?;
-    *needed = totals;
-    Ok(fitting(totals, out.len(), rules.len()))
-}
-
 // Writes the changes of the FDE that covers an address.
 fn put_covering(
     table: &Table<'_>,
@@ -236,10 +189,12 @@ fn put_covering(
     let Some(fde) = table.fde_at(address) else {
         return Status::NoFde as u32;
     };
-    match put_fde(table, fde, out, rules, needed) {
-        Ok(status) => status,
-        Err(_) => Status::OutOfMemory as u32,
-    }
+    let entry = table.index()[fde.place];
+    let Ok(totals) = put_changes(&mut table.changes(fde), &entry, out, rules) else {
+        return Status::OutOfMemory as u32;
+    };
+    *needed = totals;
+    fitting(totals, out.len(), rules.len())
 }
 
 /// The rows of the FDE that covers an address, one after another. The section is judged, and the FDE's program is run once. The rows

@@ -1,7 +1,8 @@
 -- The normal form is the CIEs with the initial rows, and then the FDEs; and the room that they leave.
 use Rattle.dw_normal.proofs.Words.{◌≡◌, ℕ, zero, suc, ◌+◌, ◌-◌, ◌<◌, ◌≤◌, List, [], ◌∷◌, ◌++◌, length, take, get_or, map, Some, None, refl, sym, ap, ◌∙◌, append_assoc, arith, length-append, nil_from_length, take_more, Target, Rules}
 use Rattle.dw_normal.proofs.Words.{group_of, groups_of, part_of, parts_of, canon, initial_of, return_registers, cie_of, place_of, Member, Written, entry_bytes, section_bytes, section_append, laid_is, initial_rows, MemberLeaves, Measures}
-use Rattle.dw_normal.proofs.Words.{cie_with, cies_bytes, fdes_bytes}
+use Rattle.dw_normal.proofs.Words.{rules, subst, Option, cie_with, cies_bytes, fdes_bytes, difference, later_changes, shown_row, Fde, FdeLeaves, Begun, IsBegun, Walks}
+use Rattle.dw_normal.specs.Inner.{Begun.KeepsFde, Lengths.EntryLeaves}
 use Rattle.dw_canon.specs.Inner.Laid.{fde_of}
 
 cies_same : (t : Target) (ms : List Member) (rs : List ℕ) → map cie_of (map (group_of t ms) rs) ≡ map (cie_with t) (map {B = ℕ × Rules} (λ (r : ℕ). (r, initial_of ms r)) rs)
@@ -53,6 +54,22 @@ module _ (t : Target) (all : List Member) where
         let one = one_more k ms d lt in
         let over : left < length (bytes_of m) = h (place_of t 0 (groups_of t all) m.register) (m.end - m.begin) in
         omega (arith, one, over, is, front (k + 1) ms)
+
+-- ---- an FDE that was begun
+
+abbrev LeftBy : Target → ℕ → Option ℕ → Rules → Rules → ℕ → List (ℕ × Rules) → Type 0
+LeftBy t room r shared first at later = EntryLeaves t at (difference shared shared first ++ later_changes shared at first later) room r
+
+pub member_left : (t : Target) (ms : List Member) (m : Member) (b : Begun) (room : ℕ) (r : Option ℕ) → IsBegun ms m b → FdeLeaves t b.shared.now b.fde.begin b.changes room r → MemberLeaves t ms m room r
+member_left t ms m b room r is h =
+    let own = initial_of ms m.register in
+    let shared = subst (λ (x : Rules). LeftBy t room r x (shown_row b.changes) b.fde.begin b.changes.to_come) is.shared h in
+    let first = subst (λ (x : Rules). LeftBy t room r own x b.fde.begin b.changes.to_come) is.first shared in
+    let begin = subst (λ (n : ℕ). LeftBy t room r own m.first n b.changes.to_come) (ap (λ (f : Fde). f.begin) is.fde) first in
+    subst (λ (l : List (ℕ × Rules)). LeftBy t room r own m.first m.begin l) is.later begin
+
+pub still_walks : (b c : Begun) → Walks b → c.changes.section ≡ b.changes.section → KeepsFde b c → Walks c
+still_walks b c h section kept = search rules
 
 -- ---- the whole
 

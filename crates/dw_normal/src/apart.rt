@@ -1,17 +1,45 @@
-//! The registers to which the row at an FDE's begin and the initial row of its group give different rules.
+//! The registers to which two rows give different rules.
 
 ghost use Rattle.std.specs.{Prelude.{◌≡◌, ℕ, false, None, IfSome, OnOk}, BTreeMap.get, Ordering.nat_cmp};
-ghost use Rattle.dw_row.specs.{RegisterSets.SameBeside, Rows.Rules};
+ghost use Rattle.dw_row.specs.{Difference.{FirstDifference, place_behind}, RegisterSets.SameBeside, Rows.{AreSpecified, Rules}};
 ghost use Rattle.dw_normal.specs.Inner.{Apart.{NotesSame, StandsApart}, Differences.Tells, Known.{HoldsAt, Notes}};
 
-use crate::differences::Differences;
 use crate::known::Known;
 use dw_row::{RegisterSet, Row};
-use dw_section::Behind;
+use dw_section::{Behind, Changes};
 use std::alloc::{AllocError, Global};
 use std::mem;
 
-/// Those registers, where they are listed, and what is known of CIEs with long programs, by which they are found.
+/// How the registers are found to which two rows give different rules: by what costs least.
+#[derive(Drop)]
+pub(crate) enum Differences<'d, 'a> {
+    /// By both rows.
+    Rows,
+    /// By both rows, among the registers of a set, outside which they give the same rules.
+    Among(&'d RegisterSet<'a>),
+    /// By what the change that is shown altered.
+    Altered(&'d Changes<'a>),
+}
+
+impl<'d, 'a> Differences<'d, 'a> {
+    /// The least register to which both rows give different rules, of those behind a given one where there is such; or none.
+    #[inline(always)]
+    pub(crate) fn next(&self, before: &Row<'a>, after: &Row<'a>, behind: Option<u16>) -> Option<u16>
+        requires { Tells self.now before.now after.now }
+        ensures first { FirstDifference (place_behind behind) before.now.registers after.now.registers result }
+        ensures ascending { AreSpecified 0 before.now.registers }
+        ensures other_ascending { AreSpecified 0 after.now.registers }
+    {
+        match self {
+            Differences::Rows => before.next_difference(after, behind),
+            Differences::Among(set) => before.next_difference_among(after, set, behind),
+            Differences::Altered(changes) => changes.next_difference(behind),
+        }
+    }
+}
+
+/// The registers to which the row at an FDE's begin and the initial row of its group give different rules, where they are listed, and what
+/// is known of CIEs with long programs, by which they are found.
 #[derive(Drop)]
 pub(crate) struct Apart<'a> {
     pub(crate) listed: bool,

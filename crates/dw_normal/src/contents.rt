@@ -6,8 +6,8 @@ ghost use Rattle.dw_canon.specs.{Members.Member, Written.{missing, cie_field_byt
 ghost use Rattle.dw_canon.specs.Inner.{Canon.cie_instrs, Fits.InstrFits};
 ghost use Rattle.dw_normal.specs.Inner.{Begun.{IsBegun, IsReady, KeepsFde}, Lengths.cie_with, Places.fde_at, Writing.HoldsEntry};
 
+use crate::apart::Differences;
 use crate::begun::Begun;
-use crate::differences::Differences;
 use crate::instruction::push_uleb;
 use crate::program::{push_difference, push_first, push_later};
 use byteorder::{BigEndian, ByteOrder, LittleEndian};
@@ -40,15 +40,6 @@ fn push_nops(out: &mut Vec<u8>, size: Size) -> Result<(), AllocError>
     Ok(())
 }
 
-// Appends what stands before a CIE's program: version 4, no augmentation, the factors 1 and -1.
-fn push_cie_fields(out: &mut Vec<u8>, register: u16, target: Target) -> Result<(), AllocError>
-    ensures { OnOk result (out.new.items ≡ out.old.items ++ cie_field_bytes target register) }
-{
-    put_fixed(out, target.order, 4, 0xffffffff)?;
-    out.extend_from_slice(&[4, 0, target.size.byte_count(), 0, 1, 127])?;
-    push_uleb(out, u64::from(register))
-}
-
 /// Makes a buffer a CIE with an initial row, with room for its length.
 pub(crate) fn fill_cie<'a>(
     out: &mut Vec<u8>,
@@ -62,7 +53,10 @@ pub(crate) fn fill_cie<'a>(
     let blank = Row::blank(*out.allocator());
     out.clear();
     put_fixed(out, target.order, 4, 0)?;
-    push_cie_fields(out, register, target)?;
+    put_fixed(out, target.order, 4, 0xffffffff)?;
+    // Version 4, no augmentation, the factors 1 and -1.
+    out.extend_from_slice(&[4, 0, target.size.byte_count(), 0, 1, 127])?;
+    push_uleb(out, u64::from(register))?;
     push_difference(out, &blank, &blank, initial, &Differences::Rows, target)?;
     push_nops(out, target.size)
 }

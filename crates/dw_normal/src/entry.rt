@@ -200,27 +200,6 @@ fn write_all<'r, 'a, S: Sink>(
     Ok(written)
 }
 
-// Puts the FDEs of a table, which may have none.
-fn write_fdes<'a, S: Sink>(
-    alloc: Global,
-    sink: &mut S,
-    ready: &Ready<'a>,
-    places: &BTreeMap<u16, u64>,
-) -> Result<u64, PutError>
-    requires room { S.failures sink.old < 2 ^ 64 - 1 }
-    requires rows { AreInitial ready.now.table ready.now.rows.entries }
-    requires places { ArePlaces ready.now.table.target ready.now.rows.entries places.now.entries }
-    requires small { IsSmall ready.now.table }
-    ensures { OfMembers ready.now.table (λ ms. Sinks S.failures S.taken (all_fdes ready.now.table ms) result sink.old sink.new) }
-{
-    let count = ready.table.fde_count();
-    if count == 0 {
-        return Ok(0);
-    }
-    let mut writing = room_to_write(alloc, ready, places);
-    write_all(sink, &mut writing, count)
-}
-
 /// Writes all entries of a table's normal form, and answers how many bytes that were.
 pub(crate) fn write_entries<'a, S: Sink>(
     alloc: Global,
@@ -235,5 +214,10 @@ pub(crate) fn write_entries<'a, S: Sink>(
     ready.table.accepted();
     let mut places = BTreeMap::new(alloc);
     let cies = write_cies(alloc, sink, &mut places, ready)?;
-    after(cies, write_fdes(alloc, sink, ready, &places))
+    let count = ready.table.fde_count();
+    if count == 0 {
+        return Ok(cies);
+    }
+    let mut writing = room_to_write(alloc, ready, &places);
+    after(cies, write_all(sink, &mut writing, count))
 }

@@ -1,18 +1,22 @@
-//! The initial row of each return address register, found in one pass over the FDEs.
+//! The initial row of each return address register, found in one pass over the FDEs; and a bound on the normal form's length, by the
+//! lengths of the section's programs: no program is run for it.
 
-ghost use Rattle.std.specs.{Prelude.{◌≡◌, ℕ, [], ◌≤◌, length, take, None, Some, IfOk, IfSome, IsTrue, OnOk}, BTreeMap.{get, insert_entry}, Ordering.nat_cmp};
+ghost use Rattle.std.specs.{Prelude.{◌≡◌, ℕ, ◌+◌, ◌*◌, [], ◌≤◌, ◌^◌, length, take, None, Some, is_some, IfOk, IfSome, IsTrue, OnOk}, BTreeMap.{get, insert_entry}};
+ghost use Rattle.std.specs.Ordering.{nat_cmp};
 ghost use Rattle.dw_row.specs.{RegisterSets.AgreesBeside, Rows.Rules, Inner.Agreement.agreed};
 ghost use Rattle.dw_section.specs.{Changes.kept_by, Opening.{CieLeaves, OpensBehind}, declared.opening.CieRow.{CieRow as TheRow}};
-ghost use Rattle.dw_canon.specs.Inner.Canon.{canon};
+ghost use Rattle.dw_canon.specs.{Bound.share, Inner.Canon.canon};
 ghost use Rattle.dw_normal.specs.Inner.{ChangeWalk.{BehindFirst, IsShown, ShownBehind, shown_row}, Groups.{HasJoined, joined_by, with_member, initial_rows}};
 ghost use Rattle.dw_normal.specs.Inner.{Known.{Agree, HoldsAt, NotesAgree}, Listed.{AreInitial, IsListed, OfFde, OfMember, OfMembers}};
 
-use crate::bound::add_share;
 use crate::known::Known;
 use dw_row::{RegisterSet, Row};
 use dw_section::{Behind, Changes, CieRow, FdeRef, Table, section_laws};
 use std::alloc::{AllocError, Global};
 use std::collections::BTreeMap;
+
+// Longer programs are not judged by their lengths.
+const LONG: usize = 1_000_000;
 
 /// Goes on to the changes of an FDE behind its begin, whose row is lent, and lists how that stands to the row of its CIE, where
 /// this is known.
@@ -176,6 +180,27 @@ fn join_fde<'a>(
     let behind = go_behind_first(changes, table, fde, &mut known.changed)?;
     add_fde(rows, changes, known, table, fde, behind)?;
     Ok(joined_by(row, register))
+}
+
+// The shares of FDEs and of one more, by the lengths of its programs, or none once they are more than a cap lets. A share is at most 24
+// times the bytes that an FDE and a CIE take.
+fn add_share(total: Option<u64>, own: usize, initial: usize, cap: u64) -> Option<u64>
+    requires cap { cap ≤ 2147483647 }
+    requires low { IfSome total (λ n. n ≤ 24 * cap) }
+    ensures low { IfSome result (λ n. n ≤ 24 * cap) }
+    ensures is { (before : ℕ) → total ≡ Some before → IfSome result (λ n. n ≡ before + share own initial) }
+    ensures some { IsTrue (is_some result) → IsTrue (is_some total) }
+{
+    let before = total?;
+    if own > LONG || initial > LONG {
+        return None;
+    }
+    let spread = 6 * (own as u64 + initial as u64) + 35;
+    let sum = before + (spread * spread + 1320);
+    if sum > 24 * cap {
+        return None;
+    }
+    Some(sum)
 }
 
 // The same over changes of the table, into rows that are lent.

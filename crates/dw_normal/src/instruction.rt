@@ -1,4 +1,4 @@
-//! Instructions as the normal form spells them.
+//! Instructions as the normal form spells them, with the opcodes of table 7.29 as numbers.
 
 ghost use Rattle.std.specs.{Prelude.{◌≡◌, ◌∷◌, ◌+◌, ◌++◌, ◌<◌, ◌≤◌, neg_ℤ, unsigned_abs, if◌then◌else◌, OnOk}, Int.is_positive, List.AllByRecursion};
 ghost use Rattle.dw_num.specs.{Shortest.{shortest_uleb, shortest_sleb}, Target.address_limit};
@@ -8,12 +8,6 @@ ghost use Rattle.dw_section.specs.Fits.{HasBlock, RuleFits};
 ghost use Rattle.dw_canon.specs.{Difference.move, Spelling.packed};
 ghost use Rattle.dw_canon.specs.Inner.{Difference.cfa_difference, Fits.InstrFits, Spelling.{expression_bytes, rule_bytes, instr_bytes, program_bytes}};
 
-use crate::opcode::{
-    ADVANCE_LOC, ADVANCE_LOC1, ADVANCE_LOC2, ADVANCE_LOC4, DEF_CFA, DEF_CFA_EXPRESSION,
-    DEF_CFA_OFFSET, DEF_CFA_OFFSET_SF, DEF_CFA_REGISTER, DEF_CFA_SF, EXPRESSION, OFFSET,
-    OFFSET_EXTENDED, OFFSET_EXTENDED_SF, REGISTER, SAME_VALUE, SET_LOC, UNDEFINED, VAL_EXPRESSION,
-    VAL_OFFSET, VAL_OFFSET_SF,
-};
 use dw_num::{Target, put_fixed, put_sleb, put_uleb};
 use dw_op::ExprRef;
 use dw_row::{CfaRule, RegRule, Row};
@@ -93,19 +87,19 @@ fn push_far_move(out: &mut Vec<u8>, from: u64, to: u64, target: Target) -> Resul
     let delta = to - from;
     if delta < 256 {
         out.reserve(2)?;
-        out.push_reserved(ADVANCE_LOC1);
+        out.push_reserved(0x02);
         out.push_reserved(delta as u8);
         return Ok(());
     }
     if delta < 65536 {
-        out.push(ADVANCE_LOC2)?;
+        out.push(0x03)?;
         return put_fixed(out, target.order, 2, delta);
     }
     if delta < 4294967296 {
-        out.push(ADVANCE_LOC4)?;
+        out.push(0x04)?;
         return put_fixed(out, target.order, 4, delta);
     }
-    out.push(SET_LOC)?;
+    out.push(0x01)?;
     let width = usize::from(target.size.byte_count());
     put_fixed(out, target.order, width, to)
 }
@@ -124,7 +118,7 @@ pub(crate) fn push_move(
     ensures { OnOk result (out.new.items ≡ out.old.items ++ instr_bytes target (move from to)) }
 {
     if to - from < 64 {
-        out.push(ADVANCE_LOC + (to - from) as u8)?;
+        out.push(0x40 + (to - from) as u8)?;
         return Ok(());
     }
     push_far_move(out, from, to, target)
@@ -150,13 +144,13 @@ pub(crate) fn push_offset(out: &mut Vec<u8>, register: u16, offset: i64) -> Resu
     ensures { OnOk result (out.new.items ≡ out.old.items ++ (if is_positive offset then 0x11 ∷ (shortest_uleb register ++ shortest_sleb (neg_ℤ offset)) else packed 0x80 0x05 register ++ shortest_uleb (unsigned_abs offset))) }
 {
     if offset > 0 {
-        push_with(out, OFFSET_EXTENDED_SF, u64::from(register))?;
+        push_with(out, 0x11, u64::from(register))?;
         return push_sleb(out, -offset);
     }
     if register < 64 {
-        return push_with(out, OFFSET + register as u8, offset.unsigned_abs());
+        return push_with(out, 0x80 + register as u8, offset.unsigned_abs());
     }
-    push_packed(out, OFFSET, OFFSET_EXTENDED, register)?;
+    push_packed(out, 0x80, 0x05, register)?;
     push_uleb(out, offset.unsigned_abs())
 }
 
@@ -174,27 +168,27 @@ pub(crate) fn push_rule(
     let number = u64::from(register);
     match &row.rule(register) {
         RegRule::Unspecified => Ok(()),
-        RegRule::Undefined => push_with(out, UNDEFINED, number),
-        RegRule::SameValue => push_with(out, SAME_VALUE, number),
+        RegRule::Undefined => push_with(out, 0x07, number),
+        RegRule::SameValue => push_with(out, 0x08, number),
         RegRule::Offset(offset) => push_offset(out, register, *offset),
         RegRule::ValOffset(offset) if *offset > 0 => {
-            push_with(out, VAL_OFFSET_SF, number)?;
+            push_with(out, 0x15, number)?;
             push_sleb(out, -*offset)
         }
         RegRule::ValOffset(offset) => {
-            push_with(out, VAL_OFFSET, number)?;
+            push_with(out, 0x14, number)?;
             push_uleb(out, offset.unsigned_abs())
         }
         RegRule::Register(other) => {
-            push_with(out, REGISTER, number)?;
+            push_with(out, 0x09, number)?;
             push_uleb(out, u64::from(*other))
         }
         RegRule::Expression(expression) => {
-            push_with(out, EXPRESSION, number)?;
+            push_with(out, 0x10, number)?;
             push_expression(out, expression, target)
         }
         RegRule::ValExpression(expression) => {
-            push_with(out, VAL_EXPRESSION, number)?;
+            push_with(out, 0x16, number)?;
             push_expression(out, expression, target)
         }
     }
@@ -212,10 +206,10 @@ pub(crate) fn push_cfa_offset(
     ensures { OnOk result (out.new.items ≡ out.old.items ++ instr_bytes target (DefCfaOffset offset)) }
 {
     if offset < 0 {
-        out.push(DEF_CFA_OFFSET_SF)?;
+        out.push(0x13)?;
         return push_sleb(out, -offset);
     }
-    push_with(out, DEF_CFA_OFFSET, offset.unsigned_abs())
+    push_with(out, 0x0e, offset.unsigned_abs())
 }
 
 // Whether nothing has to be changed.
@@ -244,7 +238,7 @@ pub(crate) fn push_other_cfa(
     match new {
         CfaRule::Unset => Ok(()),
         CfaRule::Expression(expression) => {
-            out.push(DEF_CFA_EXPRESSION)?;
+            out.push(0x0f)?;
             push_expression(out, expression, target)
         }
         CfaRule::Register { register, offset } => match old {
@@ -252,14 +246,14 @@ pub(crate) fn push_other_cfa(
                 push_cfa_offset(out, *offset, target)
             }
             CfaRule::Register { offset: n, .. } if *n == *offset => {
-                push_with(out, DEF_CFA_REGISTER, u64::from(*register))
+                push_with(out, 0x0d, u64::from(*register))
             }
             _ if *offset < 0 => {
-                push_with(out, DEF_CFA_SF, u64::from(*register))?;
+                push_with(out, 0x12, u64::from(*register))?;
                 push_sleb(out, -*offset)
             }
             _ => {
-                push_with(out, DEF_CFA, u64::from(*register))?;
+                push_with(out, 0x0c, u64::from(*register))?;
                 push_uleb(out, offset.unsigned_abs())
             }
         },

@@ -1,22 +1,81 @@
-//! How long a normal form is. Each entry takes its length from the room that is left, and the first that does not fit ends the
-//! walk: no sum can wrap, and no program behind it is run.
+//! How long a normal form is. Each entry is written, counted and forgotten, an FDE change by change. It takes its length from the
+//! room that is left, and the first that does not fit ends the walk: no sum can wrap, and no program behind it is run.
 
-ghost use Rattle.std.specs.{Prelude.{◌≡◌, ℕ, ◌<◌, ◌≤◌, ◌^◌, List, length, slice_index_or, IfOk, OnOk}, List.AllByRecursion};
+ghost use Rattle.std.specs.{Prelude.{◌≡◌, ℕ, ◌<◌, ◌≤◌, ◌^◌, length, IfOk}, List.AllByRecursion};
 ghost use Rattle.dw_row.specs.Rows.{Rules};
-ghost use Rattle.dw_canon.specs.Members.{Member, AreMembers};
 ghost use Rattle.dw_canon.specs.Inner.{Canon.{canon, cie_instrs}, Fits.InstrFits};
-ghost use Rattle.dw_normal.specs.Inner.{Begun.Walks, Lengths.{Leaves, MemberLeaves, Measures, cies_bytes, fdes_bytes}};
-ghost use Rattle.dw_normal.specs.Inner.Listed.{AreInitial, AreListed, IsListed, OfMembers};
+ghost use Rattle.dw_normal.specs.Inner.{Begun.{IsReady, KeepsFde, Walks}, ChangeWalk.{Stand, later_bytes}};
+ghost use Rattle.dw_normal.specs.Inner.Lengths.{FdeLeaves, Leaves, Measures, cies_bytes, fdes_bytes};
+ghost use Rattle.dw_normal.specs.Inner.Listed.{AreInitial, AreListed, OfMembers};
 
 use crate::begun::{Begun, begin_fde, room_for};
-use crate::contents::fill_cie;
+use crate::contents::{fill_cie, filled_len};
 use crate::groups::Ready;
-use crate::room::{behind, behind_fde};
+use crate::program::{push_first, push_later};
 use dw_num::Target;
 use dw_row::Row;
-use dw_section::FdeRef;
+use dw_section::{Changes, FdeRef};
 use std::alloc::{AllocError, Global};
 use std::collections::BTreeMap;
+
+// The changes of an FDE are written up to so many bytes at a time.
+const CHUNK: usize = 65_536;
+
+// What is left of room behind the changes that are still to come behind an address, whose row is shown. A buffer holds few of
+// them at a time.
+fn behind_later<'a>(
+    room: u128,
+    out: &mut Vec<u8>,
+    changes: &mut Changes<'a>,
+    shared: &Row<'a>,
+    begin: u64,
+    target: Target,
+) -> Result<Option<u128>, AllocError>
+    requires { Stand target shared.now begin changes.old }
+    ensures leaves { IfOk result (Leaves room (length (later_bytes target shared.now begin changes.old))) }
+    ensures section { changes.new.section ≡ changes.old.section }
+{
+    let mut left = room;
+    let mut at = begin;
+    'changes: loop {
+        out.clear();
+        let next = push_later(out, changes, shared, at, target, CHUNK)?;
+        let Some(rest) = left.checked_sub(out.len() as u128) else {
+            return Ok(None);
+        };
+        left = rest;
+        let Some(address) = next else {
+            return Ok(Some(left));
+        };
+        at = address;
+    }
+}
+
+// What is left of room behind an FDE that was begun.
+fn behind_fde<'a>(
+    room: u128,
+    out: &mut Vec<u8>,
+    begun: &mut Begun<'_, 'a>,
+    target: Target,
+) -> Result<Option<u128>, AllocError>
+    requires room { room < 2 ^ 32 }
+    requires ready { IsReady target begun.old }
+    ensures leaves { IfOk result (FdeLeaves target begun.old.shared.now begun.old.fde.begin begun.old.changes room) }
+    ensures section { begun.new.changes.section ≡ begun.old.changes.section }
+    ensures kept { KeepsFde begun.old begun.new }
+{
+    let (begin, shared) = (begun.fde.begin, begun.shared);
+    out.clear();
+    push_first(out, shared, &begun.changes, &begun.apart, target)?;
+    let Some(left) = room.checked_sub(out.len() as u128) else {
+        return Ok(None);
+    };
+    let Some(rest) = behind_later(left, out, &mut begun.changes, shared, begin, target)? else {
+        return Ok(None);
+    };
+    let len = 8 + 2 * usize::from(target.size.byte_count()) + (room - rest) as usize;
+    Ok(room.checked_sub(filled_len(len, target.size) as u128))
+}
 
 // What is left of room behind the CIEs with these initial rows.
 fn behind_cies<'a>(
@@ -31,31 +90,12 @@ fn behind_cies<'a>(
     let mut left = room;
     'rows: for (register, initial) in rows.iter() {
         fill_cie(out, *register, initial, target)?;
-        let Some(rest) = behind(left, out.len() as u128) else {
+        let Some(rest) = left.checked_sub(out.len() as u128) else {
             return Ok(None);
         };
         left = rest;
     }
     Ok(Some(left))
-}
-
-// What is left of room behind an FDE.
-fn behind_member<'r, 'a>(
-    room: u128,
-    out: &mut Vec<u8>,
-    begun: &mut Begun<'r, 'a>,
-    fde: FdeRef,
-) -> Result<Option<u128>, AllocError>
-    requires room { room < 2 ^ 32 }
-    requires place { IsListed begun.old.ready.now.table fde.place }
-    requires walks { Walks begun.old }
-    ensures leaves { (ms : List Member) → AreMembers begun.old.ready.now.table.target begun.old.ready.now.table.bytes ms → (d : Member) → IfOk result (MemberLeaves begun.old.ready.now.table.target ms (slice_index_or ms fde.place d) room) }
-    ensures walks { OnOk result (Walks begun.new) }
-    ensures same { begun.new.ready ≡ begun.old.ready }
-{
-    begin_fde(begun, fde)?;
-    let target = begun.ready.table.target();
-    behind_fde(room, out, begun, target)
 }
 
 // What is left of room behind all FDEs, one after another in the room that is lent.
@@ -70,33 +110,17 @@ fn behind_all<'r, 'a>(
     requires walks { Walks begun.old }
     ensures { OfMembers begun.old.ready.now.table (λ ms. IfOk result (Leaves room (length (fdes_bytes begun.old.ready.now.table.target ms ms)))) }
 {
+    let target = begun.ready.table.target();
     begun.ready.table.accepted();
     let mut left = room;
     'fdes: for place in 0..count {
-        let Some(rest) = behind_member(left, out, begun, FdeRef { place })? else {
+        begin_fde(begun, FdeRef { place })?;
+        let Some(rest) = behind_fde(left, out, begun, target)? else {
             return Ok(None);
         };
         left = rest;
     }
     Ok(Some(left))
-}
-
-// What is left of room behind all FDEs, of which there may be none.
-fn behind_fdes<'a>(
-    room: u128,
-    out: &mut Vec<u8>,
-    ready: &Ready<'a>,
-) -> Result<Option<u128>, AllocError>
-    requires room { room < 2 ^ 32 }
-    requires rows { AreInitial ready.now.table ready.now.rows.entries }
-    ensures { OfMembers ready.now.table (λ ms. IfOk result (Leaves room (length (fdes_bytes ready.now.table.target ms ms)))) }
-{
-    let count = ready.table.fde_count();
-    if count == 0 {
-        return Ok(Some(room));
-    }
-    let mut begun = room_for(*out.allocator(), ready);
-    behind_all(room, out, &mut begun, count)
 }
 
 /// How many bytes the normal form of a table has, or none where that is more than `cap`.
@@ -116,7 +140,12 @@ pub(crate) fn measured<'a>(
     let Some(left) = behind_cies(room, &mut out, &ready.rows, target)? else {
         return Ok(None);
     };
-    let Some(rest) = behind_fdes(left, &mut out, ready)? else {
+    let count = ready.table.fde_count();
+    if count == 0 {
+        return Ok(Some((room - left) as u64));
+    }
+    let mut begun = room_for(alloc, ready);
+    let Some(rest) = behind_all(left, &mut out, &mut begun, count)? else {
         return Ok(None);
     };
     Ok(Some((room - rest) as u64))

@@ -3,9 +3,7 @@
 
 mod apart;
 mod begun;
-mod bound;
 mod contents;
-mod differences;
 mod entry;
 mod error;
 mod groups;
@@ -14,14 +12,10 @@ mod known;
 mod length;
 mod likeness;
 mod normal;
-mod opcode;
 mod preparation;
 mod program;
-mod room;
 mod sink;
-mod tape;
 
 pub use error::{SameError, Which, WriteError};
 pub use normal::{normal_length, normalise, normalise_to, same};
-pub use sink::{Sink, SinkFault};
-pub use tape::{Tape, Through};
+pub use sink::{Sink, SinkFault, Tape, Through};

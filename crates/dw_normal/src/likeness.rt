@@ -7,7 +7,7 @@ ghost use Rattle.dw_normal.specs.Inner.{Writing.{IsWriting, Likens, all_fdes, fd
 
 use crate::entry::{Writing, fill_next, room_to_write, write_cies};
 use crate::groups::Ready;
-use crate::tape::Tape;
+use crate::sink::Tape;
 use dw_section::FdeRef;
 use std::alloc::{AllocError, Global};
 use std::collections::BTreeMap;

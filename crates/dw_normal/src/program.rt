@@ -6,12 +6,10 @@ ghost use Rattle.dw_canon.specs.Inner.{Difference.{difference, cfa_difference, r
 ghost use Rattle.dw_normal.specs.Inner.{Apart.StandsApart, ChangeWalk.{GoesOn, IsShown, Stand, shown_row}};
 ghost use Rattle.dw_normal.specs.Inner.{Differences.Tells};
 
-use crate::apart::Apart;
-use crate::differences::Differences;
+use crate::apart::{Apart, Differences};
 use crate::instruction::{
     push_cfa_offset, push_move, push_offset, push_other_cfa, push_packed, push_rule,
 };
-use crate::opcode::{RESTORE, RESTORE_EXTENDED};
 use dw_num::Target;
 use dw_row::{CfaRule, Row};
 use dw_section::Changes;
@@ -69,7 +67,7 @@ fn push_register<'a>(
     ensures { OnOk result (out.new.items ≡ out.old.items ++ instr_bytes target (rule_to shared.now register (rule row.now register))) }
 {
     if is_restored(row, shared, register) {
-        return push_packed(out, RESTORE, RESTORE_EXTENDED, register);
+        return push_packed(out, 0xc0, 0x06, register);
     }
     match row.offset_of(register) {
         Some(offset) => push_offset(out, register, offset),

@@ -30,10 +30,7 @@ fn add_to(total: Option<u64>, place: usize, group: u8) -> Option<u64>
     requires { group < 128 }
     ensures { (sum : ℕ) → IsTotal sum total → IsTotal (sum + group * 128 ^ place) result }
 {
-    match total {
-        Some(total) => add_group(total, place, group),
-        None => None,
-    }
+    add_group(total?, place, group)
 }
 
 // How many bytes the number at the front has.

@@ -76,35 +76,7 @@ impl Code {
     pub fn number(self) -> u8
         ensures { result ≡ (code_entry self).0 }
     {
-        match self {
-            Code::Truncated => 1,
-            Code::ReservedLength => 2,
-            Code::EntryPastEnd => 3,
-            Code::BadVersion => 4,
-            Code::Augmentation => 5,
-            Code::AddressSize => 6,
-            Code::SegmentSelector => 7,
-            Code::NumberTooLarge => 8,
-            Code::RegisterTooLarge => 9,
-            Code::NoSuchCie => 10,
-            Code::RangeTooLarge => 11,
-            Code::UnknownInstruction => 12,
-            Code::NotInCie => 13,
-            Code::LocationBackwards => 14,
-            Code::LocationTooLarge => 15,
-            Code::EmptyStateStack => 16,
-            Code::StateStackFull => 17,
-            Code::CfaNotRegister => 18,
-            Code::OffsetTooLarge => 19,
-            Code::UnknownOperation => 20,
-            Code::NotInFrame => 21,
-            Code::BadBranch => 22,
-            Code::BadDerefSize => 23,
-            Code::NoCfaRule => 24,
-            Code::Overlap => 25,
-            Code::SectionTooLarge => 26,
-            Code::NormalTooLong => 27,
-        }
+        self as u8 + 1
     }
 
     /// The refusal's name, as the variant is written.

@@ -336,10 +336,20 @@ module _ (t : Target) (v : ℕ) (small : v < address_limit t.size) where
       (λ f. by_test BestOf under (2 ^ 20) _ _ (λ x. best_sleb 2 (omega arith) x (omega arith) (λ z y r less. r.s3 less f (omega arith)))
       (λ g. by_test BestOf v (2 ^ 32) _ _ (λ x. best_number 0x0c 4 (operand.Word v) Const4u refl refl x (omega arith) (λ z x w. w) (λ z x w e. w) (λ z y r less. r.u4 less f (omega arith)))
       (λ h. by_test BestOf under (2 ^ 31) _ _ (λ x. best_low 0x0d w32 (operand.Word (v % 2 ^ 32)) Const4s refl (ap (fixed_bytes t.order 4) (low t.size w32 v (omega arith) small (omega arith))) (omega (arith, ints)) (omega arith) (omega arith) (λ z x w. w) (λ z x w e. w) (λ z y r less. r.s4 less h (omega arith)))
-      (λ i. by_test BestOf v (2 ^ 35) _ _ (λ x. best_uleb 4 x (omega arith) (λ z y r less. r.u5 less h (omega arith)))
-      (λ j. by_test BestOf under (2 ^ 34) _ _ (λ x. best_sleb 4 (omega arith) x (omega arith) (λ z y r less. r.s5 less j (omega arith)))
-      (λ k. by_test BestOf v (2 ^ 42) _ _ (λ x. best_uleb 5 x (omega arith) (λ z y r less. r.u6 less j (omega arith)))
-      (λ l. by_test BestOf under (2 ^ 41) _ _ (λ x. best_sleb 5 (omega arith) x (omega arith) (λ z y r less. r.s6 less l (omega arith)))
-      (λ m. by_test BestOf v (2 ^ 49) _ _ (λ x. best_uleb 6 x (omega arith) (λ z y r less. r.u7 less l (omega arith)))
-      (λ n. by_test BestOf under (2 ^ 48) _ _ (λ x. best_sleb 6 (omega arith) x (omega arith) (λ z y r less. r.s7 less n (omega arith)))
-      (λ o. best_number 0x0e 8 (operand.Double v) Const8u refl refl (omega arith) (omega arith) (λ z x w. w) (λ z x w e. w) (λ z y r less. r.u8 less n (omega arith)))))))))))))))))
+      (λ i.
+      let most = wide h in
+      by_test BestOf v (2 ^ 49) _ _ (λ x. elim (cases_lt v (2 ^ 35)) [
+        | inl y ↦ best_uleb 4 y (omega arith) (λ z w r less. r.u5 less h (omega arith))
+        | inr y ↦ elim (cases_lt v (2 ^ 42)) [
+          | inl k ↦ best_uleb 5 k (omega arith) (λ z w r less. r.u6 less y (omega arith))
+          | inr k ↦ best_uleb 6 x (omega arith) (λ z w r less. r.u7 less k (omega arith))
+        ]
+      ])
+      (λ n. by_test BestOf under (2 ^ 48) _ _ (λ x. elim (cases_lt under (2 ^ 34)) [
+        | inl y ↦ best_sleb 4 (omega arith) y (omega arith) (λ z w r less. r.s5 less (omega arith) (omega arith))
+        | inr y ↦ elim (cases_lt under (2 ^ 41)) [
+          | inl k ↦ best_sleb 5 (omega arith) k (omega arith) (λ z w r less. r.s6 less (omega arith) (omega arith))
+          | inr k ↦ best_sleb 6 (omega arith) x (omega arith) (λ z w r less. r.s7 less n (omega arith))
+        ]
+      ])
+      (λ o. best_number 0x0e 8 (operand.Double v) Const8u refl refl (omega arith) (omega arith) (λ z x w. w) (λ z x w e. w) (λ z y r less. r.u8 less n (omega arith)))))))))))))

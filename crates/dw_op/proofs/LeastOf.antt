@@ -170,5 +170,5 @@ pub least_spelled : (t : Target) (d : ℕ) (op : Op) (s : Spelling) → s ≡ le
 unfolding least_bytes
 least_spelled t d op s e = ap (spelling_bytes t.order) e ∙ sym (bare_bytes t d op)
 
-pub least_length : (t : Target) (d e n : ℕ) (op : Op) (s : Spelling) → s ≡ least_spelling t d op → n ≡ length (operand_bytes t.order s.operand) → 1 + n ≡ length (least_bytes t e (bare op))
+pub least_length : (t : Target) (d e n : ℕ) (op : Op) (s : Spelling) → s ≡ least_spelling t d op → n ≡ length (operand_bytes t.order s.1) → 1 + n ≡ length (least_bytes t e (bare op))
 least_length t d e n op s is len = omega (arith, len, ap length (least_spelled t d op s is), length_bits t d e (bare op))

@@ -18,7 +18,7 @@ unfoldable pub use Rattle.dw_op.specs.Inner.{LeastBlock.least_block, LeastOf.{le
 pub use Rattle.dw_op.specs.{Block.{Block, Displaced, EachPart, FrameBlock, Stands, branch_target, displacement, joined, start}, Expression.{Expression, bare}, Faults.{BlockFault, HasCode, IsBlock, IsBranch, IsPart, Leads}}
 pub use Rattle.dw_op.specs.{Faults.{OpFault, ReadingFault, op_allowed}, Least.{AtMost, Least, LeastBlock}, LeastBlock.{IsAppended, IsEncodeError, IsFar, TooFar}, OpSpells.{AnyTwo, Both, Code, FieldSpells, OpFormSpells, OpSpells}}
 pub use Rattle.dw_op.specs.Operands.{Field, FieldValue, OpForm, block, branch, constant, counted, field_at, fixed, form_at, implicit, in_range, look_up, modulo, natural, none, op_form_table, past, register, signed}
-pub use Rattle.dw_op.specs.{Operands.{size, sized, two, twos, unsigned}, Profile.{InFrame, in_frame}, Ranges.{AllInRange, FirstBadOperand, InRange, TargetWithin}, declared.least.Spelling.Spelling, declared.op.Op.Op}
+pub use Rattle.dw_op.specs.{Operands.{size, sized, two, twos, unsigned}, Profile.{InFrame, in_frame}, Ranges.{AllInRange, FirstBadOperand, InRange, TargetWithin}, Inner.LeastOf.Spelling, declared.op.Op.Op}
 pub use Rattle.dw_op.specs.declared.{op.Op.TheVariants.{Addr, BitPiece, Bra, Breg, Const, DerefSize, Dup, Fbreg, Implicit, Nop, Pick, Piece, PlusUconst, Reg, Skip, StackValue}, operation.Branch.Branch}
 pub use Rattle.dw_op.specs.declared.{operation.Step.Step, operation.Step.TheVariants.{Jump, Plain}, profile.Profile.Profile, profile.Profile.TheVariants.{Frame, Location}}
 pub use Rattle.dw_op.specs.{declared.walk.Measure.Measure, declared.walk.Measure.TheVariants.{LeastBytes, Operations}, declared.walk.Walker.Walker, Inner.Accepted.{IsAccepted, IsDecoded, StepsSo, ok_ops}, Inner.ByOperation.{Alone, Const1s, Const1u}}

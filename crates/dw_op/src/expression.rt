@@ -6,7 +6,7 @@ ghost use Rattle.dw_op.specs.{Block.FrameBlock, Expression.bare, Faults.{BlockFa
 ghost use Rattle.dw_op.specs.{declared.op.Op.Op, declared.profile.Profile.TheVariants.Frame, Inner.Accepted.{IsAccepted, ops_of}};
 
 use crate::block::{decode, judge};
-use crate::equality::{feed_steps, feed_target, same_steps};
+use crate::equality::{feed_steps, same_steps};
 use crate::least_block::{put_block, steps_len};
 use crate::list::OpList;
 use crate::op::Op;
@@ -213,7 +213,7 @@ impl<'a> Hash for ExprRef<'a> {
     ghost respects_eq = { fed_alike };
 
     fn hash<H: Hasher>(&self, state: &mut H) {
-        feed_target(self.target, state);
+        (self.target.size.byte_count(), self.target.order as u8).hash(state);
         feed_steps(self.steps(), state);
     }
 }

@@ -40,8 +40,7 @@ fn branch_target(op: &Op<'_>) -> Option<usize>
     ensures { result ≡ branch_target (bare op.now) }
 {
     match *op {
-        Op::Bra(index) => Some(index),
-        Op::Skip(index) => Some(index),
+        Op::Bra(index) | Op::Skip(index) => Some(index),
         _ => None,
     }
 }

@@ -115,18 +115,6 @@ pub enum Op<'a> {
     StackValue,
 }
 
-fn is_byte(number: u8)
-    ensures { number < 2 ^ 8 }
-{
-    let _ = number;
-}
-
-fn is_half(number: u16)
-    ensures { number < 2 ^ 16 }
-{
-    let _ = number;
-}
-
 fn is_number(number: u64)
     ensures { number < 2 ^ 64 }
 {
@@ -140,14 +128,11 @@ pub(crate) fn are_typed(op: &Op<'_>)
     match *op {
         Op::Addr(number) | Op::Const(number) | Op::PlusUconst(number) | Op::Piece(number) =>
             is_number(number),
-        Op::Pick(number) | Op::DerefSize(number) => is_byte(number),
-        Op::Reg(register) => is_half(register),
+        Op::Pick(number) | Op::DerefSize(number) => prove!(number <= u8::MAX),
+        Op::Reg(register) => prove!(register <= u16::MAX),
         Op::Breg(_register, _offset) => (),
         Op::Fbreg(_offset) => (),
-        Op::BitPiece(size, offset) => {
-            is_number(size);
-            is_number(offset);
-        }
+        Op::BitPiece(size, offset) => prove!(size <= u64::MAX && offset <= u64::MAX),
         Op::Implicit(bytes) => is_number(bytes.len() as u64),
         _ => (),
     }

@@ -4,7 +4,7 @@ ghost use Rattle.std.specs.Prelude.{◌≡◌, ◌+◌, ◌%◌, Err};
 ghost use Rattle.dw_num.specs.{Target.address_limit, Inner.Front.Gives};
 ghost use Rattle.dw_op.specs.Operands.{modulo, form_of, one, size};
 ghost use Rattle.dw_op.specs.declared.{op.Op.TheVariants.{Const, DerefSize}, operation.Step.TheVariants.Plain, profile.Profile.TheVariants.Location};
-ghost use Rattle.dw_op.specs.Inner.FrontOp.{bare_step, is_barred, judged, jump_at, step_of, step_at};
+ghost use Rattle.dw_op.specs.Inner.FrontOp.{bare_step, is_barred, judged, step_of, step_at};
 
 use crate::op::Op;
 use crate::profile::Profile;
@@ -34,7 +34,7 @@ fn is_barred(profile: Profile, code: u8) -> bool
     }
 }
 
-fn refused<'a>(code: Code, at: u64) -> Result<Step<'a>, Refusal>
+pub(crate) fn refused<T>(code: Code, at: u64) -> Result<T, Refusal>
     ensures { result ≡ Err (record { code = code; at = at }) }
 {
     Err(Refusal { code, at })
@@ -46,10 +46,7 @@ fn refused<'a>(code: Code, at: u64) -> Result<Step<'a>, Refusal>
 pub(crate) fn last_address(size: Size) -> u64
     ensures { result + 1 ≡ address_limit size }
 {
-    match size {
-        Size::Four => 0xffff_ffff,
-        Size::Eight => 0xffff_ffff_ffff_ffff,
-    }
+    (size.address_limit() - 1) as u64
 }
 
 // A constant, which is a number modulo 2^N.
@@ -83,13 +80,6 @@ fn read_deref_size<'a>(cursor: &mut Cursor<'a>) -> Result<Step<'a>, Refusal>
     } else {
         refused(Code::BadDerefSize, at)
     }
-}
-
-// A branch, with the two bytes of its displacement.
-fn read_jump<'a>(cursor: &mut Cursor<'a>, branch: Branch) -> Result<Step<'a>, Refusal>
-    ensures { Gives bare_step result (jump_at branch cursor.old) cursor.new }
-{
-    Ok(Step::Jump(branch, cursor.fixed(2)? as u16))
 }
 
 // The operation of a code that was read at a place: DWARF 5, 7.7.1.
@@ -132,32 +122,26 @@ fn read_operands<'a>(cursor: &mut Cursor<'a>, code: u8, at: u64) -> Result<Step<
         0x25 => Ok(Step::Plain(Op::Shr)),
         0x26 => Ok(Step::Plain(Op::Shra)),
         0x27 => Ok(Step::Plain(Op::Xor)),
-        0x28 => read_jump(cursor, Branch::Bra),
+        0x28 => Ok(Step::Jump(Branch::Bra, cursor.fixed(2)? as u16)),
         0x29 => Ok(Step::Plain(Op::Eq)),
         0x2a => Ok(Step::Plain(Op::Ge)),
         0x2b => Ok(Step::Plain(Op::Gt)),
         0x2c => Ok(Step::Plain(Op::Le)),
         0x2d => Ok(Step::Plain(Op::Lt)),
         0x2e => Ok(Step::Plain(Op::Ne)),
-        0x2f => read_jump(cursor, Branch::Skip),
+        0x2f => Ok(Step::Jump(Branch::Skip, cursor.fixed(2)? as u16)),
         0x30..=0x4f => Ok(Step::Plain(Op::Const(u64::from(code - 0x30)))),
         0x50..=0x6f => Ok(Step::Plain(Op::Reg(u16::from(code - 0x50)))),
         0x70..=0x8f => Ok(Step::Plain(Op::Breg(u16::from(code - 0x70), cursor.sleb()?))),
         0x90 => Ok(Step::Plain(Op::Reg(cursor.register()?))),
         0x91 => Ok(Step::Plain(Op::Fbreg(cursor.sleb()?))),
-        0x92 => {
-            let register = cursor.register()?;
-            Ok(Step::Plain(Op::Breg(register, cursor.sleb()?)))
-        }
+        0x92 => Ok(Step::Plain(Op::Breg(cursor.register()?, cursor.sleb()?))),
         0x93 => Ok(Step::Plain(Op::Piece(cursor.uleb()?))),
         0x94 => read_deref_size(cursor),
         0x96 => Ok(Step::Plain(Op::Nop)),
         0x97 => Ok(Step::Plain(Op::PushObjectAddress)),
         0x9c => Ok(Step::Plain(Op::CallFrameCfa)),
-        0x9d => {
-            let size = cursor.uleb()?;
-            Ok(Step::Plain(Op::BitPiece(size, cursor.uleb()?)))
-        }
+        0x9d => Ok(Step::Plain(Op::BitPiece(cursor.uleb()?, cursor.uleb()?))),
         0x9e => {
             let len = cursor.uleb()?;
             Ok(Step::Plain(Op::Implicit(cursor.take(len as usize)?)))

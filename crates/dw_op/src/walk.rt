@@ -8,18 +8,10 @@ ghost use Rattle.dw_op.specs.Inner.Windows.{AreMarks, Shifted, block_of, WalkSo,
 
 use crate::least::op_least_len;
 use crate::op::Op;
-use crate::operation::{Branch, Step, next_step};
+use crate::operation::{Branch, Step, next_step, refused};
 use crate::profile::Profile;
 use arrayvec::ArrayVec;
 use dw_num::{Code, Cursor, Refusal, Target, are_bytes};
-
-// Where a branch that ends here goes to: DWARF 5, 2.5.1.5.
-fn goal(end: u64, number: u16) -> Option<u64>
-    requires { end < 2 ^ 64 - 65536 }
-    ensures { result ≡ goes_to end number }
-{
-    end.checked_add_signed(i64::from(number.cast_signed()))
-}
 
 /// How many bytes marks are apart.
 pub(crate) const APART: u64 = 512;
@@ -241,7 +233,8 @@ impl<'a> Walker<'a> {
         ensures so { SoughtSo end self.new }
         ensures stays { Stays self.old self.new }
     {
-        let place = goal(end, number)?;
+        // DWARF 5, 2.5.1.5: the number is signed.
+        let place = end.checked_add_signed(i64::from(number.cast_signed()))?;
         if end <= place && place - end < APART {
             let more = sum_from(&self.here, self.measure, place)?;
             return Some(self.count + more);
@@ -270,10 +263,7 @@ impl<'a> Walker<'a> {
             Step::Plain(op) => Ok(Some(op)),
             Step::Jump(branch, number) => match self.sought(at + 3, number) {
                 Some(before) => Ok(Some(named(branch, before))),
-                None => Err(Refusal {
-                    code: Code::BadBranch,
-                    at,
-                }),
+                None => refused(Code::BadBranch, at),
             },
         }
     }

@@ -36,10 +36,7 @@ fn is_shown(steps: &mut RowWalk<'_>, kept: bool) -> bool
     ensures shown { IsTrue result ↔ (shown_if kept steps.old.kept ≡ Some steps.old.steps.current) }
     ensures same { steps.new ≡ steps.old }
 {
-    if !kept {
-        return false;
-    }
-    steps.is_kept()
+    kept && steps.is_kept()
 }
 
 // Whether an address below the end shows the row that is lent, which starts here.
@@ -315,10 +312,7 @@ impl<'a> Changes<'a> {
     pub fn before(&self) -> Option<&Row<'a>>
         ensures { MatchOption result (self.now.before ≡ None) (λ row. self.now.before ≡ Some row.now) }
     {
-        if self.lent {
-            return kept_row(&self.walks.walk, self.kept);
-        }
-        None
+        kept_row(&self.walks.walk, self.lent && self.kept)
     }
 
     /// The next change with its row (6.4.1), or none behind the last one. Want of memory is answered from then on.

@@ -96,9 +96,7 @@ impl<'a> Walks<'a> {
             self.change(left, cie.at, target);
         }
         self.long = long;
-        if let Some(cie_at) = self.cie_at
-            && cie_at == cie.at
-        {
+        if self.cie_at == Some(cie.at) {
             return;
         }
         are_bytes(cie.program.bytes);

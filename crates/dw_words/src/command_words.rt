@@ -42,10 +42,7 @@ fn needed<T>(value: Option<T>, name: &'static str) -> Result<T, PlanError>
     ensures ok { IfOk result (λ x. value ≡ Some x) }
     ensures err { IfErr result (λ e. (value ≡ None) × (e ≡ BadValue name.entry)) }
 {
-    match value {
-        Some(value) => Ok(value),
-        None => Err(PlanError::BadValue(name)),
-    }
+    value.ok_or(PlanError::BadValue(name))
 }
 
 // The value by the name of one of two, or the option whose value is bad.
@@ -207,10 +204,8 @@ fn unwind_in<'a>(matches: &ArgMatches<'a>) -> Result<Task<'a>, PlanError>
     ensures { (size : TheSize) → Tasks (rows_of (found_of matches.now)) Unwind size result }
 {
     let steps = needed(steps_in(matches), "--steps")?;
-    let (same, undefined) = (
-        ("same", Policy::SameValue),
-        ("undefined", Policy::Undefined),
-    );
+    let same = ("same", Policy::SameValue);
+    let undefined = ("undefined", Policy::Undefined);
     let default = either(matches, "default", "--default", same, undefined)?;
     let path = needed(text_of(matches, "FILE"), "FILE")?;
     let dump = needed(text_of(matches, "DUMP"), "DUMP")?;

@@ -37,10 +37,7 @@ fn number_of(base: u8, text: &[u8]) -> Option<u64>
 {
     let mut number = 0u64;
     for byte in text {
-        let Some(next) = digit_behind(base, number, *byte) else {
-            return None;
-        };
-        number = next;
+        number = digit_behind(base, number, *byte)?;
     }
     Some(number)
 }
@@ -64,9 +61,5 @@ pub fn address(text: &[u8], size: Size) -> Option<u64>
         return None;
     }
     let number = number_of(16, &text[2..])?;
-    if u128::from(number) < size.address_limit() {
-        Some(number)
-    } else {
-        None
-    }
+    (u128::from(number) < size.address_limit()).then_some(number)
 }

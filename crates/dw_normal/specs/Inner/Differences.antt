@@ -1,7 +1,7 @@
 -- How the registers are found to which two rows give different rules.
 use Rattle.std.specs.Prelude.{◌≡◌, Some}
 use Rattle.dw_row.specs.{RegisterSets.SameBeside, Rows.Rules}
-use Rattle.dw_normal.specs.declared.differences.{Differences.Differences, Differences.TheVariants.{Rows, Among, Altered}}
+use Rattle.dw_normal.specs.declared.apart.{Differences.Differences, Differences.TheVariants.{Rows, Among, Altered}}
 
 -- it is so of these two rows
 abbrev pub Tells : Differences → Rules → Rules → Type 0

@@ -2,12 +2,9 @@
 use Rattle.dw_op.proofs.Words.{◌≡◌, ℕ, Bool, true, false, List, [], ◌∷◌, map, Option, Some, refl, sym, ap, ◌∙◌, ℤ, pos, negsuc, nat_eq, if◌then◌else◌, IsTrue, ◌↔◌, Target, Size, Four, Eight, Order, Little, Big, Op, Addr, Const, Pick}
 use Rattle.dw_op.proofs.Words.{PlusUconst, Bra, Skip, Reg, Breg, Fbreg, Piece, DerefSize, Nop, BitPiece, Implicit, look_up, OpForm, none, op_form_table, Expression, bare, FrameBlock, in_frame, InFrame, sign_of, size_of, line, op_line, target_line}
 use Rattle.dw_op.proofs.Words.{expression_lines, same_expression, Decides}
-use Rattle.std.specs.Bool.{one_answer}
-use Rattle.dw_op.specs.Inner.EqualityLaws.{lines_decide}
-
--- a signed number from its sign and number
-abbrev pub signed_with : ℕ → ℕ → ℤ
-signed_with sign number = if nat_eq sign 0 then pos number else negsuc number
+use Rattle.std.specs.{Bool.one_answer, Cmp.Lexicographic.{pointwise, pointwise_decides}, Ordering.int_eq, Prelude.◌&&◌}
+use Rattle.std.proofs.lemmas.Bool.Decides.{Decides-and, Decides-eqb, Decides-int_eq}
+use Rattle.dw_op.specs.Inner.{Equality.signed_with, EqualityLaws.lines_decide}
 
 -- the operation of a form without fields
 abbrev or_this : Option OpForm → Op → Op
@@ -40,18 +37,17 @@ op_back (Breg r z) = ap (Breg r) (signed_back z)
 op_back (Fbreg z) = ap Fbreg (signed_back z)
 op_back op = refl
 
--- equal parts, equal lines
-abbrev pub SameParts : ℕ → ℕ → ℕ → ℤ → List ℕ → ℕ → ℕ → ℕ → ℤ → List ℕ → Type 0
-SameParts k f s z b k2 f2 s2 z2 b2 = (k ≡ k2) × (f ≡ f2) × (s ≡ s2) × (z ≡ z2) × (b ≡ b2)
-
-pub parts_line : (k f s : ℕ) (z : ℤ) (b : List ℕ) (k2 f2 s2 : ℕ) (z2 : ℤ) (b2 : List ℕ) → SameParts k f s z b k2 f2 s2 z2 b2 → line k f s z b ≡ line k2 f2 s2 z2 b2
-parts_line k f s z b k2 f2 s2 z2 b2 h = rw (h.0, h.1, h.2, h.3, h.4) refl
-
-pub line_parts : (k f s : ℕ) (z : ℤ) (b : List ℕ) (k2 f2 s2 : ℕ) (z2 : ℤ) (b2 : List ℕ) → line k f s z b ≡ line k2 f2 s2 z2 b2 → SameParts k f s z b k2 f2 s2 z2 b2
-line_parts k f s z b k2 f2 s2 z2 b2 e =
-    let sign : sign_of z ≡ sign_of z2 = cc in
-    let size : size_of z ≡ size_of z2 = cc in
-    (cc, cc, cc, sym (signed_back z) ∙ ap (λ (n : ℕ). signed_with n (size_of z)) sign ∙ ap (λ (n : ℕ). signed_with (sign_of z2) n) size ∙ signed_back z2, cc)
+-- the test of lines by their parts
+pub line_decides : (k f s : ℕ) (z : ℤ) (b : List ℕ) (k2 f2 s2 : ℕ) (z2 : ℤ) (b2 : List ℕ) →
+    Decides ((((nat_eq k k2 && nat_eq f f2) && nat_eq s s2) && int_eq z z2) && pointwise nat_eq b b2) (line k f s z b ≡ line k2 f2 s2 z2 b2)
+line_decides k f s z b k2 f2 s2 z2 b2 =
+    let d = Decides-and _ _ (Decides-and _ _ (Decides-and _ _ (Decides-and _ _ (Decides-eqb k k2) (Decides-eqb f f2)) (Decides-eqb s s2)) (Decides-int_eq z z2)) (pointwise_decides Decides-eqb b b2) in (
+      λ e. let h = d.0 e in rw (h.0.0.0.0, h.0.0.0.1, h.0.0.1, h.0.1, h.1) refl,
+      λ e.
+          let sign : sign_of z ≡ sign_of z2 = cc in
+          let size : size_of z ≡ size_of z2 = cc in
+          d.1 ((((cc, cc), cc), sym (signed_back z) ∙ ap (λ (n : ℕ). signed_with n (size_of z)) sign ∙ ap (λ (n : ℕ). signed_with (sign_of z2) n) size ∙ signed_back z2), cc),
+    )
 
 pub line_of_bare : (op : Op) → op_line (bare op) ≡ op_line op
 line_of_bare (Implicit block) = refl

@@ -1,8 +1,8 @@
--- The lines by which expressions are compared, what an expression feeds a hasher, and the lines that the code has.
-use Rattle.std.specs.{Prelude.{◌≡◌, ℕ, ℤ, pos, negsuc, List, [], ◌∷◌, map, nat_eq, Bool, ◌++◌, length}, Cmp.Lexicographic.pointwise, List.flat_map}
+-- The lines by which expressions are compared, and what an expression feeds a hasher.
+use Rattle.std.specs.{Prelude.{ℕ, ℤ, pos, negsuc, List, [], ◌∷◌, map, nat_eq, Bool, ◌++◌, if◌then◌else◌}, Cmp.Lexicographic.pointwise, List.flat_map}
 use Rattle.std.specs.Hash as fed
 use Rattle.dw_num.specs.{Target.byte_count, declared.target.Order.Order, declared.target.Order.TheVariants.{Little, Big}, declared.target.Target.Target}
-use Rattle.dw_op.specs.{Expression.Expression, declared.equality.Line.Line, declared.op.Op.Op, declared.op.Op.TheVariants.{Addr, Const, Pick, PlusUconst}}
+use Rattle.dw_op.specs.{Expression.Expression, declared.op.Op.Op, declared.op.Op.TheVariants.{Addr, Const, Pick, PlusUconst}}
 use Rattle.dw_op.specs.{declared.op.Op.TheVariants.{Bra, Skip, Reg, Breg, Fbreg, Piece, DerefSize, BitPiece, Implicit}, Inner.Codes.alone_code}
 
 -- a signed number as a sign and a number
@@ -13,6 +13,9 @@ sign_of (negsuc n) = 1
 abbrev pub size_of : ℤ → ℕ
 size_of (pos n) = n
 size_of (negsuc n) = n
+
+abbrev pub signed_with : ℕ → ℕ → ℤ
+signed_with sign number = if nat_eq sign 0 then pos number else negsuc number
 
 -- an operation in a line: its kind, two numbers, a sign and a number, and bytes
 abbrev pub line : ℕ → ℕ → ℕ → ℤ → List ℕ → List ℕ
@@ -59,7 +62,7 @@ same_expression a b = same_lines (expression_lines a) (expression_lines b)
 abbrev pub line_fed : List ℕ → List (List ℕ)
 line_fed (size ∷ order ∷ []) = fed.u8 size ++ fed.u8 order
 line_fed (kind ∷ first ∷ second ∷ sign ∷ number ∷ bytes) =
-    fed.u8 kind ++ fed.u64 first ++ fed.u64 second ++ fed.u8 sign ++ fed.u64 number ++ fed.usize (length bytes) ++ (bytes ∷ [])
+    fed.u8 kind ++ fed.u64 first ++ fed.u64 second ++ fed.i64 (signed_with sign number) ++ fed.slice fed.u8 bytes
 line_fed other = []
 
 abbrev pub lines_fed : List (List ℕ) → List (List ℕ)
@@ -68,10 +71,3 @@ lines_fed lines = flat_map line_fed lines
 -- what an expression feeds a hasher: its target and its operations
 abbrev pub expression_fed : Expression → List (List ℕ)
 expression_fed e = lines_fed (expression_lines e)
-
--- the line that the code has
-abbrev pub line_of : Line → List ℕ
-line_of l = line l.kind l.first l.second l.signed l.bytes.now
-
-abbrev pub SameLine : Line → Line → Type 0
-SameLine a b = (a.kind ≡ b.kind) × (a.first ≡ b.first) × (a.second ≡ b.second) × (a.signed ≡ b.signed) × (a.bytes.now ≡ b.bytes.now)

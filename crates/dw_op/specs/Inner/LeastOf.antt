@@ -2,7 +2,7 @@
 use Rattle.std.specs.Prelude.{ℕ, ◌+◌, ◌-◌, ◌%◌, ◌^◌, List, [], ◌∷◌, ◌++◌, length, ℤ, negsuc, nat_lt, if◌then◌else◌}
 use Rattle.dw_num.specs.{Fixed.fixed_bytes, Shortest.{shortest_uleb, shortest_sleb}, Target.address_limit}
 use Rattle.dw_num.specs.declared.target.{Order.Order, Size.Size, Size.TheVariants.{Four, Eight}, Target.Target}
-use Rattle.dw_op.specs.declared.{least.Operand.Operand, least.Spelling.Spelling, op.Op.Op, op.Op.TheVariants.{Addr, Const, Pick, PlusUconst}}
+use Rattle.dw_op.specs.declared.{least.Operand.Operand, op.Op.Op, op.Op.TheVariants.{Addr, Const, Pick, PlusUconst}}
 use Rattle.dw_op.specs.{declared.op.Op.TheVariants.{Bra, Skip, Reg, Breg, Fbreg, Piece, DerefSize, BitPiece, Implicit}, Inner.Codes.alone_code}
 use Rattle.dw_op.specs.declared.least.Operand.TheVariants as operand
 
@@ -18,33 +18,17 @@ operand_bytes order (operand.Offset r z) = shortest_uleb r ++ shortest_sleb z
 operand_bytes order (operand.Pair a b) = shortest_uleb a ++ shortest_uleb b
 operand_bytes order (operand.Block block) = shortest_uleb (length block.now) ++ block.now
 
+-- a code, and what follows it
+abbrev pub Spelling : Type 0
+Spelling = ℕ × Operand
+
 abbrev pub spelling_bytes : Order → Spelling → List ℕ
-spelling_bytes order s = s.code ∷ operand_bytes order s.operand
+spelling_bytes order s = s.0 ∷ operand_bytes order s.1
 
 abbrev pub spelling : ℕ → Operand → Spelling
-spelling code operand = record { code = code; operand = operand }
+spelling code operand = (code, operand)
 
 -- ---- constants: v, and by how much it is below 2 ^ N - 1
-
--- from six bytes on
-abbrev pub longest_constant : ℕ → ℕ → Spelling
-longest_constant v under =
-    if nat_lt v (2 ^ 35) then spelling 0x10 (operand.Unsigned v)  -- DW_OP_constu
-    else if nat_lt under (2 ^ 34) then spelling 0x11 (operand.Signed (negsuc under))  -- DW_OP_consts
-    else if nat_lt v (2 ^ 42) then spelling 0x10 (operand.Unsigned v)  -- DW_OP_constu
-    else if nat_lt under (2 ^ 41) then spelling 0x11 (operand.Signed (negsuc under))  -- DW_OP_consts
-    else if nat_lt v (2 ^ 49) then spelling 0x10 (operand.Unsigned v)  -- DW_OP_constu
-    else if nat_lt under (2 ^ 48) then spelling 0x11 (operand.Signed (negsuc under))  -- DW_OP_consts
-    else spelling 0x0e (operand.Double v)  -- DW_OP_const8u
-
--- from four bytes on
-abbrev pub long_constant : ℕ → ℕ → Spelling
-long_constant v under =
-    if nat_lt v (2 ^ 21) then spelling 0x10 (operand.Unsigned v)  -- DW_OP_constu
-    else if nat_lt under (2 ^ 20) then spelling 0x11 (operand.Signed (negsuc under))  -- DW_OP_consts
-    else if nat_lt v (2 ^ 32) then spelling 0x0c (operand.Word v)  -- DW_OP_const4u
-    else if nat_lt under (2 ^ 31) then spelling 0x0d (operand.Word (v % 2 ^ 32))  -- DW_OP_const4s
-    else longest_constant v under
 
 abbrev pub constant : ℕ → ℕ → Spelling
 constant v under =
@@ -53,7 +37,13 @@ constant v under =
     else if nat_lt under (2 ^ 7) then spelling 0x09 (operand.Byte (v % 2 ^ 8))  -- DW_OP_const1s
     else if nat_lt v (2 ^ 16) then spelling 0x0a (operand.Half v)  -- DW_OP_const2u
     else if nat_lt under (2 ^ 15) then spelling 0x0b (operand.Half (v % 2 ^ 16))  -- DW_OP_const2s
-    else long_constant v under
+    else if nat_lt v (2 ^ 21) then spelling 0x10 (operand.Unsigned v)  -- DW_OP_constu
+    else if nat_lt under (2 ^ 20) then spelling 0x11 (operand.Signed (negsuc under))  -- DW_OP_consts
+    else if nat_lt v (2 ^ 32) then spelling 0x0c (operand.Word v)  -- DW_OP_const4u
+    else if nat_lt under (2 ^ 31) then spelling 0x0d (operand.Word (v % 2 ^ 32))  -- DW_OP_const4s
+    else if nat_lt v (2 ^ 49) then spelling 0x10 (operand.Unsigned v)  -- DW_OP_constu
+    else if nat_lt under (2 ^ 48) then spelling 0x11 (operand.Signed (negsuc under))  -- DW_OP_consts
+    else spelling 0x0e (operand.Double v)  -- DW_OP_const8u
 
 -- ---- the table
 

@@ -1,4 +1,4 @@
-use Rattle.dw_library.proofs.{Words.{refl, arith, length, rules_in}, Written.{left_within, room_now, wrote_more, written_left}}
+use Rattle.dw_library.proofs.{Words.{refl, arith, length, rules, rules_in}, Written.{wrote_more, written_left}}
 use Rattle.dw_library.proofs.rows.put_looks.Goals as goal
 
 pub addresses-preserved : goal.addresses-preserved
@@ -9,8 +9,8 @@ addresses-preserved c =
     let got = c.in-Ok.ensures.look in
     let before = rules_in w.looks in
     let now = c.addresses.rules in
-    let written = written_left before got.0.rules c.args.rules.now now c.put_look.new.rules c.addresses.room (room_now w) w.rules_are (left_within (length now) before c.addresses.room (room_now w)) got.3 in
+    let written = written_left before got.0.rules c.args.rules.now now c.put_look.new.rules _ (search rules) w.rules_are got.3 in
     record {
-      wrote = wrote_more w got.0 (omega (arith, lt, end)) (omega (arith, lt, end, c.requires.rows)) got.1 got.2 written (c.behind-room.ensures before got.0.rules w.left got.4);
+      wrote = wrote_more w got.0 (omega (arith, lt, end)) (omega (arith, lt, end, c.requires.rows)) got.1 got.2 written got.4 (search rules);
       done = refl;
     }

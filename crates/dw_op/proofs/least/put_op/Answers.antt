@@ -3,6 +3,6 @@ use Rattle.dw_op.proofs.least.put_op.Goals as goal
 
 pub returns-clause-ok : goal.returns-clause-ok
 returns-clause-ok c =
-    let s = c.least_spelling-spelling in
+    let s = c.least_spelling-code in
     rw (← least_spelled c.args.target c.args.displacement c.args.op.now s.result s.ensures)
-    (behind c.push_operand.result _ c.args.out.now.items _ _ (s.result.code ∷ []) (operand_bytes c.args.target.order s.result.operand) c.push_operand.ensures.ok (λ e. e) c.in_ok-push.ensures.items)
+    (behind c.push_operand.result _ c.args.out.now.items _ _ (s.result.0 ∷ []) (operand_bytes c.args.target.order s.result.1) c.push_operand.ensures.ok (λ e. e) c.in_ok-push.ensures.items)

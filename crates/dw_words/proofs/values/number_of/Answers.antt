@@ -2,10 +2,10 @@ use Rattle.std.proofs.lemmas.Grind.{common_steps}
 use Rattle.dw_words.proofs.{Words.{◌≡◌, ◌∙◌, None, Some, arith, checked_behind}, Digits.number_is}
 use Rattle.dw_words.proofs.values.number_of.Goals as goal
 
-pub returns-in_default : goal.returns-in_default
-returns-in_default c =
+pub returns-in_err-number : goal.returns-in_err-number
+returns-in_err-number c =
     let none : None ≡ checked_behind c.args.base 0 c.args.text.now = grind (arith, common_steps) in
-    none ∙ number_is c.args.base c.args.text.now c.requires.base
+    c.from_residual.ensures ∙ none ∙ number_is c.args.base c.args.text.now c.requires.base
 
 pub returns : goal.returns
 returns c =

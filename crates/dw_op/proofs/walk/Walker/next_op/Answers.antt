@@ -18,7 +18,7 @@ returns-in-None c =
     let is_n : n ≡ weight w.measure w.here.target (bare_step c.in_ok-step.step) = rw c.target-target.ensures at c.added.ensures in
     let none : Option ℕ = None in
     let found : none ≡ find_at (sum_in w.measure Location (block_of (gone_on w c.next_step.new.cursor n))) (goes_to (w.here.at + 3) c.in-Jump.number) = rw c.at-at.ensures.place at c.in-None.ensures.exact in
-    rw c.at-at.ensures.place
+    rw (c.refused.ensures, c.at-at.ensures.place)
     (walked_nowhere w (bare_step c.in_ok-step.step) c.next_step.new.cursor n c.requires c.in_ok-step.ensures is_n c.in-Jump.branch c.in-Jump.number (ap bare_step c.in-Jump.is) c.sought.new.self none found refl)
 
 pub sought-requires : goal.sought-requires
