@@ -187,7 +187,8 @@ def compare_codes(tally):
     """The tables have the codes of the sources, and the manual page says the same of each."""
     page, manual = text_of(REFUSALS), text_of(MANUAL).replace(r"\-", "-")
     for path, enum, heading in CODES:
-        names = re.findall(rf"{enum}::(\w+)(?: \{{ \.\. \}})? => \d+,", text_of(path))
+        entry = rf'{enum}::(\w+)(?: \{{ \.\. \}})? => (?:\(?\d+,|"\1")'
+        names = list(dict.fromkeys(re.findall(entry, text_of(path))))
         rows = rows_of(section_under(page, heading))
         shown = [row[0] for row in rows]
         tally.tell(names and names == shown, f"{REFUSALS}, {heading}: {shown}, and not {names}")

@@ -34,14 +34,14 @@ STRUCTS = {
     "Change": ("dwframe_change", "RawChange"),
     "Totals": ("dwframe_totals", "RawTotals"),
 }
-# Numbers that stand in matches of the library: its file, the lines that have them (groups `name` and `number`), what C's names begin
-# with, and names that C has otherwise.
+# Numbers that stand in matches of the library: its file, the lines that have them (groups `name` and `number`; without that they
+# are counted from 1), what C's names begin with, and names that C has otherwise.
 NUMBERED = [
-    ("crates/dw_num/src/refusal.rt", r"Code::(?P<name>\w+) => (?P<number>\d+),", "REFUSAL_", {}),
-    ("crates/dw_eval/src/error.rt", r"Kind::(?P<name>\w+)(?: \{ \.\. \})? => (?P<number>\d+),", "FAULT_", {}),
+    ("crates/dw_num/src/refusal.rt", r'Code::(?P<name>\w+) => "(?P=name)"', "REFUSAL_", {}),
+    ("crates/dw_eval/src/error.rt", r"Kind::(?P<name>\w+)(?: \{ \.\. \})? => \((?P<number>\d+),", "FAULT_", {}),
     ("crates/dw_library/src/index.rt", r"RegRule::(?P<name>\w+)(?:\(\w+\))? => told_rule\(number, (?P<number>\d+),", "RULE_", {}),
     ("crates/dw_library/src/index.rt", r"CfaRule::(?P<name>\w+)(?: \{[^}]*\}|\(_\))? => \((?P<number>\d+),", "CFA_", {}),
-    ("crates/dw_library/src/answer.rt", r"(?P<number>\d+) => Order::(?P<name>\w+),", "", {}),
+    ("crates/dw_library/src/answer.rt", r"\(\d+, (?P<number>\d+)\) => \(Size::\w+, Order::(?P<name>\w+)\),", "", {}),
     ("crates/dw_library/src/names.rt", r"(?P<number>\d+) => Status::(?P<name>\w+),", "", {}),
     ("crates/dw_library/src/caller.rt", r"(?P<number>\d+) => Some\(Policy::(?P<name>\w+)\)", "UNSET_", {"SameValue": "Unchanged"}),
 ]
@@ -198,7 +198,7 @@ def own_numbers(rattle):
         lines = list(re.finditer(line, text_of(path)))
         if not lines:
             sys.exit(f"header: {path} has no numbers of {prefix or 'an argument'}")
-        found |= {f"DWFRAME_{prefix}{in_capitals(others.get(one['name'], one['name']))}": one["number"] for one in lines}
+        found |= {f"DWFRAME_{prefix}{in_capitals(others.get(one['name'], one['name']))}": one.groupdict().get("number", str(place)) for place, one in enumerate(lines, 1)}
     unnamed = {name: found.pop(name, None) for name in UNNAMED}
     if unnamed != UNNAMED:
         sys.exit(f"header: {unnamed}, and not {UNNAMED}")
