@@ -4,8 +4,8 @@ use Rattle.dw_num.proofs.Lent.FixedLaws.{byte_found}
 use Rattle.dw_row.specs.declared.rule.RegRule.TheVariants as rules
 use Rattle.dw_cfa.specs.Inner.ByOpcode.{offset_in, plain_in, plain_at, factored_in, factored_at, signed_in, signed_at, set_loc_at, advance_at}
 use Rattle.dw_cfa.specs.Inner.ByOpcode.{def_cfa_register_at, def_cfa_offset_at, def_cfa_offset_sf_at, def_cfa_expression_at, then_plain, def_cfa_at}
-use Rattle.dw_cfa.specs.Inner.ByOpcode.{then_signed, def_cfa_sf_at, restore_at, set_offset, named_at, scaled_at, offset_at}
-use Rattle.dw_cfa.specs.Inner.ByOpcode.{then_offset, with_rule, rule_at, then_rule, set_at, rare_at, operands_at}
+use Rattle.dw_cfa.specs.Inner.ByOpcode.{then_signed, def_cfa_sf_at, restore_at, set_offset, offset_at, offset_extended_at}
+use Rattle.dw_cfa.specs.Inner.ByOpcode.{then_offset, with_rule, rule_at, then_rule, set_at, other_at, rare_at, operands_at}
 use Rattle.dw_cfa.specs.declared.instr.Instr.TheVariants.{Nop}
 use Rattle.dw_cfa.proofs.Words.{◌≡◌, ℕ, ◌^◌, Bool, true, false, Option, Some, Ok, Err, refl, sym, ap, ◌∙◌, ℤ, pos, ◌*ℤ◌, unsigned_abs, nat_lt, Factors, Input}
 use Rattle.dw_cfa.proofs.Words.{Instr, Opcode, Read, RegRule, fixed_at, register_at, uleb_at, sleb_at, ◌>>=◌, DefCfa, DefCfaOffset, Set, opcode_of, form_of}
@@ -55,12 +55,12 @@ module _ (f : Factors) (at : ℕ) (opcode : Opcode) (i : Input) where
       (λ r. with_offset at (read r.1) value (λ z. Set r.0 (make z)) within so (has r.0) ∙ sym (ap (λ (x : Read RegRule). x >>= with_instr (Set r.0)) (is r.1) ∙ ruled (read r.1 >>= within) make r.0))
 
 pub form_is : (f : Factors) (at : ℕ) (opcode : Opcode) (i : Input) → form_at (form_of f opcode) i >>= judged at ≡ operands_at f at opcode i
-unfolding operands_at rare_at set_loc_at advance_at def_cfa_register_at def_cfa_offset_at def_cfa_offset_sf_at def_cfa_expression_at def_cfa_at def_cfa_sf_at restore_at offset_at named_at scaled_at rule_at set_at plain_at factored_at signed_at
+unfolding operands_at rare_at other_at set_loc_at advance_at def_cfa_register_at def_cfa_offset_at def_cfa_offset_sf_at def_cfa_expression_at def_cfa_at def_cfa_sf_at restore_at offset_at offset_extended_at rule_at set_at plain_at factored_at signed_at
 form_is f at (opcodes.Offset r) i = with_offset at (uleb_at i) (λ n. pos n *ℤ f.data_factor) (set_offset r) (factored_in f at) (λ x. refl) (λ z. refl)
 form_is f at opcodes.OffsetExtended i =
-    behind at (register_at i) _ (then_offset f at opcodes.OffsetExtended) (λ r. with_offset at (uleb_at r.1) (λ n. pos n *ℤ f.data_factor) (set_offset r.0) (factored_in f at) (λ x. refl) (λ z. refl))
+    behind at (register_at i) _ (then_offset f at false) (λ r. with_offset at (uleb_at r.1) (λ n. pos n *ℤ f.data_factor) (set_offset r.0) (factored_in f at) (λ x. refl) (λ z. refl))
 form_is f at opcodes.OffsetExtendedSf i =
-    behind at (register_at i) _ (then_offset f at opcodes.OffsetExtendedSf) (λ r. with_offset at (sleb_at r.1) (λ z. z *ℤ f.data_factor) (set_offset r.0) (signed_in f at) (λ x. refl) (λ z. refl))
+    behind at (register_at i) _ (then_offset f at true) (λ r. with_offset at (sleb_at r.1) (λ z. z *ℤ f.data_factor) (set_offset r.0) (signed_in f at) (λ x. refl) (λ z. refl))
 form_is f at opcodes.ValOffset i = sets_offset f at opcodes.ValOffset i uleb_at (λ n. pos n *ℤ f.data_factor) (factored_in f at) rules.ValOffset (λ j. refl) (λ x. refl) (λ r z. refl)
 form_is f at opcodes.ValOffsetSf i = sets_offset f at opcodes.ValOffsetSf i sleb_at (λ z. z *ℤ f.data_factor) (signed_in f at) rules.ValOffset (λ j. refl) (λ x. refl) (λ r z. refl)
 form_is f at opcodes.Register i = sets f at opcodes.Register i register_at rules.Register (λ j. refl) (λ r x. refl)

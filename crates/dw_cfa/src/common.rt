@@ -6,7 +6,7 @@ ghost use Rattle.dw_cfa.specs.Inner.{ByOpcode.{advance_at, def_cfa_at, def_cfa_o
 use crate::instr::Factors;
 use crate::keep::Keep;
 use crate::machine::{End, refused};
-use crate::opcode::{Opcode, distance, factored, plain, signed};
+use crate::opcode::{distance, factored, plain, signed};
 use dw_num::{Cursor, Refusal};
 use dw_row::RegRule;
 
@@ -94,33 +94,23 @@ pub(crate) fn run_def_cfa<'a, K: Keep<'a>>(
     keep.def_cfa(register, offset, at, fault)
 }
 
-/// A register is saved at the CFA plus an offset, which is factored. The opcode names the register, or an operand does.
-#[tactic(auto, unfolding(crate::specs::Inner::ByOpcode::offset_at, crate::specs::Inner::ByOpcode::named_at, crate::specs::Inner::ByOpcode::scaled_at))]
+/// A register is saved at the CFA plus an offset, which is factored.
+#[tactic(auto, unfolding(crate::specs::Inner::ByOpcode::offset_at))]
 #[inline(always)]
 pub(crate) fn run_offset<'a, K: Keep<'a>>(
-    opcode: Opcode,
     cursor: &mut Cursor<'a>,
     factors: Factors,
     keep: &mut K,
     at: u64,
+    register: u16,
     fault: &mut Refusal,
 ) -> End
     requires { IsWithinLimit (K.machine keep.old) }
-    ensures { Taken K.takes (offset_at factors at opcode cursor.old) at keep.old result fault.new cursor.new keep.new }
+    ensures { Taken K.takes (offset_at factors at register cursor.old) at keep.old result fault.new cursor.new keep.new }
 {
-    let register = match opcode {
-        Opcode::Offset(register) => register,
-        _ => match cursor.register() {
-            Ok(register) => register,
-            Err(refusal) => return refused(refusal, fault),
-        },
+    let offset = match factored(cursor, factors, at) {
+        Ok(offset) => offset,
+        Err(refusal) => return refused(refusal, fault),
     };
-    let offset = match opcode {
-        Opcode::OffsetExtendedSf => signed(cursor, factors, at),
-        _ => factored(cursor, factors, at),
-    };
-    match offset {
-        Ok(offset) => keep.set(register, RegRule::Offset(offset), at, fault),
-        Err(refusal) => refused(refusal, fault),
-    }
+    keep.set(register, RegRule::Offset(offset), at, fault)
 }

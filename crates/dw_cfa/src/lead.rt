@@ -76,7 +76,6 @@ fn write_one<'a>(
 
 /// Runs a CIE's program, whose row it is then.
 #[tactic(auto, using(crate::proofs::RunSteps::initial_end))]
-#[inline(always)]
 pub(crate) fn run_initial<'a>(leading: &Leading<'a>, row: &mut Row<'a>) -> Result<(), ReadError>
     ensures ok { OnOk result (led_row leading.now ≡ Ok row.new) }
     ensures err { IfErr result (Refuses (λ r. led_row leading.now ≡ Err r)) }

@@ -2,7 +2,7 @@
 
 ghost use Rattle.std.specs.Prelude.{◌≡◌, ◌≤◌, IfOk};
 ghost use Rattle.dw_num.specs.{Inner.Front.{Gives}, Target.address_limit};
-ghost use Rattle.dw_cfa.specs.Inner.{ByOpcode.{rare_at, rule_at}, Steps.InLimit, Turns.{IsWithinLimit, Taken}};
+ghost use Rattle.dw_cfa.specs.Inner.{ByOpcode.{offset_extended_at, other_at, rare_at, rule_at}, Steps.InLimit, Turns.{IsWithinLimit, Taken}};
 
 use crate::instr::{Factors, Instr};
 use crate::keep::Keep;
@@ -32,16 +32,45 @@ fn rule_behind<'a>(
     }
 }
 
-// Reads the operands of one. An address is one of the target's.
-#[tactic(auto, unfolding(crate::specs::Inner::ByOpcode::rare_at, crate::specs::Inner::ByOpcode::set_loc_at, crate::specs::Inner::ByOpcode::advance_at, crate::specs::Inner::ByOpcode::restore_at, crate::specs::Inner::ByOpcode::def_cfa_sf_at, crate::specs::Inner::ByOpcode::def_cfa_register_at, crate::specs::Inner::ByOpcode::def_cfa_expression_at, crate::specs::Inner::ByOpcode::set_at))]
+// A register that an operand names is saved at the CFA plus an offset, which is factored and may be signed.
+#[tactic(auto, unfolding(crate::specs::Inner::ByOpcode::offset_extended_at))]
 #[inline(always)]
-fn read_rare<'a>(
+fn run_offset_extended<'a, K: Keep<'a>>(
+    cursor: &mut Cursor<'a>,
+    factors: Factors,
+    keep: &mut K,
+    at: u64,
+    is_signed: bool,
+    fault: &mut Refusal,
+) -> End
+    requires { IsWithinLimit (K.machine keep.old) }
+    ensures { Taken K.takes (offset_extended_at factors at is_signed cursor.old) at keep.old result fault.new cursor.new keep.new }
+{
+    let register = match cursor.register() {
+        Ok(register) => register,
+        Err(refusal) => return refused(refusal, fault),
+    };
+    let offset = if is_signed {
+        signed(cursor, factors, at)
+    } else {
+        factored(cursor, factors, at)
+    };
+    match offset {
+        Ok(offset) => keep.set(register, RegRule::Offset(offset), at, fault),
+        Err(refusal) => refused(refusal, fault),
+    }
+}
+
+// Reads the operands of any other. An address is one of the target's.
+#[tactic(auto, unfolding(crate::specs::Inner::ByOpcode::other_at, crate::specs::Inner::ByOpcode::set_loc_at, crate::specs::Inner::ByOpcode::advance_at, crate::specs::Inner::ByOpcode::restore_at, crate::specs::Inner::ByOpcode::def_cfa_sf_at, crate::specs::Inner::ByOpcode::def_cfa_register_at, crate::specs::Inner::ByOpcode::def_cfa_expression_at, crate::specs::Inner::ByOpcode::set_at))]
+#[inline(always)]
+fn read_other<'a>(
     opcode: Opcode,
     cursor: &mut Cursor<'a>,
     factors: Factors,
     at: u64,
 ) -> Result<Instr<'a>, Refusal>
-    ensures exact { Gives (λ i. i) result (rare_at factors at opcode cursor.old) cursor.new }
+    ensures exact { Gives (λ i. i) result (other_at factors at opcode cursor.old) cursor.new }
     ensures limit { IfOk result (InLimit (address_limit cursor.old.target.size)) }
 {
     match opcode {
@@ -64,7 +93,7 @@ fn read_rare<'a>(
 }
 
 // Reads the operands of one, and applies it.
-#[tactic(auto, using(crate::proofs::Turns::in_greater_limit))]
+#[tactic(auto, using(crate::proofs::Turns::in_greater_limit), unfolding(crate::specs::Inner::ByOpcode::rare_at))]
 #[inline(never)]
 fn run_rare<'a, K: Keep<'a>>(
     opcode: Opcode,
@@ -78,9 +107,13 @@ fn run_rare<'a, K: Keep<'a>>(
     requires limit { address_limit cursor.old.target.size ≤ (K.machine keep.old).limit }
     ensures { Taken K.takes (rare_at factors at opcode cursor.old) at keep.old result fault.new cursor.new keep.new }
 {
-    match read_rare(opcode, cursor, factors, at) {
-        Ok(instr) => keep.take(instr, at, fault),
-        Err(refusal) => refused(refusal, fault),
+    match opcode {
+        Opcode::OffsetExtended => run_offset_extended(cursor, factors, keep, at, false, fault),
+        Opcode::OffsetExtendedSf => run_offset_extended(cursor, factors, keep, at, true, fault),
+        _ => match read_other(opcode, cursor, factors, at) {
+            Ok(instr) => keep.take(instr, at, fault),
+            Err(refusal) => refused(refusal, fault),
+        },
     }
 }
 

@@ -80,7 +80,7 @@ impl<'a> RowRoom<'a> {
         }
     }
 
-    // Runs any programs by the machine. What they are comes by value: what is lent lies in memory also where this is not called.
+    // Runs any programs by the machine.
     #[inline(never)]
     fn run(
         &mut self,

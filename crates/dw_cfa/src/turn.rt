@@ -40,9 +40,7 @@ fn apply<'a, K: Keep<'a>>(
         Opcode::DefCfa => run_def_cfa(cursor, keep, at, fault),
         Opcode::DefCfaOffset => run_def_cfa_offset(cursor, keep, at, fault),
         Opcode::DefCfaOffsetSf => run_def_cfa_offset_sf(cursor, factors, keep, at, fault),
-        Opcode::Offset(_) | Opcode::OffsetExtended | Opcode::OffsetExtendedSf => {
-            run_offset(opcode, cursor, factors, keep, at, fault)
-        }
+        Opcode::Offset(register) => run_offset(cursor, factors, keep, at, register, fault),
         Opcode::Restore(register) => keep.restore(register, at, fault),
         Opcode::RememberState => keep.remember(at, fault),
         Opcode::RestoreState => keep.recall(at, fault),

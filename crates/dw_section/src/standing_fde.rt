@@ -162,8 +162,8 @@ impl From<ReadError> for LookUpError {
     }
 }
 
-// The rules at an address by the FDE that stands at a place. Out of line, so that what it calls has one caller and is in line.
-#[inline(never)]
+// The rules at an address by the FDE that stands at a place.
+#[inline(always)]
 fn row_of<'a>(
     bytes: &'a [u8],
     target: Target,

@@ -1,5 +1,5 @@
 -- How the code reads the operands of each opcode.
-use Rattle.std.specs.Prelude.{ℕ, ◌^◌, Result, Ok, nat_lt, if◌then◌else◌, ℤ, pos, ◌*ℤ◌, unsigned_abs}
+use Rattle.std.specs.Prelude.{ℕ, ◌^◌, Bool, true, false, Result, Ok, nat_lt, if◌then◌else◌, ℤ, pos, ◌*ℤ◌, unsigned_abs}
 use Rattle.dw_num.specs.{Front.{Read, fault, fixed_at, register_at, uleb_at, sleb_at, address_at, ◌>>=◌}, Input.Input}
 use Rattle.dw_num.specs.declared.refusal.{Code.TheVariants.OffsetTooLarge, Refusal.Refusal}
 use Rattle.dw_row.specs.declared.rule.RegRule.{RegRule}
@@ -77,21 +77,18 @@ restore_at i = register_at i >>= with_instr Restore
 abbrev pub set_offset : ℕ → ℤ → Instr
 set_offset r z = Set r (rules.Offset z)
 
--- the register that an opcode names, or an operand does
-unfoldable pub named_at : Opcode → Input → Read ℕ
-named_at (opcodes.Offset r) i = Ok (r, i)
-named_at opcode i = register_at i
+unfoldable pub offset_at : Factors → ℕ → ℕ → Input → Read Instr
+offset_at f at r i = factored_at f at i >>= with_instr (set_offset r)
 
--- its offset
-unfoldable pub scaled_at : Factors → ℕ → Opcode → Input → Read ℤ
-scaled_at f at opcodes.OffsetExtendedSf i = signed_at f at i
-scaled_at f at opcode i = factored_at f at i
+abbrev pub either_at : Factors → ℕ → Bool → Input → Read ℤ
+either_at f at true i = signed_at f at i
+either_at f at false i = factored_at f at i
 
-abbrev pub then_offset : Factors → ℕ → Opcode → ℕ × Input → Read Instr
-then_offset f at opcode r = scaled_at f at opcode r.1 >>= with_instr (set_offset r.0)
+abbrev pub then_offset : Factors → ℕ → Bool → ℕ × Input → Read Instr
+then_offset f at is_signed r = either_at f at is_signed r.1 >>= with_instr (set_offset r.0)
 
-unfoldable pub offset_at : Factors → ℕ → Opcode → Input → Read Instr
-offset_at f at opcode i = named_at opcode i >>= then_offset f at opcode
+unfoldable pub offset_extended_at : Factors → ℕ → Bool → Input → Read Instr
+offset_extended_at f at is_signed i = register_at i >>= then_offset f at is_signed
 
 abbrev pub with_rule : {X : Type 0} → (X → RegRule) → X × Input → Read RegRule
 with_rule make x = Ok (make x.0, x.1)
@@ -112,15 +109,20 @@ then_rule f at opcode r = rule_at f at opcode r.1 >>= with_instr (Set r.0)
 unfoldable pub set_at : Factors → ℕ → Opcode → Input → Read Instr
 set_at f at opcode i = register_at i >>= then_rule f at opcode
 
+unfoldable pub other_at : Factors → ℕ → Opcode → Input → Read Instr
+other_at f at opcodes.SetLoc i = set_loc_at i
+other_at f at opcodes.AdvanceLoc4 i = advance_at f 4 i
+other_at f at opcodes.RestoreExtended i = restore_at i
+other_at f at opcodes.DefCfaSf i = def_cfa_sf_at f at i
+other_at f at opcodes.DefCfaRegister i = def_cfa_register_at i
+other_at f at opcodes.DefCfaExpression i = def_cfa_expression_at i
+other_at f at opcode i = set_at f at opcode i
+
 -- the operands of an opcode that few programs have
 unfoldable pub rare_at : Factors → ℕ → Opcode → Input → Read Instr
-rare_at f at opcodes.SetLoc i = set_loc_at i
-rare_at f at opcodes.AdvanceLoc4 i = advance_at f 4 i
-rare_at f at opcodes.RestoreExtended i = restore_at i
-rare_at f at opcodes.DefCfaSf i = def_cfa_sf_at f at i
-rare_at f at opcodes.DefCfaRegister i = def_cfa_register_at i
-rare_at f at opcodes.DefCfaExpression i = def_cfa_expression_at i
-rare_at f at opcode i = set_at f at opcode i
+rare_at f at opcodes.OffsetExtended i = offset_extended_at f at false i
+rare_at f at opcodes.OffsetExtendedSf i = offset_extended_at f at true i
+rare_at f at opcode i = other_at f at opcode i
 
 -- the operands of the instruction whose opcode is at this place
 unfoldable pub operands_at : Factors → ℕ → Opcode → Input → Read Instr
@@ -131,9 +133,7 @@ operands_at f at opcodes.AdvanceLoc2 i = advance_at f 2 i
 operands_at f at opcodes.DefCfa i = def_cfa_at at i
 operands_at f at opcodes.DefCfaOffset i = def_cfa_offset_at at i
 operands_at f at opcodes.DefCfaOffsetSf i = def_cfa_offset_sf_at f at i
-operands_at f at (opcodes.Offset r) i = offset_at f at (opcodes.Offset r) i
-operands_at f at opcodes.OffsetExtended i = offset_at f at opcodes.OffsetExtended i
-operands_at f at opcodes.OffsetExtendedSf i = offset_at f at opcodes.OffsetExtendedSf i
+operands_at f at (opcodes.Offset r) i = offset_at f at r i
 operands_at f at (opcodes.Restore r) i = Ok (Restore r, i)
 operands_at f at opcodes.RememberState i = Ok (RememberState, i)
 operands_at f at opcodes.RestoreState i = Ok (RestoreState, i)
