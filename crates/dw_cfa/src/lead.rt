@@ -48,10 +48,7 @@ fn pass_nop(cursor: &mut Cursor<'_>) -> bool
     ensures passed { IsTrue result → (factors : TheFactors) → instr_at factors cursor.old ≡ Ok (Nop, cursor.new) }
     ensures none { result ≡ false → cursor.new ≡ cursor.old }
 {
-    if cursor.rest()[0] != 0 {
-        return false;
-    }
-    cursor.byte().is_ok()
+    cursor.rest()[0] == 0 && cursor.byte().is_ok()
 }
 
 // Runs an instruction of a CIE's program.

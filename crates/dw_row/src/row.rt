@@ -93,12 +93,8 @@ impl<'r, 'a> Iterator for Specified<'r, 'a> {
     #[inline(always)]
     #[tactic(auto, using(crate::proofs::Slots::slots_end, crate::proofs::Difference::none_behind))]
     fn next(&mut self) -> Option<(u16, RegRule<'a>)> {
-        if let Some((register, rule)) = next_near(
-            self.at,
-            self.slots,
-            self.used,
-            self.expressions,
-        ) {
+        let near = next_near(self.at, self.slots, self.used, self.expressions);
+        if let Some((register, rule)) = near {
             self.at = register + 1;
             return Some((register, rule));
         }

@@ -151,14 +151,8 @@ pub(crate) fn run_fdes<'a>(
         list: Vec::with_capacity(alloc, cies.counts.fdes)?,
         lacking: None,
     };
-    run_on(
-        &mut Walks::new(alloc, target),
-        &mut judged,
-        bytes,
-        target,
-        &cies.places,
-        &cies.initials,
-    )?;
+    let (walks, places, initials) = (&mut Walks::new(alloc, target), &cies.places, &cies.initials);
+    run_on(walks, &mut judged, bytes, target, places, initials)?;
     Ok(judged)
 }
 

@@ -189,14 +189,8 @@ fn row_of<'a>(
     }
     are_bytes(cie.program.bytes);
     are_bytes(own.program.bytes);
-    room.run_to(
-        cie.program,
-        own.program,
-        own.begin,
-        cie.factors,
-        target,
-        address,
-    )?;
+    let (begin, factors) = (own.begin, cie.factors);
+    room.run_to(cie.program, own.program, begin, factors, target, address)?;
     Ok(Fde {
         begin: own.begin,
         end: u128::from(own.begin) + u128::from(own.range),

@@ -4,9 +4,9 @@ use Rattle.dw_cfa.specs.{declared.instr.Instr.TheVariants.{Nop}, Inner.FrontInst
 use Rattle.dw_cfa.proofs.Tabled.{nop_passed}
 use Rattle.dw_cfa.proofs.lead.pass_nop.Goals as goal
 
-pub returns-clause-passed : goal.returns-clause-passed
-returns-clause-passed c is f = by_read c.byte.result c.byte.ensures.exact (rw c.is_ok.ensures.value at is)
+pub returns-then-rest-eq0-clause-passed : goal.returns-then-rest-eq0-clause-passed
+returns-then-rest-eq0-clause-passed c is f = by_read c.byte.result c.byte.ensures.exact (rw c.is_ok.ensures.value at is)
   where
     by_read : (r : Result ℕ Refusal) → Reads (λ b. b) r c.args.cursor.now (fixed_at 1 c.args.cursor.now) c.byte.new.self → IsTrue (is_ok r) → instr_at f c.args.cursor.now ≡ Ok (Nop, c.byte.new.self)
-    by_read (Ok b) e _ = nop_passed f c.args.cursor.now c.byte.new.self b (rw c.rest.ensures at c.if-rest-ne0.false) e
+    by_read (Ok b) e _ = nop_passed f c.args.cursor.now c.byte.new.self b (rw c.rest.ensures at c.if-rest-eq0.true) e
     by_read (Err r) e none = absurd cc
