@@ -1,6 +1,6 @@
 //! The subcommands that tell of a section as a whole: `check`, `entries`, `normal`, `same` and `cost`.
 
-ghost use Rattle.std.specs.Prelude.{◌≡◌, ◌≤◌, ◌-◌, ◌^◌, false, if◌then◌else◌, length, min, IfOk};
+ghost use Rattle.std.specs.Prelude.{◌≡◌, ◌≤◌, ◌-◌, ◌^◌, false, if◌then◌else◌, length, min, Err, IfOk, MatchResult, Ok};
 ghost use Rattle.dw_section.specs.Meaning.{RowStarts};
 ghost use Rattle.dw_command.specs.Answers.{ChangeCount, Costs, Cuts, Normalises, Prints, SameEnds, Tallies, costs_text};
 ghost use Rattle.dw_command.specs.Texts.{cost_text, counts_text, entry_text, form_text, kind_text, lines, sameness_text};
@@ -197,6 +197,37 @@ fn put_pair<W: Write>(out: &mut Listing<W>, name: &[u8], source: u64, normal: u6
     out.text(b"\n");
 }
 
+// The same by changes of its own.
+fn count_changes_of(table: &Table<'_>, starts: u64) -> Result<u64, AllocError>
+    requires { RowStarts table.now.target table.now.bytes starts }
+    ensures { IfOk result (ChangeCount table.now.target table.now.bytes) }
+{
+    count_all(table, &mut table.no_changes(), starts)
+}
+
+// What is printed of a section beside its length.
+#[derive(Clone, Copy)]
+struct Cost {
+    normal: u64,
+    starts: u64,
+    changes: u64,
+}
+
+// Apart from the file's bytes: what is owned beside the ways out of this is proved for long.
+fn costs_of<'a>(alloc: Global, target: Target, bytes: &[u8]) -> Result<Cost, Failure<'a>>
+    ensures { MatchResult result (λ c. Costs target bytes.now (Ok (record { normal = c.normal; starts = c.starts; changes = c.changes }))) (λ e. Costs target bytes.now (Err e)) }
+{
+    let normal = normal_length(alloc, bytes, target, LIMIT)?;
+    let table = check(alloc, bytes, target)?;
+    let starts = table.row_starts();
+    let changes = count_changes_of(&table, starts)?;
+    Ok(Cost {
+        normal,
+        starts,
+        changes,
+    })
+}
+
 /// Prints how many bytes the section in a file and its normal form have, and how many rows their programs start.
 pub fn run_cost<'a, L: Load, W: Write>(
     alloc: Global,
@@ -210,11 +241,8 @@ pub fn run_cost<'a, L: Load, W: Write>(
 {
     let bytes = load_file(files, path)?;
     let bytes = bytes.as_slice();
-    let len = normal_length(alloc, bytes, target, LIMIT)?;
-    let table = check(alloc, bytes, target)?;
-    let starts = table.row_starts();
-    let changes = count_all(&table, &mut table.no_changes(), starts)?;
-    put_pair(out, b"bytes ", bytes.len() as u64, len);
-    put_pair(out, b"rowstarts ", starts, changes);
+    let costs = costs_of(alloc, target, bytes)?;
+    put_pair(out, b"bytes ", bytes.len() as u64, costs.normal);
+    put_pair(out, b"rowstarts ", costs.starts, costs.changes);
     out.finish()
 }

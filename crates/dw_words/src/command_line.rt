@@ -1,8 +1,8 @@
 //! The command line as `clap` reads it, with its texts of help.
 
-ghost use Rattle.std.specs.{Prelude.{◌≡◌, List, IfOk, false}, List.AllZip};
+ghost use Rattle.std.specs.{Prelude.{◌≡◌, List, IfOk, codes, false, true}, List.AllZip};
 ghost use Rattle.clap.specs.Words.{Rule};
-ghost use Rattle.dw_words.specs.{CommandLine.{flag, operand, operands, option}, Inner.CommandLine.{IsArg, IsCommand, asked, command, command_named, with_subcommands}};
+ghost use Rattle.dw_words.specs.{CommandLine.{file, flag, operand, operands, option}, Inner.{CommandLine.{IsArg, IsCommand, asked, command, command_named, own_rules, with_subcommands}, Plan.text_of}};
 
 use crate::help;
 use crate::request::Name;
@@ -82,46 +82,73 @@ fn subcommand<'a>(
         .args(own)
 }
 
-fn subcommand_named<'a>(alloc: Global, name: Name) -> Result<Command<'a>, AllocError>
-    ensures { IfOk result (λ c. IsCommand (command_named name) c) }
+// The name of a subcommand.
+fn text_of(name: Name) -> &'static str
+    ensures { result.now ≡ text_of name }
 {
-    let file = operand(alloc, "FILE", true, help::FILE);
-    let hex = operand(alloc, "HEX", true, help::HEX);
-    let steps = option(alloc, "steps", false, "L", help::STEPS);
     match name {
-        Name::At => {
-            let addresses = operands(alloc, "ADDRESS", help::ADDRESS);
-            subcommand(alloc, name, "at", vec![in alloc; file, addresses]?)
-        }
-        Name::Check => subcommand(alloc, name, "check", vec![in alloc; file]?),
-        Name::Cost => subcommand(alloc, name, "cost", vec![in alloc; file]?),
-        Name::Entries => subcommand(alloc, name, "entries", vec![in alloc; file]?),
+        Name::At => "at",
+        Name::Check => "check",
+        Name::Cost => "cost",
+        Name::Entries => "entries",
+        Name::Eval => "eval",
+        Name::Expr => "expr",
+        Name::Normal => "normal",
+        Name::Rows => "rows",
+        Name::Same => "same",
+        Name::Unwind => "unwind",
+    }
+}
+
+fn file<'a>(alloc: Global) -> Arg<'a>
+    ensures { IsArg file result }
+{
+    operand(alloc, "FILE", true, help::FILE)
+}
+
+fn hex<'a>(alloc: Global) -> Arg<'a>
+    ensures { IsArg (operand true (codes "HEX")) result }
+{
+    operand(alloc, "HEX", true, help::HEX)
+}
+
+fn steps<'a>(alloc: Global) -> Arg<'a>
+    ensures { IsArg (option false (codes "steps")) result }
+{
+    option(alloc, "steps", false, "L", help::STEPS)
+}
+
+// The arguments that only this subcommand has. Each is made where it is used: what is owned beside ten ways out is proved for long.
+fn own_args<'a>(alloc: Global, name: Name) -> Result<Vec<Arg<'a>>, AllocError>
+    ensures { IfOk result (λ own. AllZip IsArg (own_rules name) own.items) }
+{
+    let own = match name {
+        Name::At => vec![in alloc; file(alloc), operands(alloc, "ADDRESS", help::ADDRESS)]?,
         Name::Eval => {
             let start = option(alloc, "start", false, "0xV", help::START);
             let dump = operand(alloc, "DUMP", false, help::DUMP_OF_EVAL);
-            let own = vec![in alloc; steps, start, hex, dump]?;
-            subcommand(alloc, name, "eval", own)
+            vec![in alloc; steps(alloc), start, hex(alloc), dump]?
         }
-        Name::Expr => {
-            let frame = flag(alloc, "frame", help::FRAME);
-            subcommand(alloc, name, "expr", vec![in alloc; frame, hex]?)
-        }
+        Name::Expr => vec![in alloc; flag(alloc, "frame", help::FRAME), hex(alloc)]?,
         Name::Normal => {
-            let cap = option(alloc, "cap", false, "L", help::CAP);
-            subcommand(alloc, name, "normal", vec![in alloc; cap, file]?)
+            vec![in alloc; option(alloc, "cap", false, "L", help::CAP), file(alloc)]?
         }
-        Name::Rows => subcommand(alloc, name, "rows", vec![in alloc; file]?),
-        Name::Same => {
-            let other = operand(alloc, "FILE2", true, help::FILE2);
-            subcommand(alloc, name, "same", vec![in alloc; file, other]?)
-        }
+        Name::Same => vec![in alloc; file(alloc), operand(alloc, "FILE2", true, help::FILE2)]?,
         Name::Unwind => {
             let default = option(alloc, "default", true, "same|undefined", help::DEFAULT);
             let dump = operand(alloc, "DUMP", true, help::DUMP);
-            let own = vec![in alloc; default, steps, file, dump]?;
-            subcommand(alloc, name, "unwind", own)
+            vec![in alloc; default, steps(alloc), file(alloc), dump]?
         }
-    }
+        _ => vec![in alloc; file(alloc)]?,
+    };
+    Ok(own)
+}
+
+fn subcommand_named<'a>(alloc: Global, name: Name) -> Result<Command<'a>, AllocError>
+    ensures { IfOk result (λ c. IsCommand (command_named name) c) }
+{
+    let own = own_args(alloc, name)?;
+    subcommand(alloc, name, text_of(name), own)
 }
 
 // The command with these subcommands, in their order.

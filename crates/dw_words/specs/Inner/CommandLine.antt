@@ -2,7 +2,7 @@
 use Rattle.std.specs.Prelude.{◌≡◌, true, false, List, [], ◌∷◌, Option, Some, None, codes, fold}
 use Rattle.clap.specs.Words.{App, Rule, Text, app_of, new_app, rule_of, with_rule, with_subcommand}
 use Rattle.clap.specs.declared.builder.{arg.Arg.Arg, command.Command.Command, command.Command.TheViews.out-Command}
-use Rattle.dw_words.specs.{CommandLine.{dwframe, file, flag, operand, operands, option, program}, declared.request.Name.Name}
+use Rattle.dw_words.specs.{CommandLine.{dwframe, file, flag, operand, operands, option, program}, Inner.Plan.text_of, declared.request.Name.Name}
 use Rattle.dw_words.specs.declared.request.Name.TheVariants as names
 
 -- an argument has this rule, and is no global one
@@ -18,17 +18,18 @@ IsCommand app c = (app_of c ≡ app) × ((out-Command c).has_globals ≡ false)
 abbrev pub command : Text → List Rule → App
 command name rules = fold with_rule (new_app name) (option true (codes "size") ∷ option true (codes "order") ∷ rules)
 
+-- the arguments that only this subcommand has
+abbrev pub own_rules : Name → List Rule
+own_rules names.At = file ∷ operands (codes "ADDRESS") ∷ []
+own_rules names.Eval = option false (codes "steps") ∷ option false (codes "start") ∷ operand true (codes "HEX") ∷ operand false (codes "DUMP") ∷ []
+own_rules names.Expr = flag (codes "frame") ∷ operand true (codes "HEX") ∷ []
+own_rules names.Normal = option false (codes "cap") ∷ file ∷ []
+own_rules names.Same = file ∷ operand true (codes "FILE2") ∷ []
+own_rules names.Unwind = option true (codes "default") ∷ option false (codes "steps") ∷ file ∷ operand true (codes "DUMP") ∷ []
+own_rules _ = file ∷ []
+
 abbrev pub command_named : Name → App
-command_named names.At = command (codes "at") (file ∷ operands (codes "ADDRESS") ∷ [])
-command_named names.Check = command (codes "check") (file ∷ [])
-command_named names.Cost = command (codes "cost") (file ∷ [])
-command_named names.Entries = command (codes "entries") (file ∷ [])
-command_named names.Eval = command (codes "eval") (option false (codes "steps") ∷ option false (codes "start") ∷ operand true (codes "HEX") ∷ operand false (codes "DUMP") ∷ [])
-command_named names.Expr = command (codes "expr") (flag (codes "frame") ∷ operand true (codes "HEX") ∷ [])
-command_named names.Normal = command (codes "normal") (option false (codes "cap") ∷ file ∷ [])
-command_named names.Rows = command (codes "rows") (file ∷ [])
-command_named names.Same = command (codes "same") (file ∷ operand true (codes "FILE2") ∷ [])
-command_named names.Unwind = command (codes "unwind") (option true (codes "default") ∷ option false (codes "steps") ∷ file ∷ operand true (codes "DUMP") ∷ [])
+command_named name = command (text_of name) (own_rules name)
 
 -- the command with these subcommands
 abbrev pub with_subcommands : List Name → App
