@@ -36,7 +36,8 @@ fn rules_at<'a>(
     // The section is accepted.
     ensures accepted { IfOk result (λ _. Accepted target section.now) }
     // The row has in each column the rule at the address.
-    ensures rules { (fdes : List Fde) → AreFdes target section.now fdes → IfOk result (λ found. MatchOption found (NoneCovers address fdes) (RulesAt target section.now address)) }
+    ensures rules { (fdes : List Fde) → AreFdes target section.now fdes →
+        IfOk result (λ found. MatchOption found (NoneCovers address fdes) (RulesAt target section.now address)) }
 {
     let table = check(alloc, section, target)?;
     Ok(table.row_at(address)?)

@@ -2,7 +2,7 @@
 
 ghost use Rattle.std.specs.Prelude.{◌≡◌, ℕ, ◌||◌, [], ◌∷◌, None, Some, true, false, OnOk, IfOk, IfErr};
 ghost use Rattle.dw_num.specs.Refusals.{Refuses};
-ghost use Rattle.dw_cfa.specs.Inner.{Coverage.{is_unset, leaves_one, lacks_from}, Runs.{RunsSo, rows_left}};
+ghost use Rattle.dw_cfa.specs.Inner.{Coverage.{LeavesLacking, is_unset, leaves_one, lacks_from}, Runs.{RunsSo, rows_left}};
 
 use crate::instr::Factors;
 use crate::machine::{End, Machine};
@@ -53,7 +53,7 @@ pub(crate) fn lacks_rule<'a>(
     end: u128,
 ) -> Result<bool, ReadError>
     requires so { RunsSo machine.old cursor.old }
-    ensures found { IfOk result (λ lacks. ((rows_left factors cursor.old machine.old).fault ≡ None) × ((low : ℕ) → lacks ≡ lacks_from end low false (rows_left factors cursor.old machine.old).rows)) }
+    ensures found { IfOk result (LeavesLacking factors cursor.old machine.old end) }
     ensures refused { IfErr result (Refuses (λ r. (rows_left factors cursor.old machine.old).fault ≡ Some r)) }
     ensures so { OnOk result (RunsSo machine.new cursor.new) }
     ensures initial { machine.new.initial ≡ machine.old.initial }

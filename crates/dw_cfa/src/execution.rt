@@ -2,7 +2,7 @@
 
 ghost use Rattle.std.specs.Prelude.{◌≡◌, ◌≤◌, Some, OnOk, IfErr, false};
 ghost use Rattle.dw_num.specs.Refusals.{Refuses};
-ghost use Rattle.dw_cfa.specs.{RuleAt.last_at, Inner.{Runs.{RunsSo, StopsAbove, rows_left, stop_left}, Turns.{Does, Stays}}};
+ghost use Rattle.dw_cfa.specs.{RuleAt.last_at, Inner.{Runs.{LeftUpTo, NoneLeftUpTo, RunsSo, rows_left}, Turns.{Does, Stays}}};
 
 use crate::instr::Factors;
 use crate::keep::Keep;
@@ -34,8 +34,8 @@ pub(crate) fn run_to<'a, K: Keep<'a>>(
     requires so { RunsSo (K.machine keep.old) cursor.old }
     requires start { (K.machine keep.old).location ≤ address }
     ensures ran { OnOk result (last_at address (rows_left factors cursor.old (K.machine keep.old)).rows ≡ Some (K.machine keep.new).states.row) }
-    ensures none { OnOk result (StopsAbove (rows_left factors cursor.old (K.machine keep.old)).fault (stop_left factors cursor.old (K.machine keep.old)) address) }
-    ensures err { IfErr result (Refuses (λ r. ((rows_left factors cursor.old (K.machine keep.old)).fault ≡ Some r) × (stop_left factors cursor.old (K.machine keep.old) ≤ address))) }
+    ensures none { OnOk result (NoneLeftUpTo factors cursor.old (K.machine keep.old) address) }
+    ensures err { IfErr result (Refuses (LeftUpTo factors cursor.old (K.machine keep.old) address)) }
     ensures same { Stays (K.machine keep.old) (K.machine keep.new) }
 {
     let code = Code::Truncated;

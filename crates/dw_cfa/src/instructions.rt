@@ -124,7 +124,8 @@ impl<'a> Instructions<'a> {
         // The bytes are a program of these instructions, and of no others.
         ensures program { (instrs : List Instr) → ProgramSpells target factors instrs program.entry.bytes.now ↔ result ≡ complete instrs }
         // Behind these instructions stands this fault, and no other.
-        ensures fault { (instrs : List Instr) (r : Refusal) → ProgramFault target factors program.entry.at program.entry.bytes.now instrs r ↔ result ≡ faulty instrs r }
+        ensures fault { (instrs : List Instr) (r : Refusal) →
+            ProgramFault target factors program.entry.at program.entry.bytes.now instrs r ↔ result ≡ faulty instrs r }
         // Its place is in the program, or the program's end.
         ensures place { IfSome result.fault (λ r. (program.entry.at ≤ r.at) × (r.at ≤ program.entry.at + length program.entry.bytes.now)) }
     {

@@ -1,9 +1,10 @@
 //! What is done with the instructions of a program, one after another.
 
-ghost use Rattle.std.specs.Prelude.{◌≡◌, ℕ, ◌≤◌, MatchOption, None, Some, false, nat_lt, true};
-ghost use Rattle.dw_num.specs.declared.refusal.{Code.TheVariants.CfaNotRegister, Refusal.{Refusal}};
-ghost use Rattle.dw_cfa.specs.{Column.cfa_change, declared.instr.{Instr.Instr, Instr.TheVariants.{Advance, DefCfa, DefCfaOffset, Nop, RememberState, Restore, RestoreState, Set, SetLoc}}, declared.machine.End.End};
-ghost use Rattle.dw_cfa.specs.{declared.machine.Machine.Machine, Inner.Machine.half_fault, Inner.Steps.InLimit, Inner.Turns.{Did, IsWithinLimit, cie_machine}};
+ghost use Rattle.std.specs.Prelude.{◌≡◌, ℕ, ◌≤◌, false, nat_lt, true};
+ghost use Rattle.dw_num.specs.declared.refusal.{Refusal.{Refusal}};
+ghost use Rattle.dw_cfa.specs.declared.{instr.Instr.Instr, machine.{End.End, Machine.Machine}};
+ghost use Rattle.dw_cfa.specs.declared.instr.Instr.TheVariants.{Advance, DefCfa, DefCfaOffset, Nop, RememberState, Restore, RestoreState, Set, SetLoc};
+ghost use Rattle.dw_cfa.specs.Inner.{Machine.IsCfaBehind, Steps.InLimit, Turns.{Did, IsWithinLimit, cie_machine}};
 
 use crate::instr::Instr;
 use crate::machine::{End, Machine, refuse};
@@ -74,7 +75,7 @@ pub(crate) trait Keep<'a> {
 /// The CFA's rule behind an instruction (6.4.2.2), or none where that keeps half of a rule that has none.
 #[inline(always)]
 pub(crate) fn cfa_behind<'a>(instr: Instr<'a>, cfa: &CfaRule<'a>) -> Option<CfaRule<'a>>
-    ensures { MatchOption result (half_fault instr.entry cfa.now ≡ Some CfaNotRegister) (λ rule. (half_fault instr.entry cfa.now ≡ None) × (rule ≡ cfa_change instr.entry cfa.now)) }
+    ensures { IsCfaBehind instr.entry cfa.now result }
 {
     match (instr, cfa) {
         (Instr::DefCfa { register, offset }, _) => Some(CfaRule::Register { register, offset }),

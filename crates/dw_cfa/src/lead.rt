@@ -4,7 +4,7 @@ ghost use Rattle.std.specs.Prelude.{◌≡◌, ◌<◌, Ok, Err, IfErr, IsTrue, 
 ghost use Rattle.dw_num.specs.Refusals.{Refuses};
 ghost use Rattle.dw_row.specs.States.{BeganWith};
 ghost use Rattle.dw_cfa.specs.{Behind.LeavesTo, RowSteps.program_input};
-ghost use Rattle.dw_cfa.specs.Inner.{Turns.Entered, FrontInstr.instr_at, RowWalk.{HasInitial, IsLed, LeadsSame, led_row}};
+ghost use Rattle.dw_cfa.specs.Inner.{Turns.Entered, FrontInstr.instr_at, RowWalk.{HasInitial, IsLed, LeadsSame, ReadAlike, led_row}};
 ghost use Rattle.dw_cfa.specs.declared.instr.{Factors.{Factors as TheFactors}, Instr.TheVariants.Nop};
 
 use crate::instr::{Factors, Instr};
@@ -24,7 +24,7 @@ pub(crate) struct Leading<'a> {
 
 // Whether the bytes are equal, and what they are read with.
 fn is_equal(leading: Leading<'_>, other: Leading<'_>) -> bool
-    ensures { IsTrue result → (leading.entry.program.bytes.now ≡ other.entry.program.bytes.now) × (leading.entry.target ≡ other.entry.target) × (leading.entry.factors ≡ other.entry.factors) }
+    ensures { IsTrue result → ReadAlike leading.entry other.entry }
 {
     if leading.factors != other.factors || leading.target != other.target {
         return false;

@@ -94,7 +94,9 @@ impl<'a> LookUp<'a> {
 impl<'a> Keep<'a> for LookUp<'a> {
     ghost machine = { λ k. look_up_at k.initial.value (address_limit k.size) k.row (kept_if k.remembers k.kept) k.location };
 
-    ghost takes = { λ k i at end fault k'. Did false i at (look_up_at k.initial.value (address_limit k.size) k.row (kept_if k.remembers k.kept) k.location) end fault (look_up_at k'.initial.value (address_limit k'.size) k'.row (kept_if k'.remembers k'.kept) k'.location) };
+    ghost takes = { λ k i at end fault k'. Did false i at
+        (look_up_at k.initial.value (address_limit k.size) k.row (kept_if k.remembers k.kept) k.location) end fault
+        (look_up_at k'.initial.value (address_limit k'.size) k'.row (kept_if k'.remembers k'.kept) k'.location) };
 
     #[inline(always)]
     fn take(&mut self, instr: Instr<'a>, at: u64, fault: &mut Refusal) -> End {

@@ -4,7 +4,7 @@ ghost use Rattle.std.specs.Prelude.{◌≡◌, ◌<◌, ◌≤◌, Some, IfErr, 
 ghost use Rattle.dw_num.specs.{Refusals.Refuses, Target.address_limit};
 ghost use Rattle.dw_row.specs.Rows.{blank};
 ghost use Rattle.dw_cfa.specs.{Faults.{FaultUpTo, NoFaultUpTo}, Gives.RunsTo, RowSteps.program_input, RuleAt.last_at, Runs.Outcome};
-ghost use Rattle.dw_cfa.specs.Inner.{RuleAt.FoundAt, Runs.RunsSo};
+ghost use Rattle.dw_cfa.specs.Inner.{RuleAt.{FoundAt, FoundBehind}, Runs.RunsSo};
 
 use crate::execution::run_to;
 use crate::instr::Factors;
@@ -27,7 +27,8 @@ fn run_both<'a>(
 ) -> Result<(), ReadError>
     requires so { RunsSo machine.old fde.old }
     requires start { machine.old.location ≤ address }
-    ensures { FoundAt address leading.now.factors (program_input leading.now.program leading.now.target) fde.old machine.old.location machine.new.states.row result }
+    ensures { FoundAt address leading.now.factors
+        (program_input leading.now.program leading.now.target) fde.old machine.old.location machine.new.states.row result }
 {
     lead(leading, machine)?;
     run_to(fde, leading.factors, machine, address)
@@ -91,7 +92,7 @@ impl<'a> RowRoom<'a> {
     ) -> Result<(), ReadError>
         requires begin { begin < address_limit leading.target.size }
         requires start { begin ≤ address }
-        ensures { FoundAt address leading.entry.factors (program_input leading.entry.program leading.entry.target) (program_input fde_program.entry leading.entry.target) begin self.new result }
+        ensures { FoundBehind address leading.entry fde_program.entry begin self.new result }
     {
         let target = leading.target;
         let mut machine = Machine::new(self.alloc, begin, target);
@@ -112,7 +113,7 @@ impl<'a> RowRoom<'a> {
     ) -> Result<(), ReadError>
         requires begin { begin < address_limit leading.target.size }
         requires start { begin ≤ address }
-        ensures { FoundAt address leading.entry.factors (program_input leading.entry.program leading.entry.target) (program_input fde_program.entry leading.entry.target) begin self.new result }
+        ensures { FoundBehind address leading.entry fde_program.entry begin self.new result }
     {
         let mut fde = Cursor::new(fde_program.bytes, fde_program.at, leading.target);
         let Err(error) = run_look_up(&leading, &mut fde, &mut self.look, begin, address) else {
@@ -141,9 +142,14 @@ impl<'a> RowRoom<'a> {
     ) -> Result<(), ReadError>
         requires begin { begin < address_limit target.size }
         requires start { begin ≤ address }
-        ensures found { (o : Outcome) → RunsTo factors (program_input cie_program.entry target) (program_input fde_program.entry target) begin o → OnOk result (last_at address o.rows ≡ Some self.new) }
-        ensures err { (o : Outcome) → RunsTo factors (program_input cie_program.entry target) (program_input fde_program.entry target) begin o → IfErr result (Refuses (λ r. o.fault ≡ Some r)) }
-        ensures up_to { IfErr result (Refuses (FaultUpTo factors (program_input cie_program.entry target) (program_input fde_program.entry target) begin address)) }
+        ensures found { (o : Outcome) →
+            RunsTo factors (program_input cie_program.entry target) (program_input fde_program.entry target) begin o →
+            OnOk result (last_at address o.rows ≡ Some self.new) }
+        ensures err { (o : Outcome) →
+            RunsTo factors (program_input cie_program.entry target) (program_input fde_program.entry target) begin o →
+            IfErr result (Refuses (λ r. o.fault ≡ Some r)) }
+        ensures up_to { IfErr result
+            (Refuses (FaultUpTo factors (program_input cie_program.entry target) (program_input fde_program.entry target) begin address)) }
         ensures none { OnOk result (NoFaultUpTo factors (program_input cie_program.entry target) (program_input fde_program.entry target) begin address) }
     {
         are_bytes(cie_program.bytes);

@@ -55,7 +55,12 @@ impl<'a> Model for RowWalk<'a> {
 
     ghost Value = { Walking };
 
-    ghost view = { λ w. record { steps = walk_of w.progress w.leading w.fde w.machine; kept = w.machine.states.kept; led = led_of w.leading; initial = initial_of w.progress w.machine.initial } };
+    ghost view = { λ w. record {
+      steps = walk_of w.progress w.leading w.fde w.machine;
+      kept = w.machine.states.kept;
+      led = led_of w.leading;
+      initial = initial_of w.progress w.machine.initial;
+    } };
 
     ghost invariant = { λ w. WalksSo w.progress w.kept w.leading w.fde w.machine };
 }
@@ -104,7 +109,8 @@ impl<'a> RowWalk<'a> {
     // The same by the run that the code keeps to.
     fn begin(&mut self, fde_program: Program<'a>, begin: u64)
         requires { begin < address_limit self.old.led.program.target.size }
-        ensures steps { self.new.steps ≡ stepping self.old.steps.current (run_rows self.old.led.factors self.old.led.program (program_input fde_program.entry self.old.led.program.target) begin) }
+        ensures steps { self.new.steps ≡ stepping self.old.steps.current
+            (run_rows self.old.led.factors self.old.led.program (program_input fde_program.entry self.old.led.program.target) begin) }
         ensures kept { self.new.kept ≡ self.old.kept }
         ensures led { self.new.led ≡ self.old.led }
         ensures initial { self.new.initial ≡ None }
@@ -122,7 +128,8 @@ impl<'a> RowWalk<'a> {
     pub fn go_to(&mut self, fde_program: Program<'a>, begin: u64)
         requires { begin < address_limit self.old.led.program.target.size }
         ensures steps { self.new.steps ≡ stepping self.old.steps.current self.new.steps.outcome }
-        ensures runs { RunsTo self.old.led.factors self.old.led.program (program_input fde_program.entry self.old.led.program.target) begin self.new.steps.outcome }
+        ensures runs { RunsTo self.old.led.factors self.old.led.program
+            (program_input fde_program.entry self.old.led.program.target) begin self.new.steps.outcome }
         ensures kept { self.new.kept ≡ self.old.kept }
         ensures led { self.new.led ≡ self.old.led }
         ensures initial { self.new.initial ≡ None }
@@ -165,7 +172,8 @@ impl<'a> RowWalk<'a> {
     /// on, until `go_to`.
     pub fn lacks_rule(&mut self, end: u128) -> Result<bool, ReadError>
         requires { self.old.steps.error ≡ None }
-        ensures found { IfOk result (λ lacks. (self.old.steps.outcome.fault ≡ None) × MatchBool lacks (Lacks end self.old.steps.outcome.rows) (Lacks end self.old.steps.outcome.rows → ⊥)) }
+        ensures found { IfOk result (λ lacks. (self.old.steps.outcome.fault ≡ None) ×
+            MatchBool lacks (Lacks end self.old.steps.outcome.rows) (Lacks end self.old.steps.outcome.rows → ⊥)) }
         ensures refused { IfErr result (Refuses (λ r. self.old.steps.outcome.fault ≡ Some r)) }
         ensures after { MatchResult result (λ _. self.new.steps ≡ stepping self.new.steps.current finished) (λ e. self.new.steps.error ≡ Some e) }
         ensures kept { self.new.kept ≡ self.old.kept }
@@ -213,7 +221,8 @@ impl<'a> RowWalk<'a> {
         ensures kept { IfOk result (λ kept. IsTrue kept → LeavesTo self.old.led.factors self.old.led.program (Ok self.new.kept)) }
         ensures begun { IfOk result (λ kept. IsTrue kept ↔ (self.old.initial ≡ None) × (self.old.steps.outcome ≡ finished → ⊥)) }
         ensures same { IfOk result (λ kept. kept ≡ false → self.new ≡ self.old) }
-        ensures rows { OnOk result (self.new.steps ≡ record { outcome = self.old.steps.outcome; current = self.new.steps.current; error = self.old.steps.error }) }
+        ensures rows { OnOk result (self.new.steps ≡
+            record { outcome = self.old.steps.outcome; current = self.new.steps.current; error = self.old.steps.error }) }
         ensures failed { IfErr result (λ e. Failed self.old.steps e self.new.steps) }
         ensures led { self.new.led ≡ self.old.led }
         ensures initial { self.new.initial ≡ self.old.initial }

@@ -45,7 +45,9 @@ pub fn run<'a>(
 ) -> Result<Rows<'a>, ReadError>
     requires { begin < address_limit target.size }
     ensures rows { IfOk result (λ rows. Gives factors (program_input cie_program.entry target) (program_input fde_program.entry target) begin rows.items) }
-    ensures only { (rows : List TheLocatedRow) → Gives factors (program_input cie_program.entry target) (program_input fde_program.entry target) begin rows → MatchResult result (λ v. v.items ≡ rows) (λ e. e ≡ OutOfMemory) }
+    ensures only { (rows : List TheLocatedRow) →
+        Gives factors (program_input cie_program.entry target) (program_input fde_program.entry target) begin rows →
+        MatchResult result (λ v. v.items ≡ rows) (λ e. e ≡ OutOfMemory) }
     ensures refused { IfErr result (Refuses (RunFault factors (program_input cie_program.entry target) (program_input fde_program.entry target) begin)) }
 {
     are_bytes(cie_program.bytes);

@@ -2,7 +2,8 @@
 
 ghost use Rattle.std.specs.Prelude.{◌≡◌, ℕ, ℤ, ◌+◌, ◌<◌, ◌≤◌, ◌^◌, List, [], ◌∷◌, ◌++◌, length, take, IfErr, IfOk, None, Some};
 ghost use Rattle.dw_num.specs.{Fixed.{Address, Fixed, IsWidth, SpellsLength, fixed_number}, Front.{Reads, fixed_at, take_at, register_at}};
-ghost use Rattle.dw_num.specs.{Front.{leb_len, uleb_at, sleb_at, address_at, unit_length_at}, Input.{AreBytes, Takes, behind}, Leb.{Register, Sleb, Uleb}, declared.refusal.Code.TheVariants.Truncated};
+ghost use Rattle.dw_num.specs.{Front.{leb_len, uleb_at, sleb_at, address_at, unit_length_at}, Input.{AreBytes, Takes, behind}};
+ghost use Rattle.dw_num.specs.{Leb.{Register, Sleb, Uleb}, declared.refusal.Code.TheVariants.Truncated};
 
 use crate::leb::{read_signed, read_unsigned};
 use crate::refusal::{Code, Refusal};

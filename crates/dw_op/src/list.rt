@@ -66,7 +66,8 @@ impl<'a> OpList<'a> {
     #[tactic(auto, using(crate::proofs::Lent::Ranges::first_bad))]
     pub fn from_ops(ops: Vec<Op<'a>>, target: Target) -> Result<OpList<'a>, BadOperand>
         // What is answered is the list, and it is in range.
-        ensures found { IfOk result (λ list. (list ≡ record { target = target; ops = map bare ops.entry.items }) × AllInRange target (map bare ops.entry.items)) }
+        ensures found { IfOk result (λ list.
+            (list ≡ record { target = target; ops = map bare ops.entry.items }) × AllInRange target (map bare ops.entry.items)) }
         // A list in range is not refused.
         ensures only { AllInRange target (map bare ops.entry.items) → IsOk result }
         // A refusal names the first operation out of range.

@@ -1,7 +1,8 @@
 -- How the code finds that rows leave an address without a rule for the CFA.
-use Rattle.std.specs.Prelude.{ℕ, ◌&&◌, ◌||◌, Bool, true, false, List, [], ◌∷◌, nat_lt}
+use Rattle.std.specs.Prelude.{◌≡◌, None, ℕ, ◌&&◌, ◌||◌, Bool, true, false, List, [], ◌∷◌, nat_lt}
 use Rattle.dw_row.specs.declared.rule.CfaRule.{CfaRule, TheVariants.Unset}
-use Rattle.dw_cfa.specs.declared.execution.LocatedRow.{LocatedRow}
+use Rattle.dw_num.specs.Input.{Input}
+use Rattle.dw_cfa.specs.{Inner.Runs.rows_left, declared.{execution.LocatedRow.LocatedRow, instr.Factors.Factors, machine.Machine.Machine}}
 
 abbrev pub is_unset : CfaRule → Bool
 is_unset Unset = true
@@ -15,3 +16,7 @@ leaves_one end low unset location = unset && (nat_lt low location && nat_lt low 
 abbrev pub lacks_from : ℕ → ℕ → Bool → List LocatedRow → Bool
 lacks_from end low unset [] = unset && nat_lt low end
 lacks_from end low unset (row ∷ rows) = leaves_one end low unset row.location || lacks_from end row.location (is_unset row.row.cfa) rows
+
+-- what is left to a machine has no fault, and this says whether its rows leave an address below the end without a rule
+abbrev pub LeavesLacking : Factors → Input → Machine → ℕ → Bool → Type 0
+LeavesLacking f i m end lacks = ((rows_left f i m).fault ≡ None) × ((low : ℕ) → lacks ≡ lacks_from end low false (rows_left f i m).rows)

@@ -1,5 +1,5 @@
 -- The machine that runs call frame instructions: DWARF 5, 6.4.2 and 6.4.3. It goes forwards, with whole rows and a stack of remembered ones.
-use Rattle.std.specs.Prelude.{ℕ, ◌+◌, List, [], ◌∷◌, length, Bool, true, false, Option, Some, None, nat_lt, if◌then◌else◌}
+use Rattle.std.specs.Prelude.{◌≡◌, MatchOption, ℕ, ◌+◌, List, [], ◌∷◌, length, Bool, true, false, Option, Some, None, nat_lt, if◌then◌else◌}
 use Rattle.dw_num.specs.declared.refusal.Code.{Code}
 use Rattle.dw_num.specs.declared.refusal.Code.TheVariants.{NotInCie, LocationBackwards, LocationTooLarge, EmptyStateStack, StateStackFull, CfaNotRegister}
 use Rattle.dw_row.specs.{Rows.{Rules, rule, with_cfa, with_rule}, declared.rule.CfaRule.CfaRule}
@@ -49,6 +49,10 @@ after initial i s = record { row = changed initial i s.row; stack = s.stack; loc
 abbrev pub half_fault : Instr → CfaRule → Option Code
 half_fault i (cfa.Register r n) = None
 half_fault i other = if keeps_half i then Some CfaNotRegister else None
+
+-- the CFA's rule behind an instruction, or none where that keeps half of a rule that has none
+abbrev pub IsCfaBehind : Instr → CfaRule → Option CfaRule → Type 0
+IsCfaBehind i cfa r = MatchOption r (half_fault i cfa ≡ Some CfaNotRegister) (λ rule. (half_fault i cfa ≡ None) × (rule ≡ cfa_change i cfa))
 
 -- what stands against an instruction of a CIE's program
 abbrev pub cie_fault : Instr → Rules → Option Code

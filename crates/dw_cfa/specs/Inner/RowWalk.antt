@@ -43,6 +43,10 @@ WalkStands other fde m = BeganWith m.initial m.states.first
 abbrev pub HasInitial : Leading → Machine → Type 0
 HasInitial l m = led_row l ≡ Ok m.initial
 
+-- programs of equal bytes, which are read with the same
+abbrev pub ReadAlike : Leading → Leading → Type 0
+ReadAlike l k = (l.program.bytes.now ≡ k.program.bytes.now) × (l.target ≡ k.target) × (l.factors ≡ k.factors)
+
 -- both run a CIE's program alike
 abbrev pub LeadsSame : Leading → Leading → Type 0
 LeadsSame l k = (m : Machine) → HasInitial l m → HasInitial k m

@@ -1,8 +1,8 @@
 -- What the code and its proofs say beside RuleAt.
 use Rattle.std.specs.Prelude.{◌≡◌, ℕ, ◌≤◌, List, Result, Ok, Err, Some, length}
-use Rattle.dw_num.specs.{Input.Input, Refusals.Refuses, declared.error.ReadError.ReadError}
+use Rattle.dw_num.specs.{Input.Input, Refusals.Refuses, declared.{error.ReadError.ReadError, program.Program.Program}}
 use Rattle.dw_row.specs.Rows.{Rules}
-use Rattle.dw_cfa.specs.{Location.{onto, location_back}, RuleAt.last_at, declared.instr.{Factors.Factors, Instr.Instr}}
+use Rattle.dw_cfa.specs.{Location.{onto, location_back}, RowSteps.program_input, RuleAt.last_at, declared.{instr.{Factors.Factors, Instr.Instr}, lead.Leading.Leading}}
 use Rattle.dw_cfa.specs.Inner.Runs.{StopsAbove, run_rows, run_stop}
 
 -- the instructions that count at address a, behind those that came earlier, are the next k
@@ -16,3 +16,7 @@ abbrev pub FoundAt : {X : Type 0} → ℕ → Factors → Input → Input → �
 FoundAt a f cie fde begin row (Ok x) =
     (last_at a (run_rows f cie fde begin).rows ≡ Some row) × StopsAbove (run_rows f cie fde begin).fault (run_stop f cie fde begin) a
 FoundAt a f cie fde begin row (Err e) = Refuses (λ r. ((run_rows f cie fde begin).fault ≡ Some r) × (run_stop f cie fde begin ≤ a)) e
+
+-- the same of the programs as they are handed on
+abbrev pub FoundBehind : {X : Type 0} → ℕ → Leading → Program → ℕ → Rules → Result X ReadError → Type 0
+FoundBehind a l fde begin row r = FoundAt a l.factors (program_input l.program l.target) (program_input fde l.target) begin row r

@@ -103,6 +103,14 @@ run_stop f cie fde begin = stop_on (initial_row (placed f cie) blank) begin (λ 
 abbrev pub StopsAbove : Option Refusal → ℕ → ℕ → Type 0
 StopsAbove fault stop a = (r : Refusal) → fault ≡ Some r → a < stop
 
+-- the fault of what is left to a machine, if there is one, comes above an address
+abbrev pub NoneLeftUpTo : Factors → Input → Machine → ℕ → Type 0
+NoneLeftUpTo f i m a = StopsAbove (rows_left f i m).fault (stop_left f i m) a
+
+-- it is this one, and comes up to an address
+abbrev pub LeftUpTo : Factors → Input → Machine → ℕ → Refusal → Type 0
+LeftUpTo f i m a r = ((rows_left f i m).fault ≡ Some r) × (stop_left f i m ≤ a)
+
 -- the rows of an FDE's program behind an initial row
 unfoldable pub rows_behind : Factors → Rules → Input → ℕ → Outcome
 rows_behind f initial fde begin = fde_rows (address_limit fde.target.size) initial (placed f fde).items (placed f fde).fault (begun initial begin)
