@@ -9,7 +9,7 @@ ghost use Rattle.dw_command.specs.Engine.{Runs};
 mod explained;
 
 use crate::explained::{Explained, Held, Piped};
-use dw_command::{Disk, Hinted, Shown, engine};
+use dw_command::{Disk, Hinted, Load, Shown, engine};
 use std::io::{ErrorKind, IsTerminal, Write};
 use std::process::ExitCode;
 use std::{env, io};
@@ -19,8 +19,24 @@ fn words_of(rt: &HostRuntime) -> io::Result<Vec<String>> {
     Ok(env::args(rt)?.collect(rt.alloc())?)
 }
 
-// The exit status of the command over the files of the system, for people: beside the one line of a failure, hints say
-// more, and nothing is said where the reader of a pipe has gone. A terminal is told no control characters of a path.
+// The exit status of the command, whose one line of a failure goes on to `err` unless the reader of a pipe has gone.
+fn run_held<L: Load, W: Write, E: Write>(
+    rt: &HostRuntime,
+    words: &[String],
+    files: &mut L,
+    out: &mut Piped<W>,
+    err: &mut Held<E>,
+) -> u8
+    ensures runs { Runs (L.gives files.old) (W.contents out.old.out) (W.contents out.new.out) (map string_bytes words.now) result }
+    ensures most { result ≤ 5 }
+{
+    let status = engine(rt.alloc(), words, files, out, err);
+    let _ = err.finish(out.is_closed());
+    status
+}
+
+// The same over the files of the system, for people: beside the one line of a failure, hints say more. A terminal is told no
+// control characters of a path.
 fn run_for_people<W: Write>(rt: &HostRuntime, words: &[String], out: &mut Piped<W>) -> u8
     ensures runs { Runs (λ _ _. ⊤) (W.contents out.old.out) (W.contents out.new.out) (map string_bytes words.now) result }
     ensures most { result ≤ 5 }
@@ -28,9 +44,7 @@ fn run_for_people<W: Write>(rt: &HostRuntime, words: &[String], out: &mut Piped<
     let files = Explained::new(Disk::new(rt), rt, Shown::new(rt.stderr()));
     let mut files = Hinted::new(files, Shown::new(rt.stderr()));
     let mut err = Held::new(Shown::new(rt.stderr()));
-    let status = engine(rt.alloc(), words, &mut files, out, &mut err);
-    let _ = err.finish(out.is_closed());
-    status
+    run_held(rt, words, &mut files, out, &mut err)
 }
 
 // The same, also for programs, which find one line on standard error.
