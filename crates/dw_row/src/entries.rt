@@ -3,7 +3,7 @@
 ghost use Rattle.std.specs.Prelude.{◌≡◌, ◌<◌, [], IfSome, OnOk, OnErr, MatchOption, IsTrue, ◌↔◌};
 ghost use Rattle.dw_row.specs.{Difference.{FirstDifference, place_behind}, Rows.{rule_in, is_specified, put}};
 ghost use Rattle.dw_row.specs.declared.{rule.{RegRule.{RegRule as TheRule, TheVariants.Unspecified}}, slot.Slot.TheVariants.Beside};
-ghost use Rattle.dw_row.specs.Inner.{Difference.{FirstBelow, SameUnset}, Entries.{entries_of, EntriesSo, IsSlotOf, slot_rule}};
+ghost use Rattle.dw_row.specs.Inner.{Difference.{FirstBelow, SameUnset}, Entries.{entries_of, EntriesSo, HasSlot, IsSlotOf, slot_rule}};
 
 use crate::behind::start_behind;
 use crate::near_slots::{bit_of, is_in, next_in, same_slots};
@@ -153,12 +153,13 @@ impl<'a> Entries<'a> {
     }
 
     // Gives a register that has a slot a rule that is kept beside it.
-    #[tactic(auto, using(crate::proofs::Slots::expression_put, crate::proofs::Slots::expression_holds, crate::proofs::Slots::put_so, crate::proofs::Slots::set_length))]
+    #[tactic(auto, using(crate::proofs::Slots::expression_put, crate::proofs::Slots::expression_holds, crate::proofs::Slots::more_beside, crate::proofs::Slots::put_so, crate::proofs::Slots::set_length))]
     #[inline(never)]
     fn put_beside(&mut self, register: u16, rule: RegRule<'a>) -> Result<(), AllocError>
         requires so { EntriesSo self.old }
         requires near { register < 128 }
         requires specified { IsTrue (is_specified rule) }
+        requires beside { HasSlot rule → ⊥ }
         ensures ok { OnOk result (entries_of self.new ≡ put register rule.entry (entries_of self.old)) }
         ensures so { EntriesSo self.new }
         ensures err { OnErr result (entries_of self.new ≡ entries_of self.old) }
@@ -196,6 +197,7 @@ impl<'a> Entries<'a> {
         requires others { EntriesSo others.now }
         requires near { register < 128 }
         requires specified { IsTrue (is_specified (rule_in (entries_of others.now) register)) }
+        requires beside { HasSlot (rule_in (entries_of others.now) register) → ⊥ }
         ensures ok { OnOk result (entries_of self.new ≡ put register (rule_in (entries_of others.now) register) (entries_of self.old)) }
         ensures so { EntriesSo self.new }
         ensures err { OnErr result (entries_of self.new ≡ entries_of self.old) }

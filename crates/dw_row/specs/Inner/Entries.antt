@@ -1,6 +1,6 @@
 -- Where the registers of a row lie: those below 128 in slots under a mask, with their expressions in a tree, and the others in another tree.
-use Rattle.std.specs.Prelude.{◌≡◌, ℕ, zero, suc, ◌<◌, ◌≤◌, ◌-◌, List, ◌∷◌, length, Bool, Option, Some, None, IsTrue, nat_eq, nat_lt, if◌then◌else◌}
-use Rattle.std.specs.{BTreeMap.Range.entries_between, Int.bit_at, Ordering.nat_cmp, declared.ops.Bound.TheVariants.Unbounded}
+use Rattle.std.specs.Prelude.{◌≡◌, ℕ, zero, suc, ◌<◌, ◌≤◌, ◌-◌, FitsSigned, List, ◌∷◌, length, Bool, Option, Some, None, IsTrue, nat_eq, nat_lt, if◌then◌else◌}
+use Rattle.std.specs.{BTreeMap.Range.entries_between, Int.{bit_at, w16}, Ordering.nat_cmp, declared.ops.Bound.TheVariants.Unbounded}
 use Rattle.std.proofs.Math.ListN.{get_or}
 use Rattle.dw_row.specs.{Rows.{AreSpecified, is_specified, rule_in, listed}, declared.{entries.Entries.Entries, rule.RegRule.RegRule, slot.Slot.Slot}}
 use Rattle.dw_row.specs.Inner.Difference.{start_behind}
@@ -20,6 +20,19 @@ slot_rule slots.Beside block = block
 abbrev pub IsSlotOf : RegRule → Slot → Type 0
 IsSlotOf rule slots.Beside = Unit {0}
 IsSlotOf rule s = (block : RegRule) → slot_rule s block ≡ rule
+
+-- a slot holds the rule by itself: it has no expression, and no offset of more than 16 bits
+abbrev pub HasSlot : RegRule → Type 0
+HasSlot rules.Unspecified = ⊥
+HasSlot (rules.Offset n) = FitsSigned w16 n
+HasSlot (rules.ValOffset n) = FitsSigned w16 n
+HasSlot (rules.Expression e) = ⊥
+HasSlot (rules.ValExpression e) = ⊥
+HasSlot rule = Unit {0}
+
+-- of the rules beside the slots none has one
+abbrev pub NoneHasSlot : List (ℕ × RegRule) → Type 0
+NoneHasSlot expressions = (q : ℕ) → HasSlot (rule_in expressions q) → ⊥
 
 -- what an index outside would find
 abbrev pub no_slot : Slot
@@ -61,11 +74,12 @@ SameOutside mask old new = (q : ℕ) → bit_at mask q ≡ 0 → get_or new q no
 abbrev pub Holds : ℕ → List Slot → List (ℕ × RegRule) → Type 0
 Holds used near expressions = (q : ℕ) → bit_at used q ≡ 1 → IsTrue (is_specified (near_rule used near expressions q))
 
--- the trees ascend, and the slots are those below all that have none
+-- the trees ascend, the slots are those below all that have none, and no rule is kept beside them without need
 pub record EntriesSo (e : Entries) : Type 0 where
   pub used : Holds e.used e.slots e.expressions.entries
   pub slots : length e.slots ≡ 128
   pub expressions : AreSpecified 0 e.expressions.entries
+  pub beside : NoneHasSlot e.expressions.entries
   pub far : AreSpecified 128 e.far.entries
 
 -- the first bit of a mask from a place on, of those below an end
