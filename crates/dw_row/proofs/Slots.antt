@@ -87,6 +87,8 @@ far_set f far r rule far' up le is =
     is_put r rule (listed_from 0 128 f far) (listed_from 0 128 f far') (slots_ascend f far up) (slots_ascend f far' up') (λ q.
     grind (arith, nat_tests, is, row_rule f far' up' q, row_rule f far up q, put_rule r rule 128 far q up))
 
+pub ruleset far_put = (entries_ascend, far_set, put_so)
+
 -- ---- a slot under the mask
 
 pub unset_rule : (used : ℕ) (near : List Slot) (expressions : List Entry) (q : ℕ) → bit_at used q ≡ 0 → near_rule used near expressions q ≡ Unspecified
@@ -112,6 +114,8 @@ not_in n q b is e = grind (arith, nat_tests, is, e, bit_at-lt n q)
 
 pub one_in : (n q : ℕ) (b : Bool) → b ≡ nat_eq (bit_at n q) 1 → b ≡ true → bit_at n q ≡ 1
 one_in n q b is e = grind (arith, nat_tests, is, e)
+
+pub ruleset looked_up = (is_given, is_set, not_in, not_set, one_in)
 
 -- no register is held by an empty mask
 pub none_hold : (near : List Slot) (expressions : List Entry) → Holds 0 near expressions
@@ -223,6 +227,8 @@ module _ (e : Entries) (so : EntriesSo e) (r : ℕ) (s : Slot) (new : List Slot)
 
     pub expression_holds : IsTrue (is_specified rule) → Holds (bit_or e.used b) new expressions'
     expression_holds given = slot_holds expressions' others (subst (λ (x : RegRule). IsTrue (is_specified x)) (sym here) given)
+
+pub ruleset kept_beside = (expression_put, expression_holds, more_beside, put_so, set_length)
 
 -- ---- registers that are taken out of the mask
 

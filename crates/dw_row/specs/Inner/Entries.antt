@@ -1,5 +1,5 @@
 -- Where the registers of a row lie: those below 128 in slots under a mask, with their expressions in a tree, and the others in another tree.
-use Rattle.std.specs.Prelude.{◌≡◌, ℕ, zero, suc, ◌<◌, ◌≤◌, ◌-◌, FitsSigned, List, ◌∷◌, length, Bool, Option, Some, None, IsTrue, nat_eq, nat_lt, if◌then◌else◌}
+use Rattle.std.specs.Prelude.{◌≡◌, ℕ, zero, suc, ◌<◌, ◌≤◌, ◌-◌, FitsSigned, List, [], ◌∷◌, length, Bool, Option, Some, None, IsTrue, nat_eq, nat_lt, if◌then◌else◌}
 use Rattle.std.specs.{BTreeMap.Range.entries_between, Int.{bit_at, w16}, Ordering.nat_cmp, declared.ops.Bound.TheVariants.Unbounded}
 use Rattle.std.proofs.Math.ListN.{get_or}
 use Rattle.dw_row.specs.{Rows.{AreSpecified, is_specified, rule_in, listed}, declared.{entries.Entries.Entries, rule.RegRule.RegRule, slot.Slot.Slot}}
@@ -61,6 +61,16 @@ far_behind behind far = entries_between nat_cmp (start_behind behind) Unbounded 
 -- the registers that are not Unspecified, ascending, with their rules
 abbrev pub entries_of : Entries → List (ℕ × RegRule)
 entries_of e = listed_near 0 e.used e.slots e.expressions.entries e.far.entries
+
+-- the first of a tree behind a register, or of all of it; none where none is there
+abbrev pub FirstBehind : Option ℕ → List (ℕ × RegRule) → Option (ℕ × RegRule) → Type 0
+FirstBehind behind far None = far_behind behind far ≡ []
+FirstBehind behind far (Some entry) = far_behind behind far ≡ entry ∷ far_behind (Some entry.0) far
+
+-- a register has the rule of the slot that is found, and is Unspecified where none is
+abbrev pub FindsSlot : Entries → ℕ → Option Slot → Type 0
+FindsSlot e r None = rule_in (entries_of e) r ≡ rules.Unspecified
+FindsSlot e r (Some slot) = rule_in (entries_of e) r ≡ slot_rule slot (rule_in e.expressions.entries r)
 
 -- the slots of a mask are those of others
 abbrev pub SameSlots : ℕ → List Slot → List Slot → Type 0
