@@ -5,10 +5,10 @@ use Rattle.dw_eval.specs.declared.stack.Flow.TheVariants as flow
 use Rattle.dw_eval.specs.declared.stack.Stop.TheVariants as stop
 use Rattle.dw_eval.proofs.Words.{◌≡◌, ℕ, ◌%◌, address_limit, ◌<◌, ◌≤◌, zero, suc, map, List, [], ◌∷◌, ◌++◌, length, Option, Some, None, Result, Ok, Err, ap, inl, arith, refl, sym, subst, slice_get, slice_get_within, Op, Deref, DerefSize, Reg, Piece, BitPiece, Implicit, StackValue, Nop, byte_count, bare}
 use Rattle.dw_eval.proofs.Words.{branch_target, AllInRange, TargetWithin, EvalError, Fault, OutOfMemory, Kind, StackUnderflow, MissingPiece, Unreadable, Place, Context, context, read_at, OpEffect, Next, known, on_top, push}
-use Rattle.dw_eval.proofs.{Words.{Faults, effect, StepsWithoutMemory, PlaceState, place_here, with_piece, with_value, bare_piece, pieces_of, free_step, held_step, refused, step_by, place_step, StepsTo, Acts}, Effects.{InSpace, StepTells, effect_tells, leads_tells, led_within, in_range_at}}
+use Rattle.dw_eval.proofs.{Words.{Faults, effect, Leaves, LeavesOver, StepsWithoutMemory, state_of, PlaceState, place_reads, place_here, with_piece, with_value, bare_piece, pieces_of, free_step, held_step, refused, step_by, place_step, StepsTo, Acts}, Effects.{InSpace, StepTells, effect_tells, leads_tells, led_within, in_range_at}}
 use Rattle.dw_num.specs.declared.target.Order.{Order}
 unfoldable use Rattle.dw_eval.specs.Bytes.{number_in_memory}
-use Rattle.dw_eval.specs.{Inner.Steps.{refusal}, declared.env.Env.Env}
+use Rattle.dw_eval.specs.{Inner.Steps.{refusal}, declared.{description.Description.Description, env.Env.Env}}
 
 -- a step without memory is one over a memory that stays
 pub steps_so : (step : Result PlaceState Kind) (Read : Type 0) (i before : ℕ) (state : ℕ → PlaceState) (result : Result ℕ EvalError) (after : ℕ) → StepsWithoutMemory step i state result → after ≡ before → StepsTo step Read i before state result after
@@ -48,19 +48,20 @@ refusal_so env byte none op stack new Read answer i state e h is =
     subst P (unread env none byte (bare op) stack) (rw is (refused_so (effect (context env none) (bare op) stack) Read answer new i state h))
 
 -- where it is no piece and no nop
-pub held_else : (env : Env) (byte : ℕ → Option ℕ) (op : Op) (s : PlaceState) (i : ℕ) (state : ℕ → PlaceState) (result : Result ℕ EvalError) → ((n : ℕ) → op ≡ Piece n → ⊥) → ((n k : ℕ) → op ≡ BitPiece n k → ⊥) → (op ≡ Nop → ⊥)
-    → ((byte : ℕ → Option ℕ) → StepsWithoutMemory (refused (effect (context env byte) (bare op) s.stack)) i state result) → StepsWithoutMemory (held_step (context env byte) (bare op) s) i state result
-held_else env byte (Piece n) s i state result piece bits nop h = absurd (piece n refl)
-held_else env byte (BitPiece n k) s i state result piece bits nop h = absurd (bits n k refl)
-held_else env byte Nop s i state result piece bits nop h = absurd (nop refl)
-held_else env byte op s i state result piece bits nop h = h byte
+pub held_else : (env : Env) (byte : ℕ → Option ℕ) (op : Op) (s : PlaceState) (i : ℕ) (d : Description) (result : Result ℕ EvalError) → ((n : ℕ) → op ≡ Piece n → ⊥) → ((n k : ℕ) → op ≡ BitPiece n k → ⊥) → (op ≡ Nop → ⊥)
+    → ((byte : ℕ → Option ℕ) → Leaves (refused (effect (context env byte) (bare op) s.stack)) i d result) → Leaves (held_step (context env byte) (bare op) s) i d result
+held_else env byte (Piece n) s i d result piece bits nop h = absurd (piece n refl)
+held_else env byte (BitPiece n k) s i d result piece bits nop h = absurd (bits n k refl)
+held_else env byte Nop s i d result piece bits nop h = absurd (nop refl)
+held_else env byte op s i d result piece bits nop h = h byte
 
 -- a step while a place is pending
-pub held_so : (env : Env) (byte : ℕ → Option ℕ) (op : Op) (s : PlaceState) (place : Place) (Read : Type 0) (i before : ℕ) (state : ℕ → PlaceState) (result : Result ℕ EvalError) (after : ℕ) → s.pending ≡ Some place
-    → ((byte : ℕ → Option ℕ) → StepsWithoutMemory (held_step (context env byte) op s) i state result) → after ≡ before → StepsTo (place_step (context env byte) op s) Read i before state result after
-held_so env byte op s place Read i before state result after e h same =
-    let P : Option Place → Type 0 = λ p. StepsTo (step_by (context env byte) op p s) Read i before state result after in
-    subst P (sym e) (steps_so (held_step (context env byte) op s) Read i before state result after (h byte) same)
+pub held_so : (env : Env) (byte : ℕ → Option ℕ) (op : Op) (i before : ℕ) (old new : Description) (place : Place) (result : Result ℕ EvalError) (after : ℕ) → (state_of i old).pending ≡ Some place
+    → ((byte : ℕ → Option ℕ) → Leaves (held_step (context env byte) op (state_of i old)) i new result) → after ≡ before → LeavesOver (context env byte) op i old before new result after
+held_so env byte op i before old new place result after e h same =
+    let c = context env byte in let s = state_of i old in let Read = place_reads c op s in let state : ℕ → PlaceState = λ next. state_of next new in
+    let P : Option Place → Type 0 = λ p. StepsTo (step_by c op p s) Read i before state result after in
+    subst P (sym e) (steps_so (held_step c op s) Read i before state result after (h byte) same)
 
 module _ (c : Context) (op : Op) (s : PlaceState) (before : ℕ) (result : Result ℕ EvalError) (after : ℕ) (none : s.pending ≡ None) where
   abbrev Goes : Option Place → Type 0 → (ℕ → PlaceState) → Type 0

@@ -12,5 +12,5 @@ pub use Rattle.dw_eval.specs.{Evaluation.{Evaluates, State, index_of, top_of, va
 pub use Rattle.dw_eval.specs.Location.{Located, PlaceState, bare_piece, bare_place, free_step, held_step, pieces_of, place_here, place_index, place_reads, place_start, place_step, refused, step_by, with_piece, with_stack, with_value}
 pub use Rattle.dw_eval.specs.{Registers.held, Runs.{IsResult, Runs}, declared.error.EvalError.EvalError, declared.error.EvalError.TheVariants.{Fault, OutOfMemory}}
 pub use Rattle.dw_eval.specs.declared.{error.Kind.Kind, error.Kind.TheVariants.{Device, DivideByZero, EmptyResult, MissingPiece, NoCfa, NoFrameBase, NoObject, NoRegister, StackUnderflow, StepLimit, Unreadable}, place.Part.TheVariants.Whole}
-pub use Rattle.dw_eval.specs.{declared.place.Place.Place, Inner.Description.{StepsWithoutMemory, state_of}}
+pub use Rattle.dw_eval.specs.{declared.place.Place.Place, Inner.Description.{Leaves, LeavesOver, StepsWithoutMemory, state_of}}
 pub use Rattle.dw_eval.specs.Inner.{Evaluation.{EvaluatesOver, ValueRuns, led}, Location.{LocatesOver, PlaceRuns, place_led}, Registers.{PlacesSo, near_held}, Steps.{Acts, Does, StepsTo}}

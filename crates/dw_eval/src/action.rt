@@ -3,8 +3,7 @@
 ghost use Rattle.std.specs.Prelude.{◌≡◌, ℕ, ◌+◌, ◌-◌, ◌^◌, ◌<◌, ◌≤◌, IsTrue, ◌↔◌};
 ghost use Rattle.dw_num.specs.Target.{address_limit, byte_count};
 ghost use Rattle.dw_op.specs.{Expression.bare, declared.op.Op.TheVariants.DerefSize};
-ghost use Rattle.dw_eval.specs.{Context.{context, read_at}, Effect.{on_top, known, push, effect, ReadsAt, ReadsMemory}};
-ghost use Rattle.dw_eval.specs.{declared.error.Kind.TheVariants.Unreadable, Inner.Steps.Acts};
+ghost use Rattle.dw_eval.specs.{Context.context, Inner.Steps.{ActsOn, ReadsTop}};
 
 use crate::arithmetic::{offset_by, reduced, shifted_left, shifted_right, shifted_signed, signed};
 use crate::env::Env;
@@ -33,7 +32,7 @@ fn read<M: Memory>(stack: &mut Stack, len: usize, env: &Env<'_>, memory: &mut M)
     requires most { len ≤ byte_count env.now.target.size }
     requires room { M.failures memory.old < 2 ^ 64 - 1 }
     ensures same { M.byte memory.new ≡ M.byte memory.old }
-    ensures acts { let c = context env.now (M.byte memory.old) in Acts (on_top stack.old (λ t below. known (Unreadable t len) (read_at c t len) (λ v. push env.now.target.size v below))) (ReadsAt c len stack.old) (M.failures memory.old) result stack.new (M.failures memory.new) }
+    ensures acts { ReadsTop (context env.now (M.byte memory.old)) len stack.old (M.failures memory.old) result stack.new (M.failures memory.new) }
 {
     let target = env.target;
     let address = stack.take()?;
@@ -58,7 +57,7 @@ pub(crate) fn act<M: Memory>(
     requires access { (len : ℕ) → op.now ≡ DerefSize len → (1 ≤ len) × (len ≤ byte_count env.now.target.size) }
     requires room { M.failures memory.old < 2 ^ 64 - 1 }
     ensures same { M.byte memory.new ≡ M.byte memory.old }
-    ensures acts { let c = context env.now (M.byte memory.old) in Acts (effect c (bare op.now) stack.old) (ReadsMemory c (bare op.now) stack.old) (M.failures memory.old) result stack.new (M.failures memory.new) }
+    ensures acts { ActsOn (context env.now (M.byte memory.old)) (bare op.now) stack.old (M.failures memory.old) result stack.new (M.failures memory.new) }
 {
     let size = env.target.size;
     match *op {

@@ -1,6 +1,6 @@
 //! Arithmetic on values: numbers modulo 2^N, where an address has N bits (2.5.1.4).
 
-ghost use Rattle.std.specs.Prelude.{◌≡◌, ◌+◌, ◌*◌, ◌%◌, ◌<◌, pos, ◌+ℤ◌, ◌-ℤ◌, int_div, int_lt, if◌then◌else◌, negsuc, unsigned_abs};
+ghost use Rattle.std.specs.Prelude.{◌≡◌, ◌+◌, ◌*◌, ◌%◌, ◌<◌, pos, ◌+ℤ◌, int_div, if◌then◌else◌};
 ghost use Rattle.dw_num.specs.Target.{address_limit};
 ghost use Rattle.dw_op.specs.Operands.{modulo};
 ghost use Rattle.dw_eval.specs.{Context.signed, Effect.{bit_count, shifted_left, shifted_right, shifted_signed}};

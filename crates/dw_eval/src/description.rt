@@ -1,13 +1,12 @@
 //! Location descriptions (2.6).
 
-ghost use Rattle.std.specs.Prelude.{◌≡◌, ◌⊎◌, ℕ, ◌-◌, ◌^◌, ◌<◌, ◌≤◌, length, map, option_map, Ok, Err, List, [], ◌∷◌, Option, None, MatchResult};
-ghost use Rattle.std.specs.Prelude.{IsTrue, false};
+ghost use Rattle.std.specs.Prelude.{◌≡◌, ◌⊎◌, ℕ, ◌-◌, ◌^◌, ◌<◌, ◌≤◌, IsTrue, false, length, map, option_map, Ok, Err, [], Option, None};
 ghost use Rattle.dw_num.specs.Target.{byte_count};
 ghost use Rattle.dw_op.specs.{Expression.bare, Ranges.AllInRange, declared.op.Op.TheVariants.DerefSize};
-ghost use Rattle.dw_eval.specs.Location.{bare_piece, bare_place, bare_result, place_here, place_step, place_reads, with_piece, with_place, with_value};
-ghost use Rattle.dw_eval.specs.{Context.context, Effect.effect, Location.{held_step, refused, pieces_of, LocatedIn, PlaceMayFailIn}};
+ghost use Rattle.dw_eval.specs.{Context.context, Effect.effect, Location.{bare_place, bare_result, place_here, with_piece, with_place}};
+ghost use Rattle.dw_eval.specs.Location.{held_step, refused, LocatedIn, PlaceMayFailIn};
 ghost use Rattle.dw_eval.specs.declared.error.{EvalError.TheVariants.{Fault, OutOfMemory}, Kind.Kind, Kind.TheVariants.{Device, MissingPiece}};
-ghost use Rattle.dw_eval.specs.{declared.place.Piece.Piece, Inner.{Description.{state_of, StepsWithoutMemory}, Location.LocatesOver, Steps.{StepsTo, refusal}}};
+ghost use Rattle.dw_eval.specs.Inner.{Description.{state_of, EndsBehind, Finishes, Leaves, LeavesOver}, Location.LocatesOver, Steps.refusal};
 
 use crate::action::act;
 use crate::env::Env;
@@ -82,7 +81,7 @@ impl<'a> Description<'a> {
     // Adds a piece, and empties the stack.
     fn add(&mut self, part: Part, index: usize) -> Result<usize, EvalError>
         requires { index < 2 ^ 64 - 1 }
-        ensures { StepsWithoutMemory (Ok (with_piece part (state_of index self.old))) index (λ next. state_of next self.new) result }
+        ensures { Leaves (Ok (with_piece part (state_of index self.old))) index self.new result }
     {
         let place = self.place();
         self.pieces
@@ -95,7 +94,7 @@ impl<'a> Description<'a> {
 
     fn set(&mut self, place: Place<'a>, index: usize) -> Result<usize, EvalError>
         requires { index < 2 ^ 64 - 1 }
-        ensures { StepsWithoutMemory (Ok (with_place (bare_place place.entry) self.old.stack (state_of index self.old))) index (λ next. state_of next self.new) result }
+        ensures { Leaves (Ok (with_place (bare_place place.entry) self.old.stack (state_of index self.old))) index self.new result }
     {
         self.pending = Some(place);
         Ok(index + 1)
@@ -105,7 +104,7 @@ impl<'a> Description<'a> {
     #[tactic(auto, using(crate::proofs::PlaceSteps::refusal_so))]
     fn refuse(&mut self, op: &Op<'a>, index: usize, env: &Env<'_>) -> Result<usize, EvalError>
         requires access { (len : ℕ) → op.now ≡ DerefSize len → (1 ≤ len) × (len ≤ byte_count env.now.target.size) }
-        ensures { (byte : ℕ → Option ℕ) → StepsWithoutMemory (refused (effect (context env.now byte) (bare op.now) self.old.stack)) index (λ next. state_of next self.new) result }
+        ensures { (byte : ℕ → Option ℕ) → Leaves (refused (effect (context env.now byte) (bare op.now) self.old.stack)) index self.new result }
     {
         let answer = act(op, &mut self.stack, env, &mut NoMemory);
         Err(refusal(answer, index))
@@ -116,7 +115,7 @@ impl<'a> Description<'a> {
     fn hold(&mut self, op: &Op<'a>, index: usize, env: &Env<'_>) -> Result<usize, EvalError>
         requires inside { index < 2 ^ 64 - 1 }
         requires access { (len : ℕ) → op.now ≡ DerefSize len → (1 ≤ len) × (len ≤ byte_count env.now.target.size) }
-        ensures { (byte : ℕ → Option ℕ) → StepsWithoutMemory (held_step (context env.now byte) (bare op.now) (state_of index self.old)) index (λ next. state_of next self.new) result }
+        ensures { (byte : ℕ → Option ℕ) → Leaves (held_step (context env.now byte) (bare op.now) (state_of index self.old)) index self.new result }
     {
         match *op {
             Op::Piece(size) => self.add(Part::Bytes(size), index),
@@ -139,7 +138,8 @@ impl<'a> Description<'a> {
         requires access { (len : ℕ) → op.now ≡ DerefSize len → (1 ≤ len) × (len ≤ byte_count env.now.target.size) }
         requires room { M.failures memory.old < 2 ^ 64 - 1 }
         ensures same { M.byte memory.new ≡ M.byte memory.old }
-        ensures so { let c = context env.now (M.byte memory.old) in StepsTo (place_step c (bare op.now) (state_of index self.old)) (place_reads c (bare op.now) (state_of index self.old)) index (M.failures memory.old) (λ next. state_of next self.new) result (M.failures memory.new) }
+        ensures so { LeavesOver (context env.now (M.byte memory.old)) (bare op.now) index
+            self.old (M.failures memory.old) self.new result (M.failures memory.new) }
     {
         match self.pending {
             Some(_) => self.hold(op, index, env),
@@ -159,8 +159,8 @@ impl<'a> Description<'a> {
 
     // Whether a pending place or an entry of the stack is left.
     fn leaves_some(&self) -> bool
-        ensures some { IsTrue result → (len : ℕ) (piece : Piece) (pieces : List Piece) → pieces_of len (option_map bare_place self.now.pending) self.now.stack (piece ∷ pieces) ≡ Err (Fault MissingPiece len) }
-        ensures none { result ≡ false → (len : ℕ) (piece : Piece) (pieces : List Piece) → pieces_of len (option_map bare_place self.now.pending) self.now.stack (piece ∷ pieces) ≡ Ok (piece ∷ pieces) }
+        ensures some { IsTrue result → EndsBehind self.now (λ len pieces. Err (Fault MissingPiece len)) }
+        ensures none { result ≡ false → EndsBehind self.now (λ len pieces. Ok pieces) }
     {
         self.pending.is_some() || self.stack.len() > 0
     }
@@ -168,7 +168,7 @@ impl<'a> Description<'a> {
     /// The pieces at the end of a list of this length: one whole piece where there is none yet, and nothing
     /// may be left behind pieces.
     pub(crate) fn finish(mut self, len: usize) -> Result<Vec<Piece<'a>>, EvalError>
-        ensures { let answer = pieces_of len (option_map bare_place self.entry.pending) self.entry.stack (map bare_piece self.entry.pieces.items) in MatchResult result (λ v. answer ≡ Ok (map bare_piece v.items)) (λ e. (e ≡ OutOfMemory) ⊎ (answer ≡ Err e)) }
+        ensures { Finishes len self.entry result }
     {
         if self.pieces.is_empty() {
             let whole = Piece {
@@ -196,7 +196,8 @@ fn run<'a, M: Memory>(
     requires range { AllInRange env.now.target (map bare ops.now) }
     requires room { M.failures memory.old < 2 ^ 64 - 1 }
     ensures same { M.byte memory.new ≡ M.byte memory.old }
-    ensures so { let so = LocatesOver (map bare ops.now) (context env.now (M.byte memory.old)) steps (M.failures memory.old) in MatchResult result (λ v. so (Ok (map bare_piece v.items)) (M.failures memory.new)) (λ e. so (Err e) (M.failures memory.new)) }
+    ensures so { LocatesOver (map bare ops.now) (context env.now (M.byte memory.old)) steps
+        (M.failures memory.old) (bare_result result) (M.failures memory.new) }
 {
     let mut description = Description::new(alloc);
     let mut index = 0;
@@ -234,9 +235,11 @@ pub fn locate<'a, M: Memory>(
     // The count of failures stays or grows.
     ensures counted { M.failures memory.old ≤ M.failures memory.new }
     // Where it stays, the answer is the description's, or want of memory.
-    ensures answered { M.failures memory.new ≡ M.failures memory.old → (result ≡ Err OutOfMemory) ⊎ LocatedIn list.now.ops env.now (M.byte memory.old) steps (bare_result result) }
+    ensures answered { M.failures memory.new ≡ M.failures memory.old →
+        (result ≡ Err OutOfMemory) ⊎ LocatedIn list.now.ops env.now (M.byte memory.old) steps (bare_result result) }
     // Where it grows, a read of an operation that is reached has failed.
-    ensures failed { M.failures memory.old < M.failures memory.new → (i : ℕ) × (result ≡ Err (Fault Device i)) × PlaceMayFailIn list.now.ops env.now (M.byte memory.old) steps i }
+    ensures failed { M.failures memory.old < M.failures memory.new →
+        (i : ℕ) × (result ≡ Err (Fault Device i)) × PlaceMayFailIn list.now.ops env.now (M.byte memory.old) steps i }
     // A fault's index is that of an operation, or the list's length.
     ensures within { (kind : Kind) (i : ℕ) → result ≡ Err (Fault kind i) → i ≤ length list.now.ops }
     // No other failure is named.

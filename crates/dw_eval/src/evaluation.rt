@@ -93,9 +93,11 @@ pub fn evaluate<M: Memory>(
     // The count of failures stays or grows.
     ensures counted { M.failures memory.old ≤ M.failures memory.new }
     // Where it stays, the answer is the expression's, or want of memory.
-    ensures answered { M.failures memory.new ≡ M.failures memory.old → (result ≡ Err OutOfMemory) ⊎ EvaluatesIn list.now.ops start env.now (M.byte memory.old) steps result }
+    ensures answered { M.failures memory.new ≡ M.failures memory.old →
+        (result ≡ Err OutOfMemory) ⊎ EvaluatesIn list.now.ops start env.now (M.byte memory.old) steps result }
     // Where it grows, a read of an operation that is reached has failed.
-    ensures failed { M.failures memory.old < M.failures memory.new → (i : ℕ) × (result ≡ Err (Fault Device i)) × MayFailIn list.now.ops start env.now (M.byte memory.old) steps i }
+    ensures failed { M.failures memory.old < M.failures memory.new →
+        (i : ℕ) × (result ≡ Err (Fault Device i)) × MayFailIn list.now.ops start env.now (M.byte memory.old) steps i }
     // A fault's index is that of an operation, or the list's length.
     ensures within { (kind : Kind) (i : ℕ) → result ≡ Err (Fault kind i) → i ≤ length list.now.ops }
     // No other failure is named.

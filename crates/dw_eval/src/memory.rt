@@ -32,6 +32,7 @@ pub trait Memory {
         requires room { failures self.old < 2 ^ 64 - 1 }
         ensures same { byte self.new ≡ byte self.old }
         ensures found { IfOk result (λ v. (number_in_memory (byte self.old) order address len ≡ Some v) × (failures self.new ≡ failures self.old)) }
-        ensures missing { result ≡ Err ReadFault.Unreadable → (number_in_memory (byte self.old) order address len ≡ None) × (failures self.new ≡ failures self.old) }
+        ensures missing { result ≡ Err ReadFault.Unreadable →
+            (number_in_memory (byte self.old) order address len ≡ None) × (failures self.new ≡ failures self.old) }
         ensures device { result ≡ Err ReadFault.Device → failures self.old < failures self.new };
 }

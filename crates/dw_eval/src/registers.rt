@@ -1,7 +1,7 @@
 //! Values of registers.
 
 ghost use Rattle.std.specs.Prelude.{◌≡◌, ℕ, ◌+◌, ◌<◌, ◌≤◌, ◌==◌, Some, None, [], length, max, OnOk, OnErr, if◌then◌else◌};
-ghost use Rattle.dw_eval.specs.{Registers.held, Inner.Registers.{any_held, near_held}};
+ghost use Rattle.dw_eval.specs.{Registers.held, Inner.Registers.{any_held, near_held, IsHeld}};
 
 use std::alloc::{AllocError, Global};
 use std::marker::Model;
@@ -63,7 +63,7 @@ fn hold_near(known: &mut [bool; 128], values: &mut [u64; 128], index: usize, val
     requires known { length known.old ≡ 128 }
     requires values { length values.old ≡ 128 }
     requires near { index < 128 }
-    ensures held { (r : ℕ) → near_held known.new values.new r ≡ (if r == index then Some value else near_held known.old values.old r) }
+    ensures held { IsHeld index value (near_held known.old values.old) (near_held known.new values.new) }
     ensures known { length known.new ≡ 128 }
     ensures values { length values.new ≡ 128 }
 {
@@ -74,7 +74,7 @@ fn hold_near(known: &mut [bool; 128], values: &mut [u64; 128], index: usize, val
 // And one that has none.
 fn hold_far(far: &mut Vec<Option<u64>>, place: usize, value: u64) -> Result<(), AllocError>
     requires { place < 65536 }
-    ensures held { OnOk result ((r : ℕ) → held far.new.items r ≡ (if r == place then Some value else held far.old.items r)) }
+    ensures held { OnOk result (IsHeld place value (held far.old.items) (held far.new.items)) }
     ensures err { OnErr result (far.new.items ≡ far.old.items) }
 {
     if place >= far.len() {
@@ -95,7 +95,7 @@ fn hold(
 ) -> Result<(), AllocError>
     requires known { length known.old ≡ 128 }
     requires values { length values.old ≡ 128 }
-    ensures held { OnOk result ((r : ℕ) → any_held known.new values.new far.new.items r ≡ (if r == register then Some value else any_held known.old values.old far.old.items r)) }
+    ensures held { OnOk result (IsHeld register value (any_held known.old values.old far.old.items) (any_held known.new values.new far.new.items)) }
     ensures err { OnErr result ((known.new ≡ known.old) × (values.new ≡ values.old) × (far.new.items ≡ far.old.items)) }
     ensures known { length known.new ≡ 128 }
     ensures values { length values.new ≡ 128 }

@@ -1,10 +1,9 @@
 //! The stack of values (2.5.1), and what operations do to it: stack operations (2.5.1.3), arithmetic and logic (2.5.1.4),
 //! comparisons and branches (2.5.1.5).
 
-ghost use Rattle.std.specs.Prelude.{◌≡◌, ℕ, ◌%◌, List, [], ◌∷◌, length, slice_get, IfOk, IfErr, nat_eq, int_div, if◌then◌else◌};
-ghost use Rattle.dw_num.specs.Target.{address_limit};
-ghost use Rattle.dw_eval.specs.{Context.signed, Effect.{OpEffect, Next, Jump, Faults, on_top, on_two, on_three, known, nonzero, push, push_signed}};
-ghost use Rattle.dw_eval.specs.{declared.error.Kind.TheVariants.StackUnderflow, Inner.Steps.{Does, MakesOfOne, MakesOfTwo}};
+ghost use Rattle.std.specs.Prelude.{◌≡◌, ℕ, ◌%◌, List, [], ◌∷◌, length, slice_get, IfOk, IfErr, nat_eq, if◌then◌else◌};
+ghost use Rattle.dw_eval.specs.Effect.{Next, Jump, on_top, on_two, on_three, known, nonzero, push};
+ghost use Rattle.dw_eval.specs.{declared.error.Kind.TheVariants.StackUnderflow, Inner.Steps.{Does, LacksTwo, MakesOfOne, MakesOfTwo, divides}};
 
 use crate::arithmetic;
 use crate::error::Kind;
@@ -99,7 +98,7 @@ impl Stack {
     /// Takes the second and the top, in this order, of which there have to be two.
     pub(crate) fn take_two(&mut self) -> Result<(u64, u64), Stop>
         ensures found { IfOk result (λ p. self.old ≡ p.1 ∷ p.0 ∷ self.new) }
-        ensures short { IfErr result (λ e. (e ≡ Stop.Fault StackUnderflow) × ((f : ℕ → ℕ → List ℕ → OpEffect) → on_two self.old f ≡ Faults StackUnderflow)) }
+        ensures short { IfErr result (λ e. (e ≡ Stop.Fault StackUnderflow) × LacksTwo self.old) }
     {
         let top = self.take()?;
         let second = self.take()?;
@@ -150,7 +149,7 @@ impl Stack {
     }
 
     pub(crate) fn div(&mut self, size: Size) -> Answer
-        ensures { Does (on_two self.old (λ s t below. nonzero (t % address_limit size) (push_signed size (int_div (signed size s) (signed size t)) below))) result self.new }
+        ensures { Does (divides size self.old) result self.new }
     {
         let (s, t) = self.take_two()?;
         if arithmetic::reduced(t, size) == 0 {

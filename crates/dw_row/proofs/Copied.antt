@@ -77,6 +77,7 @@ module _ (old others : Entries) (slots : List Slot) (so : EntriesSo old) (so' : 
     used = λ q one. subst (λ (r : RegRule). IsTrue (is_specified r)) (sym (rules_are q)) (so'.used q one);
     slots = len;
     expressions = so.expressions;
+    beside = so.beside;
     far = so.far;
   }
 

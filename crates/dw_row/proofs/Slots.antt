@@ -1,10 +1,10 @@
 -- Registers in slots: what is set in one register's slot is what setting that register leaves.
-use Rattle.dw_row.proofs.Words.{if◌then◌else◌, nat_lt, ◌≡◌, ◌⊎◌, Bool, true, false, inl, inr, cases_eq, cases_lt, ℕ, zero, suc, ◌+◌, ◌<◌, ◌≤◌, cond, Some}
+use Rattle.dw_row.proofs.Words.{if◌then◌else◌, nat_lt, ◌≡◌, ◌⊎◌, Bool, true, false, inl, inr, cases_Bool, cases_eq, cases_lt, ℕ, zero, suc, ◌+◌, ◌<◌, ◌≤◌, cond, Some}
 use Rattle.dw_row.proofs.Words.{None, List, [], ◌∷◌, length, get_or, refl, sym, ap, ◌∙◌, subst, arith, get_or-set_same, get_or-set_other, nat_tests, IsTrue}
 use Rattle.dw_row.proofs.Words.{nat_eq, ◌-◌, ◌*◌, ◌/◌, ◌%◌, ◌^◌, bit_or, bit_and, bit_at, bit_not, trailing_zeros, w64, w128, Option, not, div-le_self}
 use Rattle.dw_row.proofs.Words.{bit_at-zero, bit_at_above, bit_at-trailing_zeros, bit_at_set_same, bit_at_set_other, bit_at_clear_other, bit_at_clear_same}
 use Rattle.dw_row.proofs.Words.{bit_at_or, Entries, RegRule, Slot, Unspecified, is_specified, AreSpecified, rule_in, listed, put, EntriesSo, length-set}
-use Rattle.dw_row.proofs.Words.{entries_of, slot_rule, listed_from, listed_near, near_rule, no_slot, rule_if, FirstBit, FirstIn, Holds, IsSlotOf, set}
+use Rattle.dw_row.proofs.Words.{entries_of, slot_rule, listed_from, listed_near, near_rule, no_slot, rule_if, FirstBit, FirstIn, HasSlot, Holds, IsSlotOf, NoneHasSlot, set}
 use Rattle.dw_row.proofs.Words.{pow-add, shr-shr, bit_at-lt, bit_at_and, bit_at_cat_low}
 use Rattle.dw_row.proofs.Lent.RowLists.{Entry, lower, listed_is, listed_keeps, listed_rule, other_rule, put_keeps, put_rule, same_rule_set, unlisted}
 use Rattle.dw_row.proofs.Lent.SameRows.{first_rule, same_entries}
@@ -66,6 +66,10 @@ none_far e so none r le = behind_slots e so r le ∙ ap (λ (xs : List Entry). r
 pub put_so : (r low : ℕ) (rule : RegRule) (old new : List Entry) → new ≡ put r rule old → AreSpecified low old → low ≤ r → AreSpecified low new
 put_so r low rule old new is up le = subst (AreSpecified low) (sym is) (put_keeps r rule low old up le)
 
+-- a rule more beside the slots
+pub more_beside : (r : ℕ) (rule : RegRule) (old new : List Entry) → new ≡ put r rule old → AreSpecified 0 old → NoneHasSlot old → (HasSlot rule → ⊥) → NoneHasSlot new
+more_beside r rule old new is up none without q = rw (is, put_rule r rule 0 old q up) (elim (cases_Bool (nat_eq r q)) [ inl e ↦ rw e without | inr e ↦ rw e (none q) ])
+
 -- a list in which a register has a rule, and all others keep theirs
 pub is_put : (r : ℕ) (rule : RegRule) (old new : List Entry) → AreSpecified 0 old → AreSpecified 0 new → ((q : ℕ) → rule_in new q ≡ cond (nat_eq r q) rule (rule_in old q)) → new ≡ put r rule old
 is_put r rule old new up up' is = same_entries 0 new (put r rule old) up' (put_keeps r rule 0 old up (omega arith)) (λ q. is q ∙ sym (put_rule r rule 0 old q up))
@@ -82,6 +86,8 @@ far_set f far r rule far' up le is =
     let up' = put_so r 128 rule far far' is up le in
     is_put r rule (listed_from 0 128 f far) (listed_from 0 128 f far') (slots_ascend f far up) (slots_ascend f far' up') (λ q.
     grind (arith, nat_tests, is, row_rule f far' up' q, row_rule f far up q, put_rule r rule 128 far q up))
+
+pub ruleset far_put = (entries_ascend, far_set, put_so)
 
 -- ---- a slot under the mask
 
@@ -108,6 +114,8 @@ not_in n q b is e = grind (arith, nat_tests, is, e, bit_at-lt n q)
 
 pub one_in : (n q : ℕ) (b : Bool) → b ≡ nat_eq (bit_at n q) 1 → b ≡ true → bit_at n q ≡ 1
 one_in n q b is e = grind (arith, nat_tests, is, e)
+
+pub ruleset looked_up = (is_given, is_set, not_in, not_set, one_in)
 
 -- no register is held by an empty mask
 pub none_hold : (near : List Slot) (expressions : List Entry) → Holds 0 near expressions
@@ -219,6 +227,8 @@ module _ (e : Entries) (so : EntriesSo e) (r : ℕ) (s : Slot) (new : List Slot)
 
     pub expression_holds : IsTrue (is_specified rule) → Holds (bit_or e.used b) new expressions'
     expression_holds given = slot_holds expressions' others (subst (λ (x : RegRule). IsTrue (is_specified x)) (sym here) given)
+
+pub ruleset kept_beside = (expression_put, expression_holds, more_beside, put_so, set_length)
 
 -- ---- registers that are taken out of the mask
 

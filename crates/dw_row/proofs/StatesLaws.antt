@@ -184,6 +184,8 @@ module _ {tracked is_listed : Bool} {saved : KeptRow} {row kept : Rules} {items 
             ap (λ (t : Bool). first_if t row''.registers) free ∙ sym (sym (ap (λ (h : Held). h.first) is) ∙ ap (λ (t : Bool). first_if t before.1) free),
           )
 
+pub ruleset changed = (listed_behind, ruled, same_held, same_so)
+
 -- ---- changes that are taken back
 
 pub no_items : (items items' : List Undo) → (0 < length items → false ≡ true) → items ≡ items' ++ [] → (items ≡ []) × (items' ≡ [])

@@ -14,11 +14,11 @@ unfoldable pub use Rattle.dw_row.specs.Inner.{Entries.listed_from, States.rows_b
 pub use Rattle.dw_row.specs.{Agreement.{InCommon, IsAgreed, is_kept, kept}, Difference.{DiffersFirst, FirstDifference, SameBetween, place_behind}}
 pub use Rattle.dw_row.specs.declared.entries.Entries.{Entries}
 pub use Rattle.dw_row.specs.declared.{rule.{CfaRule.{CfaRule, TheVariants.Unset}, RegRule.{RegRule, TheVariants.{SameValue, Unspecified}}}, slot.Slot.Slot}
-pub use Rattle.dw_row.specs.Inner.Entries.{EntriesSo, FirstBit, FirstIn, Holds, IsSlotOf, LeavesAmong, LeavesAt, LeavesBelow, SameOutside, SameSlots}
+pub use Rattle.dw_row.specs.Inner.Entries.{EntriesSo, FirstBit, FirstIn, HasSlot, Holds, IsSlotOf, LeavesAmong, LeavesAt, LeavesBelow, NoneHasSlot, SameOutside, SameSlots}
 pub use Rattle.dw_row.specs.Inner.Entries.{entries_of, far_behind, left, listed_near, near_rule, no_slot, rule_if, slot_rule}
 pub use Rattle.dw_row.specs.Inner.{Agreement.{agreed, is_agreed, same_cfa, same_rule}, Difference.{SameUnset, start_behind}}
 pub use Rattle.dw_row.specs.Inner.{Among.{CopiedUpTo, SameUnlisted, in_mask, in_tree}, Kept.KeptSo, RowEquality.{cfa_tells, rows_tell, rule_tells, same_rows}}
 pub use Rattle.dw_row.specs.Inner.States.{StatesSo, TakenBack, held, saved_if, shown, stacked}
 pub use Rattle.dw_row.specs.RegisterSets.{AgreesBeside, Registers, has}
-pub use Rattle.dw_row.specs.Rows.{AreSpecified, Rules, is_specified, rule, rule_in, listed, put, with_cfa, with_rule}
+pub use Rattle.dw_row.specs.Rows.{AreSpecified, BeginsShort, IsShortOffset, Rules, is_specified, rule, rule_in, listed, put, with_cfa, with_rule}
 pub use Rattle.dw_row.specs.States.{BeganWith, Held, Restored, first_if, remembering, with_row}

@@ -1,6 +1,7 @@
 -- Rows of rules: DWARF 5, 6.4.1. A row says how to find the canonical frame address and each register.
-use Rattle.std.specs.Prelude.{ℕ, suc, ◌≤◌, List, [], ◌∷◌, Bool, true, false, IsTrue, nat_eq, nat_lt, if◌then◌else◌}
-use Rattle.dw_row.specs.declared.rule.{CfaRule.{CfaRule, TheVariants.Unset}, RegRule.{RegRule, TheVariants.Unspecified}}
+use Rattle.std.specs.Prelude.{ℕ, suc, ◌<◌, ◌≤◌, FitsSigned, List, [], ◌∷◌, Bool, true, false, IsTrue, nat_eq, nat_lt, if◌then◌else◌}
+use Rattle.std.specs.Int.{w16}
+use Rattle.dw_row.specs.declared.rule.{CfaRule.{CfaRule, TheVariants.Unset}, RegRule.{RegRule, TheVariants.{Offset, Unspecified}}}
 
 -- the CFA's rule, and the registers that are not Unspecified with their rules
 pub record Rules : Type 0 where
@@ -25,6 +26,16 @@ rule_in (entry ∷ rest) r = if nat_eq entry.0 r then entry.1 else rule_in rest 
 -- the rule of a register
 abbrev pub rule : Rules → ℕ → RegRule
 rule row r = rule_in row.registers r
+
+-- it is saved at an offset of 16 bits
+abbrev pub IsShortOffset : RegRule → Type 0
+IsShortOffset (Offset n) = FitsSigned w16 n
+IsShortOffset rule = ⊥
+
+-- the first register is below 128, and saved at such an offset
+abbrev pub BeginsShort : List (ℕ × RegRule) → Type 0
+BeginsShort [] = ⊥
+BeginsShort (entry ∷ rest) = (entry.0 < 128) × IsShortOffset entry.1
 
 -- nothing is set
 abbrev pub blank : Rules

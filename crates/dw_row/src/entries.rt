@@ -1,9 +1,9 @@
 //! The registers of a row with their rules (6.4.1).
 
-ghost use Rattle.std.specs.Prelude.{◌≡◌, ◌<◌, [], IfSome, OnOk, OnErr, MatchOption, IsTrue, ◌↔◌};
+ghost use Rattle.std.specs.Prelude.{◌≡◌, ◌<◌, [], IfSome, OnOk, OnErr, IsTrue, ◌↔◌};
 ghost use Rattle.dw_row.specs.{Difference.{FirstDifference, place_behind}, Rows.{rule_in, is_specified, put}};
 ghost use Rattle.dw_row.specs.declared.{rule.{RegRule.{RegRule as TheRule, TheVariants.Unspecified}}, slot.Slot.TheVariants.Beside};
-ghost use Rattle.dw_row.specs.Inner.{Difference.{FirstBelow, SameUnset}, Entries.{entries_of, EntriesSo, IsSlotOf, slot_rule}};
+ghost use Rattle.dw_row.specs.Inner.{Difference.{FirstBelow, SameUnset}, Entries.{entries_of, EntriesSo, FindsSlot, HasSlot, IsSlotOf}};
 
 use crate::behind::start_behind;
 use crate::near_slots::{bit_of, is_in, next_in, same_slots};
@@ -28,12 +28,12 @@ pub(crate) struct Entries<'a> {
 
 impl<'a> Entries<'a> {
     // The slot of a register that is specified.
-    #[tactic(auto, using(crate::proofs::Slots::is_given, crate::proofs::Slots::is_set, crate::proofs::Slots::not_in, crate::proofs::Slots::not_set, crate::proofs::Slots::one_in))]
+    #[tactic(auto, using(crate::proofs::Slots::looked_up))]
     #[inline(always)]
     pub(crate) fn slot(&self, register: u16) -> Option<Slot>
         requires so { EntriesSo self.now }
         requires near { register < 128 }
-        ensures rule { MatchOption result (rule_in (entries_of self.now) register ≡ Unspecified) (λ slot. rule_in (entries_of self.now) register ≡ slot_rule slot (rule_in self.now.expressions.entries register)) }
+        ensures rule { FindsSlot self.now register result }
         ensures specified { IfSome result (λ slot. IsTrue (is_specified (rule_in (entries_of self.now) register))) }
     {
         if !is_in(self.used, register) {
@@ -153,12 +153,13 @@ impl<'a> Entries<'a> {
     }
 
     // Gives a register that has a slot a rule that is kept beside it.
-    #[tactic(auto, using(crate::proofs::Slots::expression_put, crate::proofs::Slots::expression_holds, crate::proofs::Slots::put_so, crate::proofs::Slots::set_length))]
+    #[tactic(auto, using(crate::proofs::Slots::kept_beside))]
     #[inline(never)]
     fn put_beside(&mut self, register: u16, rule: RegRule<'a>) -> Result<(), AllocError>
         requires so { EntriesSo self.old }
         requires near { register < 128 }
         requires specified { IsTrue (is_specified rule) }
+        requires beside { HasSlot rule → ⊥ }
         ensures ok { OnOk result (entries_of self.new ≡ put register rule.entry (entries_of self.old)) }
         ensures so { EntriesSo self.new }
         ensures err { OnErr result (entries_of self.new ≡ entries_of self.old) }
@@ -196,6 +197,7 @@ impl<'a> Entries<'a> {
         requires others { EntriesSo others.now }
         requires near { register < 128 }
         requires specified { IsTrue (is_specified (rule_in (entries_of others.now) register)) }
+        requires beside { HasSlot (rule_in (entries_of others.now) register) → ⊥ }
         ensures ok { OnOk result (entries_of self.new ≡ put register (rule_in (entries_of others.now) register) (entries_of self.old)) }
         ensures so { EntriesSo self.new }
         ensures err { OnErr result (entries_of self.new ≡ entries_of self.old) }

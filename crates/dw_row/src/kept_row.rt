@@ -1,8 +1,8 @@
 //! A row that was kept, and the registers that were set since (6.4.1).
 
 ghost use Rattle.std.specs.Prelude.{◌≡◌, ◌↔◌, List, ℕ, IsTrue, OnErr, OnOk, false};
-ghost use Rattle.dw_row.specs.{Difference.{FirstDifference, place_behind}, Rows.{AreSpecified, blank, put, with_rule}};
-ghost use Rattle.dw_row.specs.{declared.{rule.{RegRule.{RegRule as TheRule}}}, Inner.Kept.KeptSo};
+ghost use Rattle.dw_row.specs.{Difference.{FirstDifference, place_behind}, Rows.{AreSpecified, blank, with_rule}};
+ghost use Rattle.dw_row.specs.{declared.{rule.{RegRule.{RegRule as TheRule}}}, Inner.Kept.{IsMarked, KeptSo}};
 
 use crate::entries::NEAR;
 use crate::register_set::RegisterSet;
@@ -41,7 +41,7 @@ impl<'a> KeptRow<'a> {
         ensures watched { self.new.watched ≡ self.old.watched }
         ensures same { OnErr result (self.new ≡ self.old) }
         ensures still { (current : List (ℕ × TheRule)) → KeptSo self.old current → KeptSo self.new current }
-        ensures marked { OnOk result ((current : List (ℕ × TheRule)) (rule : TheRule) → AreSpecified 0 current → KeptSo self.old current → KeptSo self.new (put register rule current)) }
+        ensures marked { OnOk result (IsMarked register self.old self.new) }
     {
         if register < NEAR || self.watched {
             return self.changed.add(register);

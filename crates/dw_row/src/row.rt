@@ -3,8 +3,8 @@
 ghost use Rattle.std.specs.Prelude.{◌≡◌, ◌<◌, ◌≤◌, ℕ, ℤ, [], ◌∷◌, IfOk, OnOk, OnErr, MatchOption, IsTrue, ◌↔◌, false};
 ghost use Rattle.std.specs.{Int.bit_at, Iterator.{YieldsFirst, item_count}};
 ghost use Rattle.dw_row.specs.{Agreement.{kept, without}, Difference.{FirstDifference, place_behind}};
-ghost use Rattle.dw_row.specs.{Rows.{AreSpecified, is_specified, rule, rule_in, blank, with_cfa, with_rule}, declared.rule.RegRule.TheVariants.{Offset, Unspecified}};
-ghost use Rattle.dw_row.specs.RegisterSets.{SpecifiesIn};
+ghost use Rattle.dw_row.specs.{RegisterSets.SpecifiesIn, Rows.{AreSpecified, BeginsShort, is_specified, rule, rule_in, blank, with_cfa, with_rule}};
+ghost use Rattle.dw_row.specs.declared.rule.RegRule.TheVariants.{Offset, Unspecified};
 
 use crate::behind::place_behind;
 use crate::entries::{Entries, NEAR};
@@ -61,20 +61,22 @@ pub struct Specified<'r, 'a> {
 
 impl<'r, 'a> Model for Specified<'r, 'a> {
     ghost use Rattle.std.specs.Prelude.{◌≡◌, List, ℕ, length};
-    ghost use Rattle.dw_row.specs.{Rows.AreSpecified, declared.{rule.{RegRule.{RegRule as Rule}}}, Inner.Entries.{far_behind, listed_near, Holds}};
+    ghost use Rattle.dw_row.specs.{Rows.AreSpecified, declared.{rule.{RegRule.{RegRule as Rule}}}, Inner.Entries.{far_behind, listed_near, Holds, NoneHasSlot}};
 
     ghost Value = { List (ℕ × Rule) };
 
     ghost view = { λ s. listed_near s.at s.used s.slots.now s.expressions.now.entries (far_behind s.last s.far.now.entries) };
 
-    ghost invariant = { λ s. (length s.slots.now ≡ 128) × Holds s.used s.slots.now s.expressions.now.entries × AreSpecified 128 s.far.now.entries };
+    ghost invariant = { λ s. (length s.slots.now ≡ 128) × Holds s.used s.slots.now s.expressions.now.entries
+        × AreSpecified 128 s.far.now.entries × NoneHasSlot s.expressions.now.entries };
 }
 
 impl<'r, 'a> Specified<'r, 'a> {
     /// The next register with its offset, where it is below 128 and its rule an `Offset` of 16 bits; else none, and it stays.
     #[inline(always)]
     pub fn next_offset(&mut self) -> Option<(u16, i64)>
-        ensures { MatchOption result (self.new ≡ self.old) (λ found. self.old ≡ (found.0, Offset found.1) ∷ self.new) }
+        ensures next { MatchOption result (self.new ≡ self.old) (λ found. self.old ≡ (found.0, Offset found.1) ∷ self.new) }
+        ensures exact { MatchOption result (BeginsShort self.old → ⊥) (λ _. BeginsShort self.old) }
     {
         let register = next_in(self.used, u32::from(self.at))? as u16;
         let offset = offset_in(self.slots[usize::from(register)])?;
@@ -311,7 +313,7 @@ impl<'a> Row<'a> {
     }
 
     /// Leaves a register Unspecified (6.4.1). Takes no memory.
-    #[tactic(auto, using(crate::proofs::Lent::Narrowed::put_out, crate::proofs::Slots::entries_ascend, crate::proofs::Slots::far_set, crate::proofs::Slots::put_so, crate::proofs::WideRows::removed_is))]
+    #[tactic(auto, using(crate::proofs::Lent::Narrowed::put_out, crate::proofs::Slots::far_put, crate::proofs::WideRows::removed_is))]
     pub fn drop_register(&mut self, register: u16)
         ensures { self.new ≡ without register self.old }
     {

@@ -1,8 +1,8 @@
 //! What a slot of a row holds: the rule of one register (6.4.1).
 
-ghost use Rattle.std.specs.Prelude.{◌≡◌, IfSome};
-ghost use Rattle.dw_row.specs.{Rows.rule_in, declared.{rule.{RegRule.{RegRule as TheRule, TheVariants.Offset}}, slot.Slot.TheVariants.Beside}};
-ghost use Rattle.dw_row.specs.Inner.Entries.{IsSlotOf, slot_rule};
+ghost use Rattle.std.specs.{Prelude.{◌≡◌, FitsSigned, IfSome, MatchOption}, Int.w16};
+ghost use Rattle.dw_row.specs.{Rows.{IsShortOffset, rule_in}, declared.{rule.{RegRule.{RegRule as TheRule, TheVariants.Offset}}, slot.Slot.TheVariants.Beside}};
+ghost use Rattle.dw_row.specs.Inner.Entries.{HasSlot, IsSlotOf, slot_rule};
 
 use crate::rule::RegRule;
 use crate::tree::rule_in_tree;
@@ -43,7 +43,7 @@ pub(crate) fn rule_of<'a>(
 #[inline(always)]
 pub(crate) fn plain_slot(rule: &RegRule<'_>) -> Option<Slot>
     ensures slot { IfSome result (IsSlotOf rule.now) }
-    ensures kind { IfSome result (λ slot. slot ≡ Beside → ⊥) }
+    ensures kind { MatchOption result (HasSlot rule.now → ⊥) (λ slot. slot ≡ Beside → ⊥) }
 {
     match rule {
         RegRule::Undefined => Some(Slot::Undefined),
@@ -64,7 +64,8 @@ pub(crate) fn plain_slot(rule: &RegRule<'_>) -> Option<Slot>
 /// The offset that a slot holds of a register that is saved.
 #[inline(always)]
 pub(crate) fn offset_in(slot: Slot) -> Option<i64>
-    ensures { IfSome result (λ n. (block : TheRule) → slot_rule slot block ≡ Offset n) }
+    ensures offset { IfSome result (λ n. (block : TheRule) → slot_rule slot block ≡ Offset n) }
+    ensures short { MatchOption result ((block : TheRule) → (HasSlot block → ⊥) → IsShortOffset (slot_rule slot block) → ⊥) (FitsSigned w16) }
 {
     match slot {
         Slot::Offset(offset) => Some(i64::from(offset)),

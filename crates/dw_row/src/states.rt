@@ -52,7 +52,8 @@ impl<'a> Model for States<'a> {
 
     ghost view = { λ s. held s.tracked s.saved s.row s.kept.row s.undo.items };
 
-    ghost invariant = { λ s. KeptSo s.kept s.row.registers × StatesSo s.tracked s.is_listed s.saved s.depth (rows_before s.row.registers (reverse s.undo.items)) s.undo.items };
+    ghost invariant = { λ s. KeptSo s.kept s.row.registers
+        × StatesSo s.tracked s.is_listed s.saved s.depth (rows_before s.row.registers (reverse s.undo.items)) s.undo.items };
 }
 
 // Takes changes back up to the row that was remembered last, and answers the rule that the CFA had there.
@@ -277,7 +278,7 @@ impl<'a> States<'a> {
     }
 
     // Lists the rule that a register has, and gives it another one.
-    #[tactic(auto, using(crate::proofs::StatesLaws::listed_behind, crate::proofs::StatesLaws::ruled, crate::proofs::StatesLaws::same_held, crate::proofs::StatesLaws::same_so))]
+    #[tactic(auto, using(crate::proofs::StatesLaws::changed))]
     #[inline(never)]
     fn change(&mut self, register: u16, rule: RegRule<'a>) -> Result<(), AllocError>
         ensures kept { self.new.kept ≡ self.old.kept }

@@ -1,7 +1,7 @@
 //! Rules of registers in a tree, ascending.
 
-ghost use Rattle.std.specs.Prelude.{◌≡◌, [], ◌∷◌, Some, IfOk, OnOk, OnErr, MatchOption};
-ghost use Rattle.dw_row.specs.{Difference.FirstDifference, Rows.{AreSpecified, rule_in, put}, Inner.Entries.far_behind};
+ghost use Rattle.std.specs.Prelude.{◌≡◌, OnOk, OnErr};
+ghost use Rattle.dw_row.specs.{Difference.FirstDifference, Rows.{AreSpecified, rule_in, put}, Inner.Entries.FirstBehind};
 
 use crate::behind::start_behind;
 use crate::rule::RegRule;
@@ -48,7 +48,7 @@ pub(crate) fn next_in_tree<'a>(
     behind: Option<u16>,
 ) -> Option<(u16, RegRule<'a>)>
     requires { AreSpecified 128 entries.now.entries }
-    ensures { MatchOption result (far_behind behind entries.now.entries ≡ []) (λ entry. far_behind behind entries.now.entries ≡ entry ∷ far_behind (Some entry.0) entries.now.entries) }
+    ensures { FirstBehind behind entries.now.entries result }
 {
     let mut left = entries.range((start_behind(behind), Bound::Unbounded));
     let Some((register, rule)) = left.next() else {

@@ -1,5 +1,5 @@
 -- How values of registers are kept: those below 128 in places of their own, the others in a list behind them.
-use Rattle.std.specs.Prelude.{◌≡◌, ◌-◌, ◌≤◌, ℕ, zero, suc, nat_lt, Bool, false, List, [], ◌∷◌, length, get_or, Option, Some, None, if◌then◌else◌}
+use Rattle.std.specs.Prelude.{◌≡◌, ◌==◌, ◌-◌, ◌≤◌, ℕ, zero, suc, nat_lt, Bool, false, List, [], ◌∷◌, length, get_or, Option, Some, None, if◌then◌else◌}
 use Rattle.dw_eval.specs.Registers.{held}
 
 -- what a register holds that has a place
@@ -25,3 +25,7 @@ pub record PlacesSo (known : List Bool) (values : List ℕ) (far : List (Option 
   pub value_count : length values ≡ 128
   pub most : end ≤ 65536
   pub beyond : (r : ℕ) → end ≤ r → any_held known values far r ≡ None
+
+-- a register holds a value, and every other one what it held
+abbrev pub IsHeld : ℕ → ℕ → (ℕ → Option ℕ) → (ℕ → Option ℕ) → Type 0
+IsHeld register value old new = (r : ℕ) → new r ≡ (if r == register then Some value else old r)

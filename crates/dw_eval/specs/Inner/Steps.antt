@@ -1,7 +1,10 @@
 -- How the code keeps a step.
-use Rattle.std.specs.Prelude.{◌≡◌, ◌⊎◌, ℕ, ◌+◌, ◌^◌, ◌<◌, List, [], ◌∷◌, Result, Ok, Err}
+use Rattle.std.specs.Prelude.{◌≡◌, ◌⊎◌, ℕ, ◌+◌, ◌%◌, ◌^◌, ◌<◌, int_div, List, [], ◌∷◌, Result, Ok, Err}
+use Rattle.dw_num.specs.{Target.address_limit, declared.target.Size.Size}
+use Rattle.dw_op.specs.declared.op.Op.{Op}
+use Rattle.dw_eval.specs.{Context.{Context, read_at, signed}, Effect.{effect, known, nonzero, on_top, push, push_signed, ReadsAt, ReadsMemory}}
 use Rattle.dw_eval.specs.{Effect.{OpEffect, Next, Jump, Faults, on_two}, declared.error.EvalError.EvalError, declared.error.EvalError.TheVariants.{Fault, OutOfMemory}}
-use Rattle.dw_eval.specs.declared.{error.Kind.Kind, error.Kind.TheVariants.{Device, StackUnderflow, MissingPiece}, stack.Flow.Flow, stack.Stop.Stop}
+use Rattle.dw_eval.specs.declared.{error.Kind.Kind, error.Kind.TheVariants.{Device, StackUnderflow, MissingPiece, Unreadable}, stack.Flow.Flow, stack.Stop.Stop}
 use Rattle.dw_eval.specs.declared.stack.Flow.TheVariants as flow
 use Rattle.dw_eval.specs.declared.stack.Stop.TheVariants as stop
 
@@ -21,11 +24,15 @@ MakesOfOne Made old (Err (stop.Fault kind)) new = (kind ≡ StackUnderflow) × (
 MakesOfOne Made old (Err stop.Device) new = ⊥
 MakesOfOne Made old (Err stop.OutOfMemory) new = Unit {0}
 
+-- there are no two values
+abbrev pub LacksTwo : List ℕ → Type 0
+LacksTwo stack = (f : ℕ → ℕ → List ℕ → OpEffect) → on_two stack f ≡ Faults StackUnderflow
+
 -- and in that of the second and the top
 abbrev pub MakesOfTwo : (ℕ → ℕ → ℕ → Type 0) → List ℕ → Result Flow Stop → List ℕ → Type 0
 MakesOfTwo Made old (Ok flow.Next) new = (s t made : ℕ) × (below : List ℕ) × (old ≡ t ∷ s ∷ below) × (new ≡ made ∷ below) × (s < 2 ^ 64) × (t < 2 ^ 64) × Made s t made
 MakesOfTwo Made old (Ok (flow.Jump i)) new = ⊥
-MakesOfTwo Made old (Err (stop.Fault kind)) new = (kind ≡ StackUnderflow) × ((f : ℕ → ℕ → List ℕ → OpEffect) → on_two old f ≡ Faults StackUnderflow)
+MakesOfTwo Made old (Err (stop.Fault kind)) new = (kind ≡ StackUnderflow) × LacksTwo old
 MakesOfTwo Made old (Err stop.Device) new = ⊥
 MakesOfTwo Made old (Err stop.OutOfMemory) new = Unit {0}
 
@@ -36,6 +43,18 @@ Acts outcome Read before (Ok (flow.Jump i)) stack after = (outcome ≡ Jump i st
 Acts outcome Read before (Err (stop.Fault kind)) stack after = (outcome ≡ Faults kind) × (after ≡ before)
 Acts outcome Read before (Err stop.Device) stack after = Read × (before < after)
 Acts outcome Read before (Err stop.OutOfMemory) stack after = after ≡ before
+
+-- the second is divided by the top, both signed
+abbrev pub divides : Size → List ℕ → OpEffect
+divides size stack = on_two stack (λ s t below. nonzero (t % address_limit size) (push_signed size (int_div (signed size s) (signed size t)) below))
+
+-- the top is an address, and the number in so many bytes from there is put in its place
+abbrev pub ReadsTop : Context → ℕ → List ℕ → ℕ → Result Flow Stop → List ℕ → ℕ → Type 0
+ReadsTop c k old = Acts (on_top old (λ t below. known (Unreadable t k) (read_at c t k) (λ v. push c.target.size v below))) (ReadsAt c k old)
+
+-- an operation acts on the stack
+abbrev pub ActsOn : Context → Op → List ℕ → ℕ → Result Flow Stop → List ℕ → ℕ → Type 0
+ActsOn c op old = Acts (effect c op old) (ReadsMemory c op old)
 
 -- where an answer leads that an operation at an index gives, or the error
 abbrev pub reached : ℕ → Result Flow Stop → Result ℕ EvalError

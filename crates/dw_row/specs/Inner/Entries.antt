@@ -1,6 +1,6 @@
 -- Where the registers of a row lie: those below 128 in slots under a mask, with their expressions in a tree, and the others in another tree.
-use Rattle.std.specs.Prelude.{◌≡◌, ℕ, zero, suc, ◌<◌, ◌≤◌, ◌-◌, List, ◌∷◌, length, Bool, Option, Some, None, IsTrue, nat_eq, nat_lt, if◌then◌else◌}
-use Rattle.std.specs.{BTreeMap.Range.entries_between, Int.bit_at, Ordering.nat_cmp, declared.ops.Bound.TheVariants.Unbounded}
+use Rattle.std.specs.Prelude.{◌≡◌, ℕ, zero, suc, ◌<◌, ◌≤◌, ◌-◌, FitsSigned, List, [], ◌∷◌, length, Bool, Option, Some, None, IsTrue, nat_eq, nat_lt, if◌then◌else◌}
+use Rattle.std.specs.{BTreeMap.Range.entries_between, Int.{bit_at, w16}, Ordering.nat_cmp, declared.ops.Bound.TheVariants.Unbounded}
 use Rattle.std.proofs.Math.ListN.{get_or}
 use Rattle.dw_row.specs.{Rows.{AreSpecified, is_specified, rule_in, listed}, declared.{entries.Entries.Entries, rule.RegRule.RegRule, slot.Slot.Slot}}
 use Rattle.dw_row.specs.Inner.Difference.{start_behind}
@@ -20,6 +20,19 @@ slot_rule slots.Beside block = block
 abbrev pub IsSlotOf : RegRule → Slot → Type 0
 IsSlotOf rule slots.Beside = Unit {0}
 IsSlotOf rule s = (block : RegRule) → slot_rule s block ≡ rule
+
+-- a slot holds the rule by itself: it has no expression, and no offset of more than 16 bits
+abbrev pub HasSlot : RegRule → Type 0
+HasSlot rules.Unspecified = ⊥
+HasSlot (rules.Offset n) = FitsSigned w16 n
+HasSlot (rules.ValOffset n) = FitsSigned w16 n
+HasSlot (rules.Expression e) = ⊥
+HasSlot (rules.ValExpression e) = ⊥
+HasSlot rule = Unit {0}
+
+-- of the rules beside the slots none has one
+abbrev pub NoneHasSlot : List (ℕ × RegRule) → Type 0
+NoneHasSlot expressions = (q : ℕ) → HasSlot (rule_in expressions q) → ⊥
 
 -- what an index outside would find
 abbrev pub no_slot : Slot
@@ -49,6 +62,16 @@ far_behind behind far = entries_between nat_cmp (start_behind behind) Unbounded 
 abbrev pub entries_of : Entries → List (ℕ × RegRule)
 entries_of e = listed_near 0 e.used e.slots e.expressions.entries e.far.entries
 
+-- the first of a tree behind a register, or of all of it; none where none is there
+abbrev pub FirstBehind : Option ℕ → List (ℕ × RegRule) → Option (ℕ × RegRule) → Type 0
+FirstBehind behind far None = far_behind behind far ≡ []
+FirstBehind behind far (Some entry) = far_behind behind far ≡ entry ∷ far_behind (Some entry.0) far
+
+-- a register has the rule of the slot that is found, and is Unspecified where none is
+abbrev pub FindsSlot : Entries → ℕ → Option Slot → Type 0
+FindsSlot e r None = rule_in (entries_of e) r ≡ rules.Unspecified
+FindsSlot e r (Some slot) = rule_in (entries_of e) r ≡ slot_rule slot (rule_in e.expressions.entries r)
+
 -- the slots of a mask are those of others
 abbrev pub SameSlots : ℕ → List Slot → List Slot → Type 0
 SameSlots mask others near = (q : ℕ) → bit_at mask q ≡ 1 → get_or near q no_slot ≡ get_or others q no_slot
@@ -61,11 +84,12 @@ SameOutside mask old new = (q : ℕ) → bit_at mask q ≡ 0 → get_or new q no
 abbrev pub Holds : ℕ → List Slot → List (ℕ × RegRule) → Type 0
 Holds used near expressions = (q : ℕ) → bit_at used q ≡ 1 → IsTrue (is_specified (near_rule used near expressions q))
 
--- the trees ascend, and the slots are those below all that have none
+-- the trees ascend, the slots are those below all that have none, and no rule is kept beside them without need
 pub record EntriesSo (e : Entries) : Type 0 where
   pub used : Holds e.used e.slots e.expressions.entries
   pub slots : length e.slots ≡ 128
   pub expressions : AreSpecified 0 e.expressions.entries
+  pub beside : NoneHasSlot e.expressions.entries
   pub far : AreSpecified 128 e.far.entries
 
 -- the first bit of a mask from a place on, of those below an end

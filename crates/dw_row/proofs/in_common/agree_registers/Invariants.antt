@@ -1,4 +1,4 @@
-use Rattle.dw_row.proofs.{Words.{◌≡◌, ◌-◌, AreSpecified, place_behind}, RegisterSets.AgreedUpTo}
+use Rattle.dw_row.proofs.{Words.{◌≡◌, ◌-◌, place_behind}, RegisterSets.AgreedUpTo}
 use Rattle.dw_row.proofs.in_common.agree_registers.Given as goal
 
 abbrev pub invariant-registers : goal.invariant-registers

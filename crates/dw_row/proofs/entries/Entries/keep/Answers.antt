@@ -7,5 +7,5 @@ returns c =
     let far = filter_same_pairs _ test _ (λ k v b w f' h. search rules) _ _ c.retain.ensures.filtered in
     record {
       entries = all_left test c.args.self.now mid c.requires.so so c.keep_near.ensures.rules far' far;
-      so = record { used = so.used; slots = so.slots; expressions = so.expressions; far = far_left test c.args.self.now mid c.requires.so so c.keep_near.ensures.rules far' far };
+      so = record { used = so.used; slots = so.slots; expressions = so.expressions; beside = so.beside; far = far_left test c.args.self.now mid c.requires.so so c.keep_near.ensures.rules far' far };
     }

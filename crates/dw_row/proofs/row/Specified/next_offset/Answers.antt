@@ -1,15 +1,39 @@
-use Rattle.dw_row.proofs.Words.{rules, ◌≡◌, ◌∙◌, ℕ, suc, ◌+◌, arith, ap, far_behind, get_or, no_slot, rule_in, subst, sym, FirstBit, FitsSigned, Some}
-use Rattle.dw_row.proofs.Words.{to_z-of_z, w64}
-use Rattle.dw_row.proofs.Slots.{next_used}
+use Rattle.dw_row.proofs.Words.{rules, ◌≡◌, ◌∙◌, ◌∷◌, ℕ, suc, ◌+◌, arith, ap, far_behind, get_or, listed_near, no_slot, rule_in, subst, sym, BeginsShort, FirstBit, FitsSigned, IsShortOffset}
+use Rattle.dw_row.proofs.Words.{None, Some, refl, slot_rule, to_z-of_z, w64}
+use Rattle.dw_row.proofs.{Difference.far_short, Slots.{next_used, none_used}}
+use Rattle.dw_row.proofs.row.Specified.next_offset.Goals.{After-offset_in}
 use Rattle.dw_row.proofs.row.Specified.next_offset.Goals as goal
 
-pub returns : goal.returns
-returns c =
+pub returns-in_err-register-clause-exact : goal.returns-in_err-register-clause-exact
+returns-in_err-register-clause-exact c =
     let w = c.self.inside in
-    let r = c.in_ok-register.field-0 in
-    let rules_beside = w.expressions.now.entries in
-    let fits : FitsSigned w64 c.in_ok-offset.offset = search rules in
+    let none = subst (λ (n : ℕ). FirstBit None w.used n) c.from.ensures c.in_err-register.ensures in
+    let left = sym c.self.view_is ∙ none_used w.used w.slots.now w.expressions.now.entries (far_behind w.last w.far.now.entries) w.at none in
+    rw c.from_residual.ensures (λ short. far_short w.last w.far.now.entries c.self.invariant.2 (subst BeginsShort left short))
+
+-- the register that is found has the rule of its slot
+first_is : (c : After-offset_in) → let w = c.self.inside in let r = c.in_ok-register.field-0 in let x = w.expressions.now.entries in
+    c.args.self.now ≡ (r, slot_rule (get_or w.slots.now c.from-2.result no_slot) (rule_in x r)) ∷ listed_near (suc r) w.used w.slots.now x (far_behind w.last w.far.now.entries)
+first_is c =
+    let w = c.self.inside in let r = c.in_ok-register.field-0 in
     let first = subst (λ (n : ℕ). FirstBit (Some r) w.used n) c.from.ensures c.in_ok-register.ensures in
-    let slot = ap (λ (n : ℕ). get_or w.slots.now n no_slot) c.from-2.ensures in
+    sym c.self.view_is ∙ next_used w.used w.slots.now w.expressions.now.entries (far_behind w.last w.far.now.entries) c.self.invariant.1 w.at r first _ (ap (λ (n : ℕ). get_or w.slots.now n no_slot) c.from-2.ensures) _ refl
+
+pub returns-clause-next : goal.returns-clause-next
+returns-clause-next c =
+    let r = c.in_ok-register.field-0 in
+    let fits : FitsSigned w64 c.in_ok-offset.offset = search rules in
     let more : r + 1 ≡ suc r = omega arith in
-    rw (more, to_z-of_z w64 c.in_ok-offset.offset fits) (sym c.self.view_is ∙ next_used w.used w.slots.now rules_beside (far_behind w.last w.far.now.entries) c.self.invariant.1 w.at r first _ slot _ (sym (c.in_ok-offset.ensures (rule_in rules_beside r))))
+    let is = c.in_ok-offset.ensures.offset (rule_in c.self.inside.expressions.now.entries r) in
+    rw (more, to_z-of_z w64 c.in_ok-offset.offset fits, ← is) (first_is (goal.at.returns-clause-next c).After-offset_in)
+
+pub returns-in_err-offset-clause-exact : goal.returns-in_err-offset-clause-exact
+returns-in_err-offset-clause-exact c =
+    let r = c.in_ok-register.field-0 in
+    let is = first_is (goal.at.returns-in_err-offset-clause-exact c).After-offset_in in
+    rw c.from_residual-in_err-offset.ensures (λ short. c.in_err-offset.ensures.short _ (c.self.invariant.3 r) (subst BeginsShort is short).1)
+
+pub returns-clause-exact : goal.returns-clause-exact
+returns-clause-exact c =
+    let rule = c.in_ok-offset.ensures.offset (rule_in c.self.inside.expressions.now.entries c.in_ok-register.field-0) in
+    subst BeginsShort (sym (first_is (goal.at.returns-clause-exact c).After-offset_in)) (c.in_ok-register.ensures.1, subst IsShortOffset (sym rule) c.in_ok-offset.ensures.short)
