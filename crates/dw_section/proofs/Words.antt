@@ -52,5 +52,5 @@ pub use Rattle.dw_section.specs.declared.{fields.CieFields.CieFields, fields.Fde
 pub use Rattle.dw_section.specs.Inner.{Agree.{Agree, AgreeAt}, Changes.{Among, Before, Passed, ShownBehind, Shows, changes_among, changing, is_before, repeats}, Counted.{StartsOf, moves_in}, Fields.{Passes, behind_id}}
 pub use Rattle.dw_section.specs.Inner.{Fields.fields_at, Heads.{FdeFits, HasBytes, HeadsRise, cie_at_of, cie_ats, head_at, head_program}, Index.{AreJudged, EndsAt, IsFound, PlacesRise}}
 pub use Rattle.dw_section.specs.Inner.{Initials.{AreAmong, AreCies, AreOf, FirstLacking, HasOrLacks, IsRead, cie_pieces, if_cie, place_of}, Left.{HeadsLeft, PiecesLeft}}
-pub use Rattle.dw_section.specs.Inner.{Lookup.{AreRowsOf, IsFoundIn, RunsSo, fde_of}, NarrowRow.{ChangesKeep, NarrowedBy}, PieceHeader.{SaysFde, Tells, cie_of_piece, contents_of, entry_head, entry_in, fde_of_piece}}
+pub use Rattle.dw_section.specs.Inner.{Lookup.{AreRowsOf, IsFoundIn, RunsSo, fde_of}, NarrowRow.NarrowedBy, PieceHeader.{SaysFde, Tells, cie_of_piece, contents_of, entry_head, entry_in, fde_of_piece}}
 pub use Rattle.dw_section.specs.Inner.{PieceHeader.{initial_head, initial_in, program_of}, Pieces.{IsPlaced, item_of, piece_in}, Places.{IsAt, RiseBy, Rises}, Shown.{shown_if, shown_of}, StandingFde.{FoundStands, StandsAt}, Walks.{AreAway, AreLed, LedTo, led_by}}

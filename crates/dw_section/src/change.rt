@@ -2,13 +2,13 @@
 //! specify.
 
 ghost use Rattle.std.specs.Prelude.{◌⊎◌, ◌≡◌, ◌+◌, ◌<◌, ◌↔◌, ℕ, List, [], IsTrue, Ok, Some, None, true, IsErr, IfOk, IfSome, OnErr, OnOk, MatchOption};
-ghost use Rattle.dw_num.specs.{Input.AreBytes, Target.address_limit};
+ghost use Rattle.dw_num.specs.Target.{address_limit};
 ghost use Rattle.dw_row.specs.{Agreement.kept, Difference.{FirstDifference, place_behind}, RegisterSets.{SameBeside, has}};
 ghost use Rattle.dw_row.specs.Rows.{AreSpecified, Rules, is_specified, rule};
-ghost use Rattle.dw_cfa.specs.{RowWalk.{AllKeep, StandsOn}, declared.execution.LocatedRow.LocatedRow};
+ghost use Rattle.dw_cfa.specs.{RowWalk.{StandsOn}, declared.execution.LocatedRow.LocatedRow};
 ghost use Rattle.dw_section.specs.{Among.IsAmong, Changes.{GivesAddress, GivesChange, GoesOn, before_then, behind_all, kept_by}, Headers.{Head, Headers}};
-ghost use Rattle.dw_section.specs.{Opening.{AreChanged, CieLeaves}, Inner.{Changes.{Before, FindsChange, FindsFirst, ShownBehind, changing}, Lookup.AreRowsOf}};
-ghost use Rattle.dw_section.specs.Inner.{NarrowRow.NarrowedBy, PieceHeader.initial_in, Shown.{shown_if, shown_of}};
+ghost use Rattle.dw_section.specs.{Opening.{AreChanged, CieLeaves}, Inner.Changes.{Before, FindsChange, FindsFirst, KeepsIf, ShownBehind, changing}};
+ghost use Rattle.dw_section.specs.Inner.{Lookup.{AreRowsOf, fde_of}, NarrowRow.NarrowedBy, PieceHeader.initial_in, Shown.{shown_if, shown_of}};
 
 use crate::listed_fde::FoundFde;
 use crate::walks::Walks;
@@ -144,7 +144,7 @@ fn show_behind<'a>(
     ensures led { steps.new.led ≡ steps.old.led }
     ensures cie { IfOk result (λ found. IfSome found.1 (λ behind. behind.cie_at ≡ cie_at)) }
     ensures beside { IfOk result (λ found. IfSome found.1 (λ _. ShownBehind steps.new changed.new)) }
-    ensures keeps { IfOk result (λ found. IfSome found.1 (λ behind. IsTrue behind.keeps → AreBytes steps.new.led.program.bytes → AllKeep steps.new.steps.current steps.new.steps.outcome.rows)) }
+    ensures keeps { IfOk result (λ found. IfSome found.1 (λ behind. KeepsIf behind.keeps steps.new)) }
 {
     let Ok(kept) = steps.keep_initial() else {
         return Err(AllocError);
@@ -175,11 +175,11 @@ pub struct Changes<'a> {
 }
 
 impl<'a> Model for Changes<'a> {
-    ghost use Rattle.dw_section.specs.{Changes.Changing, Inner.Changes.{ChangesSo, changes_among}, Inner.Shown.{shown_if, shown_of, before_of}};
+    ghost use Rattle.dw_section.specs.{Changes.Changing, Inner.Changes.{ChangesSo, showing}};
 
     ghost Value = { Changing };
 
-    ghost view = { λ c. record { section = record { target = c.target; bytes = c.bytes.now }; to_come = changes_among c.end (shown_of c.lent c.walks.walk.steps.current (shown_if c.kept c.walks.walk.kept)) c.walks.walk.steps.outcome.rows; shown = shown_of c.lent c.walks.walk.steps.current (shown_if c.kept c.walks.walk.kept); before = before_of c.lent (shown_if c.kept c.walks.walk.kept); failed = c.failed } };
+    ghost view = { λ c. showing (record { target = c.target; bytes = c.bytes.now }) c.walks.walk c.lent c.kept c.end c.failed };
 
     ghost invariant = { λ c. ChangesSo (record { target = c.target; bytes = c.bytes.now }) c.walks };
 }
@@ -228,7 +228,7 @@ impl<'a> Changes<'a> {
         requires in_space { fde.now.own.begin < address_limit self.old.section.target.size }
         requires known { (rows : List LocatedRow) × AreRowsOf self.old.section.target fde.now rows }
         requires among { (hs : List Head) → Headers self.old.section.target self.old.section.bytes hs → IsAmong (initial_in fde.now.cie) hs }
-        ensures { (rows : List LocatedRow) → AreRowsOf self.old.section.target fde.now rows → self.new ≡ changing self.old.section rows (fde.now.own.begin + fde.now.own.range) }
+        ensures { (rows : List LocatedRow) → AreRowsOf self.old.section.target fde.now rows → self.new ≡ changing self.old.section rows (fde_of fde.now).end }
     {
         self.walks.lead(&fde.cie, self.target);
         are_bytes(fde.cie.program.bytes);
@@ -276,9 +276,11 @@ impl<'a> Changes<'a> {
         ensures again { self.old.failed ≡ true → IsErr result }
         ensures section { self.new.section ≡ self.old.section }
         // The set has the registers in which the row that is shown is not that of the CIE.
-        ensures changed { IfOk result (λ found. IfSome found (λ behind. (row : Rules) × CieLeaves self.old.section.target self.old.section.bytes behind.cie_at row × IfSome self.new.shown (AreChanged changed.new row))) }
+        ensures changed { IfOk result (λ found. IfSome found (λ behind. (row : Rules)
+            × CieLeaves self.old.section.target self.old.section.bytes behind.cie_at row × IfSome self.new.shown (AreChanged changed.new row))) }
         // The changes still to come specify what the first one does.
-        ensures keeps { IfOk result (λ found. IfSome found (λ behind. IsTrue behind.keeps → IfSome self.new.shown (λ first. kept_by first self.new.to_come ≡ first))) }
+        ensures keeps { IfOk result (λ found. IfSome found (λ behind. IsTrue behind.keeps
+            → IfSome self.new.shown (λ first. kept_by first self.new.to_come ≡ first))) }
     {
         let Some(cie_at) = self.walks.cie_at else {
             self.advance()?;
@@ -341,7 +343,8 @@ impl<'a> Changes<'a> {
     /// a given one where there is such; or none. Takes no memory.
     #[inline(always)]
     pub fn next_difference(&self, behind: Option<u16>) -> Option<u16>
-        ensures first { (before after : Rules) → self.now.before ≡ Some before → self.now.shown ≡ Some after → FirstDifference (place_behind behind) before.registers after.registers result }
+        ensures first { (before after : Rules) → self.now.before ≡ Some before → self.now.shown ≡ Some after
+            → FirstDifference (place_behind behind) before.registers after.registers result }
         ensures none { self.now.before ≡ None → result ≡ None }
         ensures ascending { (before : Rules) → self.now.before ≡ Some before → AreSpecified 0 before.registers }
         ensures other_ascending { (after : Rules) → self.now.shown ≡ Some after → AreSpecified 0 after.registers }
@@ -358,7 +361,7 @@ impl<'a> Changes<'a> {
     /// Unspecified. Where the CIE's row shows that none does, it may stay where it is. Behind want of memory, which `advance`
     /// and `next` answer from then on, some of them are dropped.
     // No change drops a register that the CIE's program specifies, so most rows need no walk.
-    #[tactic(auto, using(crate::proofs::ChangesAmong::changes_keep, crate::proofs::Dropped::none_dropped, crate::proofs::Dropped::next_of, crate::proofs::Dropped::kept_again))]
+    #[tactic(auto, using(crate::proofs::ChangesAmong::none_dropped, crate::proofs::Dropped::next_of, crate::proofs::Dropped::kept_again))]
     pub fn narrow(&mut self, row: &mut Row<'a>) -> Result<(), AllocError>
         ensures row { OnOk result (row.new ≡ kept_by row.old self.old.to_come) }
         ensures behind { OnOk result ((self.new ≡ self.old) ⊎ (self.new ≡ behind_all self.old)) }

@@ -1,13 +1,11 @@
 //! Running the programs of a section (6.4.2, 6.4.3), and its nonempty FDEs in the order of their begins.
 
-ghost use Rattle.std.specs.{List.AllByRecursion, Prelude.{◌≡◌, ◌<◌, true, List, map, IfOk, IfErr, OnOk, ◌+◌, ◌≤◌, ℕ, None, [], ◌∷◌, ◌++◌, length}};
-ghost use Rattle.std.specs.Prelude.{slice_index_or, MatchOption};
+ghost use Rattle.std.specs.{List.AllByRecursion, Prelude.{◌≡◌, ◌<◌, true, List, map, IfOk, IfErr, OnOk, MatchOption, ◌≤◌, ℕ, None, [], ◌∷◌, ◌++◌, length}};
 ghost use Rattle.dw_num.specs.{Refusals.Refuses, Target.address_limit, declared.{refusal.Code.TheVariants.Overlap, target.Target.{Target as TheTarget}}};
-ghost use Rattle.dw_section.specs.{Accepted.{CiesRun, RulesFault}, Among.IsAmong, Cut.Piece, Headers.Head, Overlap.{nonempty, AreApart, FirstOverlap}};
-ghost use Rattle.dw_section.specs.{Pieces.Pieces, Programs.{CieRuns, CieBroken}, Ranges.{AreIndexed, IsRanged, range_in}, Stage.FirstStuck};
-ghost use Rattle.dw_section.specs.Inner.{Index.{JudgesOne, BreaksOne, AreJudged, AreRanges}, Initials.{place_of, AreAmong, AreOf, AreCies}};
-ghost use Rattle.dw_section.specs.Inner.{PieceHeader.{entry_in, initial_in}, Places.{Rises, IsAt}, Walks.AreLed};
-ghost use Rattle.dw_section.specs.declared.fde_range.Ranged.{Ranged as TheRanged};
+ghost use Rattle.dw_section.specs.{Accepted.{CiesRun, RulesFault}, Cut.Piece, Headers.Head, Overlap.{nonempty, AreApart, FirstOverlap}};
+ghost use Rattle.dw_section.specs.{Pieces.Pieces, Programs.{CieRuns, CieBroken}, Ranges.{AreIndexed, range_in}, Stage.FirstStuck};
+ghost use Rattle.dw_section.specs.Inner.{Index.{JudgesOne, BreaksOne, AreJudged, AreRanges, BeginsRise, ListsOf}};
+ghost use Rattle.dw_section.specs.Inner.{Initials.{place_of, AreAmong, AreOf, AreCies}, PieceHeader.{entry_in, initial_in}, Places.{Rises, IsAt}, Walks.AreLed};
 
 use crate::entry::next_piece;
 use crate::header::{Cies, FdeEntry, Initial, fde_of, or_fields_fault};
@@ -65,7 +63,7 @@ fn keep_range(
     requires names { cie.now.at ≡ fde.now.cie_at }
     requires below { fde.now.at ≤ 2147483647 }
     ensures found { OnOk result (map range_in list.new.items ≡ map range_in list.old.items ++ nonempty (entry_in fde.now ∷ [])) }
-    ensures each { (hs : List Head) → IsAmong (initial_in cie.now) hs → IsAmong (entry_in fde.now) hs → AllByRecursion (IsRanged hs) list.old.items → OnOk result (AllByRecursion (IsRanged hs) list.new.items) }
+    ensures each { ListsOf (initial_in cie.now) (entry_in fde.now) list.old.items result list.new.items }
 {
     if fde.range > 0 {
         list.push(Ranged {
@@ -158,7 +156,7 @@ pub(crate) fn run_fdes<'a>(
 
 // Whether each begins behind the begin of the one before it.
 fn begins_rise(list: &[Ranged]) -> bool
-    ensures { result ≡ true → (k : ℕ) (d : TheRanged) → k + 1 < length list.now → (slice_index_or list.now k d).begin < (slice_index_or list.now (k + 1) d).begin }
+    ensures { result ≡ true → BeginsRise (length list.now) list.now }
 {
     for i in 1..list.len() {
         if list[i].begin <= list[i - 1].begin {

@@ -1,10 +1,10 @@
 //! The FDEs of a table, read again at their places, and how many rows their programs start (6.4.3).
 
-ghost use Rattle.std.specs.{List.{AllByRecursion, AllZip}, Prelude.{◌≡◌, ◌+◌, ◌≤◌, ℕ, List, length, map, ◌<◌, true, slice_index_or}};
+ghost use Rattle.std.specs.{List.AllByRecursion, Prelude.{◌≡◌, ◌+◌, ◌≤◌, ℕ, List, length, map, ◌<◌, true, slice_index_or}};
 ghost use Rattle.dw_num.specs.Span.{Span, span_of};
-ghost use Rattle.dw_section.specs.{Accepted.RulesHold, Among.IsAmong, Fields.is_among, Headers.{Head, Headers, IsFde}, Meaning.{RowStarts, Starts, total}};
-ghost use Rattle.dw_section.specs.{Meaning.AreFdes, Ranges.{IsRanged, range_in, fde_in}, Inner.{Counted.{IsProgram, StartsOf}, Index.IsFound, Initials.AreOf}};
-ghost use Rattle.dw_section.specs.Inner.{Initials.{place_of, AreAmong}, Lookup.{fde_of, IsFoundIn}, PieceHeader.initial_in, Pieces.piece_in, Places.Rises};
+ghost use Rattle.dw_section.specs.{Accepted.RulesHold, Among.IsAmong, Fields.is_among, Headers.{Head, Headers, IsFde}, Meaning.{AreFdes, RowStarts}};
+ghost use Rattle.dw_section.specs.{Ranges.{IsRanged, range_in, fde_in}, Inner.{Counted.{IsProgram, StartInAll, StartsOf}, Index.IsFound}};
+ghost use Rattle.dw_section.specs.Inner.{Initials.{place_of, AreAmong, AreOf}, Lookup.{fde_of, IsFoundIn}, PieceHeader.initial_in, Pieces.piece_in, Places.Rises};
 ghost use Rattle.dw_section.specs.declared.{fields.FdeFields.FdeFields, lookup.Fde.{Fde as TheFde}};
 
 use crate::entry::{Placed, width_of};
@@ -109,7 +109,7 @@ fn sum_starts<'a>(
 ) -> u64
     requires few { length index.now ≤ 2147483647 }
     requires headers { (hs : List Head) × RulesHold target bytes.now hs × AreOf hs initials.now × AllByRecursion (IsRanged hs) index.now }
-    ensures { (hs : List Head) → RulesHold target bytes.now hs → AreOf hs initials.now → AllByRecursion (IsRanged hs) index.now → (counts : List ℕ) × AllZip (Starts target bytes.now) (map range_in index.now) counts × (result ≡ total counts) }
+    ensures { StartInAll target bytes.now (map range_in index.now) result }
 {
     let mut sum = 0;
     for fde in index {
