@@ -1,7 +1,7 @@
 //! The addresses at which the rules of an FDE change (6.4.3), one at a time, and a row narrowed to the registers that all changes
 //! specify.
 
-ghost use Rattle.std.specs.Prelude.{◌⊎◌, ◌≡◌, ◌+◌, ◌<◌, ◌↔◌, ℕ, List, [], IsTrue, Ok, Some, None, true, IsErr, IfOk, IfSome, OnErr, OnOk, MatchOption};
+ghost use Rattle.std.specs.Prelude.{◌⊎◌, ◌≡◌, ◌+◌, ◌<◌, ◌↔◌, ℕ, List, [], IsTrue, Ok, Some, None, true, false, IsErr, IfOk, IfSome, OnErr, OnOk, MatchOption};
 ghost use Rattle.dw_num.specs.Target.{address_limit};
 ghost use Rattle.dw_row.specs.{Agreement.kept, Difference.{FirstDifference, place_behind}, RegisterSets.{SameBeside, has}};
 ghost use Rattle.dw_row.specs.Rows.{AreSpecified, Rules, is_specified, rule};
@@ -11,11 +11,12 @@ ghost use Rattle.dw_section.specs.{Opening.{AreChanged, CieLeaves}, Inner.Change
 ghost use Rattle.dw_section.specs.Inner.{Lookup.{AreRowsOf, fde_of}, NarrowRow.NarrowedBy, PieceHeader.initial_in, Shown.{shown_if, shown_of}};
 
 use crate::listed_fde::FoundFde;
+use crate::table::Table;
 use crate::walks::Walks;
 use dw_cfa::RowWalk;
 use dw_num::{Target, are_bytes};
 use dw_row::{RegisterSet, Row};
-use std::alloc::{AllocError, Global};
+use std::alloc::AllocError;
 use std::marker::Model;
 
 // The row that a walk kept, where one was.
@@ -204,23 +205,25 @@ fn drop_altered<'a>(shared: &mut Row<'a>, changes: &Changes<'a>)
     }
 }
 
-impl<'a> Changes<'a> {
-    // No change of a section is to come until `go_on` names an FDE.
-    pub(crate) fn none(alloc: Global, bytes: &'a [u8], target: Target) -> Changes<'a>
-        requires { (hs : List Head) × Headers target bytes.now hs }
-        ensures { result ≡ changing (record { target = target; bytes = bytes.now }) [] 0 }
+impl<'a> Table<'a> {
+    /// Changes of which none is to come, so that `go_on` has room to go on in. Takes no memory.
+    pub fn no_changes(&self) -> Changes<'a>
+        ensures { result ≡ record { section = self.now; to_come = []; shown = None; before = None; failed = false } }
     {
+        self.accepted();
         Changes {
-            bytes,
-            target,
-            walks: Walks::new(alloc, target),
+            bytes: self.bytes,
+            target: self.target,
+            walks: Walks::new(*self.index.allocator(), self.target),
             lent: false,
             kept: false,
             end: 0,
             failed: false,
         }
     }
+}
 
+impl<'a> Changes<'a> {
     // Goes to the changes of an FDE of the section, also where memory ran out before. The walk of a CIE with a long program
     // is kept while other CIEs' FDEs are gone to, where there is memory for that.
     #[inline(always)]

@@ -223,20 +223,6 @@ pub(crate) fn or_fields_fault(
     broken
 }
 
-// A CIE as it is told.
-fn cie_header<'a>(cie: Initial<'a>) -> Header<'a>
-    ensures { head_in result ≡ initial_in cie.entry }
-{
-    Header::Cie {
-        at: cie.at,
-        form: cie.form,
-        code_factor: cie.factors.code_factor,
-        data_factor: cie.factors.data_factor,
-        return_register: cie.return_register,
-        program: cie.program,
-    }
-}
-
 // The header of an entry whose fields hold if it is a CIE.
 #[inline(always)]
 fn header_of<'a>(
@@ -251,7 +237,15 @@ fn header_of<'a>(
     ensures stuck { IfErr result (FdeStuck target places.now (piece_in piece.now)) }
 {
     let Some(fde) = fde_of(piece, places, found, target)? else {
-        return Ok(cie_header(read_initial(piece, target)?));
+        let cie = read_initial(piece, target)?;
+        return Ok(Header::Cie {
+            at: cie.at,
+            form: cie.form,
+            code_factor: cie.factors.code_factor,
+            data_factor: cie.factors.data_factor,
+            return_register: cie.return_register,
+            program: cie.program,
+        });
     };
     Ok(Header::Fde {
         at: fde.at,

@@ -3,8 +3,8 @@
 ghost use Rattle.std.specs.{List.AllByRecursion, Prelude.{◌≡◌, ◌+◌, ◌≤◌, ℕ, List, length, map, ◌<◌, true, slice_index_or}};
 ghost use Rattle.dw_num.specs.Span.{Span, span_of};
 ghost use Rattle.dw_section.specs.{Accepted.RulesHold, Among.IsAmong, Fields.is_among, Headers.{Head, Headers, IsFde}, Meaning.{AreFdes, RowStarts}};
-ghost use Rattle.dw_section.specs.{Ranges.{IsRanged, range_in, fde_in}, Inner.{Counted.{IsProgram, StartInAll, StartsOf}, Index.IsFound}};
-ghost use Rattle.dw_section.specs.Inner.{Initials.{place_of, AreAmong, AreOf}, Lookup.{fde_of, IsFoundIn}, PieceHeader.initial_in, Pieces.piece_in, Places.Rises};
+ghost use Rattle.dw_section.specs.{Ranges.{IsRanged, range_in, fde_in}, Inner.Counted.{IsProgram, StartInAll, StartsOf}};
+ghost use Rattle.dw_section.specs.Inner.{Index.IsFound, Initials.{place_of, AreAmong, AreOf}, Lookup.{fde_of, IsFoundIn}, PieceHeader.initial_in, Pieces.piece_in, Places.Rises};
 ghost use Rattle.dw_section.specs.declared.{fields.FdeFields.FdeFields, lookup.Fde.{Fde as TheFde}};
 
 use crate::entry::{Placed, width_of};
@@ -37,17 +37,6 @@ fn program_behind<'a>(own: &Placed<'a>, target: Target) -> Program<'a>
     }
 }
 
-// What the FDEs of the CIE at a place begin with.
-#[inline(always)]
-fn initial_at<'c, 'a>(initials: &'c [Initial<'a>], place: u64) -> &'c Initial<'a>
-    requires ascending { Rises 0 (map place_of initials.now) }
-    requires among { is_among place (map place_of initials.now) ≡ true }
-    ensures place { result.now.at ≡ place }
-    ensures is { (hs : List Head) → AreAmong hs initials.now → IsAmong (initial_in result.now) hs }
-{
-    &initials[initials.partition_point(|initial| initial.at < place)]
-}
-
 /// The FDE of an entry of the list, read again at its place. What the entry says of it is known, so of its fields the pointer
 /// alone is read.
 #[inline(always)]
@@ -71,6 +60,7 @@ pub(crate) fn found_fde<'a>(
         unreachable!();
     };
     let cie_at = pointer_of(&own, target);
+    let named = initials.partition_point(|initial| initial.at < cie_at);
     FoundFde {
         own: FdeEntry {
             at,
@@ -80,7 +70,7 @@ pub(crate) fn found_fde<'a>(
             range: fde.range,
             program: program_behind(&own, target),
         },
-        cie: *initial_at(initials, cie_at),
+        cie: initials[named],
     }
 }
 

@@ -4,7 +4,8 @@ use Rattle.dw_num.specs.Input.{AreBytes}
 use Rattle.dw_row.specs.{RegisterSets.Registers, Rows.Rules}
 use Rattle.dw_row.proofs.Lent.Equal.{row_test}
 use Rattle.dw_cfa.specs.{Behind.LeavesTo, RowSteps.Stepping, RowWalk.{AllKeep, Walking}, declared.execution.LocatedRow.LocatedRow}
-use Rattle.dw_section.specs.{Changes.Changing, Headers.{Head, Headers}, Opening.AreChanged, Table.Section, declared.walks.Walks.Walks, Inner.{Shown.{shown_if, shown_of, before_of}, Walks.AreLed}}
+use Rattle.dw_section.specs.{Changes.Changing, Headers.{Head, Headers}, Opening.AreChanged, Table.Section, declared.walks.Walks.Walks}
+use Rattle.dw_section.specs.Inner.{Shown.{shown_if, shown_of, before_of}, Walks.AreLed}
 
 -- ---- changes among rows
 
