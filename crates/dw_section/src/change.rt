@@ -1,16 +1,16 @@
 //! The addresses at which the rules of an FDE change (6.4.3), one at a time, and a row narrowed to the registers that all changes
 //! specify.
 
-ghost use Rattle.std.specs.Prelude.{◌⊎◌, ◌≡◌, ◌+◌, ◌<◌, ◌↔◌, ℕ, List, [], IsTrue, Ok, Some, None, true, false, IsErr, IfOk, IfSome, OnErr, OnOk, MatchOption};
-ghost use Rattle.dw_num.specs.Target.{address_limit};
+ghost use Rattle.std.specs.Prelude.{◌⊎◌, ◌≡◌, ◌<◌, ◌↔◌, ℕ, List, [], length, slice_index_or, IsTrue, Ok, Some, None, true, false, IsErr, IfOk, IfSome};
+ghost use Rattle.std.specs.Prelude.{OnErr, OnOk, MatchOption};
 ghost use Rattle.dw_row.specs.{Agreement.kept, Difference.{FirstDifference, place_behind}, RegisterSets.{SameBeside, has}};
 ghost use Rattle.dw_row.specs.Rows.{AreSpecified, Rules, is_specified, rule};
-ghost use Rattle.dw_cfa.specs.{RowWalk.{StandsOn}, declared.execution.LocatedRow.LocatedRow};
-ghost use Rattle.dw_section.specs.{Among.IsAmong, Changes.{GivesAddress, GivesChange, GoesOn, before_then, behind_all, kept_by}, Headers.{Head, Headers}};
-ghost use Rattle.dw_section.specs.{Opening.{AreChanged, CieLeaves}, Inner.Changes.{Before, FindsChange, FindsFirst, KeepsIf, ShownBehind, changing}};
-ghost use Rattle.dw_section.specs.Inner.{Lookup.{AreRowsOf, fde_of}, NarrowRow.NarrowedBy, PieceHeader.initial_in, Shown.{shown_if, shown_of}};
+ghost use Rattle.dw_cfa.specs.RowWalk.{StandsOn};
+ghost use Rattle.dw_section.specs.{Changes.{GivesAddress, GivesChange, GoesOn, before_then, behind_all, kept_by}, Meaning.{AreFdes, ChangesOf}};
+ghost use Rattle.dw_section.specs.{Opening.{AreChanged, CieLeaves}, declared.lookup.Fde.{Fde as TheFde}};
+ghost use Rattle.dw_section.specs.Inner.{Changes.{Before, FindsChange, FindsFirst, KeepsIf, ShownBehind}, NarrowRow.NarrowedBy, Shown.{shown_if, shown_of}};
 
-use crate::listed_fde::FoundFde;
+use crate::lookup::FdeRef;
 use crate::table::Table;
 use crate::walks::Walks;
 use dw_cfa::RowWalk;
@@ -221,28 +221,35 @@ impl<'a> Table<'a> {
             failed: false,
         }
     }
+
+    /// Goes to the changes of an FDE of the list of `fdes`, in the room of changes of this section, also where memory ran out.
+    /// Programs are run by `Changes::next`, that of a CIE once more only where its walk was not kept. That of the FDE before was,
+    /// also where its CIE is another one with an equal program; where it is the same CIE, no bytes of its program are read again.
+    /// The walk of each CIE with a long program is kept, and memory is taken for that alone: where there is none, the walk is
+    /// dropped, and the program is run once more.
+    pub fn go_on(&self, changes: &mut Changes<'a>, fde: FdeRef)
+        requires place { (fs : List TheFde) → AreFdes self.now.target self.now.bytes fs → fde.place < length fs }
+        requires section { changes.old.section ≡ self.now }
+        ensures begun { (changes.new.failed ≡ false) × (changes.new.shown ≡ None) }
+        ensures before { changes.new.before ≡ None }
+        ensures section { changes.new.section ≡ self.now }
+        ensures changes { (fs : List TheFde) → AreFdes self.now.target self.now.bytes fs → (d : TheFde)
+            → ChangesOf self.now.target self.now.bytes (slice_index_or fs fde.place d) changes.new.to_come }
+    {
+        self.accepted();
+        let found = self.found(fde);
+        changes.walks.lead(&found.cie, changes.target);
+        are_bytes(found.cie.program.bytes);
+        are_bytes(found.own.program.bytes);
+        changes.walks.walk.go_to(found.own.program, found.own.begin);
+        changes.lent = false;
+        changes.kept = false;
+        changes.end = u128::from(found.own.begin) + u128::from(found.own.range);
+        changes.failed = false;
+    }
 }
 
 impl<'a> Changes<'a> {
-    // Goes to the changes of an FDE of the section, also where memory ran out before. The walk of a CIE with a long program
-    // is kept while other CIEs' FDEs are gone to, where there is memory for that.
-    #[inline(always)]
-    pub(crate) fn go_on(&mut self, fde: &FoundFde<'a>)
-        requires in_space { fde.now.own.begin < address_limit self.old.section.target.size }
-        requires known { (rows : List LocatedRow) × AreRowsOf self.old.section.target fde.now rows }
-        requires among { (hs : List Head) → Headers self.old.section.target self.old.section.bytes hs → IsAmong (initial_in fde.now.cie) hs }
-        ensures { (rows : List LocatedRow) → AreRowsOf self.old.section.target fde.now rows → self.new ≡ changing self.old.section rows (fde_of fde.now).end }
-    {
-        self.walks.lead(&fde.cie, self.target);
-        are_bytes(fde.cie.program.bytes);
-        are_bytes(fde.own.program.bytes);
-        self.walks.walk.go_to(fde.own.program, fde.own.begin);
-        self.lent = false;
-        self.kept = false;
-        self.end = u128::from(fde.own.begin) + u128::from(fde.own.range);
-        self.failed = false;
-    }
-
     /// Goes on to the next change, whose row (6.4.1) `row` lends then, and answers its address, or none behind the last one. Want
     /// of memory is answered from then on. An address is below the FDE's end, so below 2^N, where an address has N bits.
     #[inline(always)]

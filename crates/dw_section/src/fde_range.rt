@@ -1,6 +1,6 @@
 //! Running the programs of a section (6.4.2, 6.4.3), and its nonempty FDEs in the order of their begins.
 
-ghost use Rattle.std.specs.{List.AllByRecursion, Prelude.{◌≡◌, ◌<◌, true, List, map, IfOk, IfErr, OnOk, MatchOption, ◌≤◌, ℕ, None, [], ◌∷◌, ◌++◌, length}};
+ghost use Rattle.std.specs.{List.AllByRecursion, Prelude.{◌≡◌, ◌<◌, true, List, map, IfErr, OnOk, MatchOption, ◌≤◌, ℕ, None, [], ◌∷◌, ◌++◌, length}};
 ghost use Rattle.dw_num.specs.{Refusals.Refuses, Target.address_limit, declared.{refusal.Code.TheVariants.Overlap, target.Target.{Target as TheTarget}}};
 ghost use Rattle.dw_section.specs.{Accepted.{CiesRun, RulesFault}, Cut.Piece, Headers.Head, Overlap.{nonempty, AreApart, FirstOverlap}};
 ghost use Rattle.dw_section.specs.{Pieces.Pieces, Programs.{CieRuns, CieBroken}, Ranges.{AreIndexed, range_in}, Stage.FirstStuck};

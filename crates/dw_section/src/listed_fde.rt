@@ -1,10 +1,9 @@
 //! The FDEs of a table, read again at their places, and how many rows their programs start (6.4.3).
 
-ghost use Rattle.std.specs.{List.AllByRecursion, Prelude.{◌≡◌, ◌+◌, ◌≤◌, ℕ, List, length, map, ◌<◌, true, slice_index_or}};
+ghost use Rattle.std.specs.Prelude.{◌≡◌, ◌≤◌, ℕ, List, length, ◌<◌, slice_index_or};
 ghost use Rattle.dw_num.specs.Span.{Span, span_of};
-ghost use Rattle.dw_section.specs.{Accepted.RulesHold, Among.IsAmong, Fields.is_among, Headers.{Head, Headers, IsFde}, Meaning.{AreFdes, RowStarts}};
-ghost use Rattle.dw_section.specs.{Ranges.{IsRanged, range_in, fde_in}, Inner.Counted.{IsProgram, StartInAll, StartsOf}};
-ghost use Rattle.dw_section.specs.Inner.{Index.IsFound, Initials.{place_of, AreAmong, AreOf}, Lookup.{fde_of, IsFoundIn}, PieceHeader.initial_in, Pieces.piece_in, Places.Rises};
+ghost use Rattle.dw_section.specs.{Headers.{Head, Headers, IsFde}, Meaning.{AreFdes, RowStarts}, Ranges.{IsRanged, fde_in}};
+ghost use Rattle.dw_section.specs.Inner.{Counted.{IsProgram, StartsOf}, Index.IsFound, Initials.AreOf, Lookup.{fde_of, IsFoundIn}, Pieces.piece_in};
 ghost use Rattle.dw_section.specs.declared.{fields.FdeFields.FdeFields, lookup.Fde.{Fde as TheFde}};
 
 use crate::entry::{Placed, width_of};
@@ -91,24 +90,6 @@ fn starts_of(fde: &FoundFde<'_>, target: Target) -> u64
     starts
 }
 
-fn sum_starts<'a>(
-    bytes: &'a [u8],
-    target: Target,
-    initials: &[Initial<'a>],
-    index: &[Ranged],
-) -> u64
-    requires few { length index.now ≤ 2147483647 }
-    requires headers { (hs : List Head) × RulesHold target bytes.now hs × AreOf hs initials.now × AllByRecursion (IsRanged hs) index.now }
-    ensures { StartInAll target bytes.now (map range_in index.now) result }
-{
-    let mut sum = 0;
-    for fde in index {
-        let found = found_fde(bytes, target, initials, fde);
-        sum += starts_of(&found, target);
-    }
-    sum
-}
-
 impl<'a> Table<'a> {
     // An entry of the index.
     #[inline(always)]
@@ -136,6 +117,12 @@ impl<'a> Table<'a> {
     pub fn row_starts(&self) -> u64
         ensures { RowStarts self.now.target self.now.bytes result }
     {
-        sum_starts(self.bytes, self.target, &self.initials, self.index())
+        let mut sum = 0;
+        let index = self.index();
+        for fde in index {
+            let found = found_fde(self.bytes, self.target, &self.initials, fde);
+            sum += starts_of(&found, self.target);
+        }
+        sum
     }
 }

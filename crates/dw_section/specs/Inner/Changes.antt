@@ -45,10 +45,6 @@ changes_among end shown [] = []
 changes_among end shown (row ∷ rows) =
     if is_before end row.location rows && not (repeats shown row.row) then (row.location, row.row) ∷ changes_among end (Some row.row) rows else changes_among end shown rows
 
--- nothing was shown yet of the changes among rows
-abbrev pub changing : Section → List LocatedRow → ℕ → Changing
-changing s rows end = record { section = s; to_come = changes_among end None rows; shown = None; before = None; failed = false }
-
 -- ---- how the code finds them
 
 -- the changes that a walk shows, by whether it lends the row that was shown last, and whether it kept one

@@ -1,8 +1,8 @@
 -- How the code counts the rows that programs start.
-use Rattle.std.specs.{Prelude.{◌≡◌, ℕ, ◌+◌, Bool, false, cond, List, [], ◌∷◌, Result, Ok, Err}, List.AllZip}
+use Rattle.std.specs.Prelude.{◌≡◌, ℕ, ◌+◌, Bool, false, cond, List, [], ◌∷◌, Result, Ok, Err}
 use Rattle.dw_num.specs.declared.{refusal.Refusal.Refusal, target.Target.Target}
 use Rattle.dw_cfa.specs.{InstrSpells.ProgramSpells, Location.{moves_location, row_starts}, declared.instr.Instr.Instr}
-use Rattle.dw_section.specs.{Meaning.{Starts, total}, Overlap.Range, declared.listed_fde.FoundFde.FoundFde}
+use Rattle.dw_section.specs.declared.listed_fde.FoundFde.{FoundFde}
 
 abbrev pub starts_row : Result Instr Refusal → Bool
 starts_row (Ok instr) = moves_location instr
@@ -11,10 +11,6 @@ starts_row (Err r) = false
 abbrev pub moves_in : List (Result Instr Refusal) → ℕ
 moves_in [] = 0
 moves_in (x ∷ xs) = cond (starts_row x) 1 0 + moves_in xs
-
--- the programs of FDEs with these ranges start n rows in all
-abbrev pub StartInAll : Target → List ℕ → List Range → ℕ → Type 0
-StartInAll target s ranges n = (counts : List ℕ) × AllZip (Starts target s) ranges counts × (n ≡ total counts)
 
 -- the bytes of an FDE's program are instructions
 abbrev pub IsProgram : Target → FoundFde → Type 0
