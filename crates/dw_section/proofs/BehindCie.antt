@@ -4,7 +4,7 @@ use Rattle.dw_row.proofs.Lent.RowLists.{Entry}
 use Rattle.dw_section.specs.declared.change.Behind.{Behind}
 use Rattle.dw_section.proofs.Words.{◌≡◌, ℕ, suc, ◌<◌, Bool, true, false, List, [], ◌∷◌, Option, Some, None, Ok, refl, sym, ap, subst, arith, inl, inr, filter, nat_tests, cases_Bool, cases_lt, IfSome, IsTrue, MatchOption, AreBytes}
 use Rattle.dw_section.proofs.Words.{LocatedRow, RegRule, Rules, Led, Walking, AllKeep, AreSpecified, Head, Headers, LedTo, Section, changes_among, is_kept, is_specified, kept, kept_by, leaves_one, rule, rule_in, shown_if, unlisted}
-use Rattle.dw_section.proofs.{Words.{LeavesTo, FirstDifference, CieKeeps, StandsOn, finished, ShownBehind, shown_of, AreChanged, CieLeaves, first_left}, ChangesAmong.changes_keep, Dropped.none_dropped}
+use Rattle.dw_section.proofs.{Words.{LeavesTo, FirstDifference, CieKeeps, StandsOn, finished, ShownBehind, shown_of, AreChanged, CieLeaves, first_left}, ChangesAmong.none_dropped}
 
 -- ---- the registers to which a row gives other rules than the one before
 
@@ -57,7 +57,7 @@ module _ (lent kept : Bool) (current before : Rules) (none : kept ≡ false) whe
   -- the changes behind it drop none of its registers
   drops_none : (end : ℕ) (rows : List LocatedRow) → AllKeep current rows → IfSome (shown_of lent current (shown_if kept before)) (λ first. kept_by first (changes_among end (shown_of lent current (shown_if kept before)) rows) ≡ first)
   drops_none end rows all = elim (cases_Bool lent) [
-    | inl e ↦ rw e (sym (none_dropped current (changes_among end (Some current) rows) (changes_keep current end (Some current) rows all)))
+    | inl e ↦ rw e (sym (none_dropped current end (Some current) rows all))
     | inr e ↦ rw (e, none) tt
   ]
 

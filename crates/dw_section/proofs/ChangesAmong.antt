@@ -1,6 +1,6 @@
 -- The list of the changes among rows, and how the code finds one after another.
 use Rattle.dw_section.proofs.Words.{◌≡◌, ◌⊎◌, ℕ, Bool, false, List, [], ◌∷◌, Option, Some, None, Ok, refl, sym, ap, ◌∙◌, subst, inl, inr, ◌&&◌, not, nat_lt, Decides, cases_Bool, Decides-and, Decides-ltb, Decides-not, LocatedRow, Rules}
-use Rattle.dw_section.proofs.Words.{Outcome, Among, Before, Shows, changes_among, ChangesKeep, Stepping, Advances, AllKeep, row_then, is_before, repeats}
+use Rattle.dw_section.proofs.Words.{Outcome, Among, Before, Shows, changes_among, kept_by, Stepping, Advances, AllKeep, row_then, is_before, repeats}
 use Rattle.dw_row.proofs.Lent.Equal.{row_test}
 
 before_tells : (end a : ℕ) (rows : List LocatedRow) → Decides (is_before end a rows) (Before end a rows)
@@ -35,12 +35,12 @@ are_among end shown (row ∷ rows) = elim (cases_Bool (is_before end row.locatio
   | inr e ↦ rw e (inl (passed end shown row rows e, are_among end shown rows))
 ]
 
--- rows that keep all registers drop none
-pub changes_keep : (shared : Rules) (end : ℕ) (shown : Option Rules) (rows : List LocatedRow) → AllKeep shared rows → ChangesKeep shared (changes_among end shown rows)
-changes_keep shared end shown [] h = tt
-changes_keep shared end shown (row ∷ rows) h = elim (cases_Bool (is_before end row.location rows && not (repeats shown row.row))) [
-  | inl e ↦ rw e (h.0, changes_keep shared end (Some row.row) rows h.1)
-  | inr e ↦ rw e (changes_keep shared end shown rows h.1)
+-- the changes among rows that keep all registers drop none
+pub none_dropped : (shared : Rules) (end : ℕ) (shown : Option Rules) (rows : List LocatedRow) → AllKeep shared rows → shared ≡ kept_by shared (changes_among end shown rows)
+none_dropped shared end shown [] h = refl
+none_dropped shared end shown (row ∷ rows) h = elim (cases_Bool (is_before end row.location rows && not (repeats shown row.row))) [
+  | inl e ↦ rw e (none_dropped shared end (Some row.row) rows h.1 ∙ ap (λ (r : Rules). kept_by r (changes_among end (Some row.row) rows)) (sym h.0))
+  | inr e ↦ rw e (none_dropped shared end shown rows h.1)
 ]
 
 -- ---- as the code finds them

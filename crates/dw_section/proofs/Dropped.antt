@@ -1,6 +1,6 @@
 -- The registers that a change drops from a row that was narrowed by the row before it.
 use Rattle.dw_section.proofs.Words.{◌≡◌, ℕ, suc, Bool, true, false, List, [], ◌∷◌, Option, Some, None, Ok, refl, sym, ap, ◌∙◌, subst, arith, nat_eq, nat_lt, nat_tests, not, inl, inr, filter, cases_Bool, RegRule, kept, Rules, rule, rule_in}
-use Rattle.dw_section.proofs.Words.{is_specified, kept_by, AreSpecified, ChangesKeep, DiffersFirst, is_kept, Changing, GivesAddress, before_then, same_rows, if◌then◌else◌, filter_keeps, filter_rule, without, FirstDifference, Unspecified}
+use Rattle.dw_section.proofs.Words.{is_specified, AreSpecified, DiffersFirst, is_kept, Changing, GivesAddress, before_then, same_rows, if◌then◌else◌, filter_keeps, filter_rule, without, FirstDifference, Unspecified}
 use Rattle.dw_row.proofs.Lent.RowLists.{Entry}
 
 -- a rule that stays where a test keeps it
@@ -65,11 +65,6 @@ kept_again shared after row is = subst (λ (r : Rules). kept r row ≡ r) (sym i
 pub before_is : (shown before : Option Rules) (o : Option ℕ) (to : ℕ) → before ≡ before_then o shown → o ≡ Some to → before ≡ shown
 before_is shown before None to is e = absurd cc
 before_is shown before (Some a) to is e = is
-
--- changes that keep all registers drop none
-pub none_dropped : (shared : Rules) (changes : List (ℕ × Rules)) → ChangesKeep shared changes → shared ≡ kept_by shared changes
-none_dropped shared [] keep = refl
-none_dropped shared (change ∷ changes) keep = none_dropped shared changes keep.1 ∙ ap (λ (r : Rules). kept_by r changes) (sym keep.0)
 
 -- ---- a step
 

@@ -1,8 +1,8 @@
 -- FDEs in order, and the first that begins below the end of one before it.
-use Rattle.dw_section.proofs.Words.{◌≡◌, ℕ, zero, suc, ◌+◌, ◌<◌, ◌≤◌, Bool, false, List, [], ◌∷◌, ◌++◌, map, length, get_or, take, drop, refl, ap, ◌∙◌, arith, inl, inr, add-one, Equal, Greater, sym, ◌==◌, nat_cmp, is_lt, AllByRecursion}
+use Rattle.dw_section.proofs.Words.{◌≡◌, ℕ, suc, ◌+◌, ◌<◌, ◌≤◌, Bool, false, List, [], ◌∷◌, ◌++◌, map, length, get_or, take, drop, refl, ap, ◌∙◌, arith, inl, inr, add-one, Equal, Greater, sym, ◌==◌, nat_cmp, is_lt, AllByRecursion}
 use Rattle.dw_section.proofs.Words.{IsDistinct, IsPermutation, IsNonDecreasingBy, IsSortedByKey, IsStableByKey, cases_lt, ne_eqb, drop_more, map-append, take-append-drop, All-permutation, IsPermutation-map, IsPermutation-sym}
 use Rattle.dw_section.proofs.{Words.{ties_still_rise, All-from_recursion, recursion_from_All, Overlap, Ranged, PlacesRise, EndsAt, range_in, Range, Precedes, Ascends, AreApart, FirstOverlap, end_of, IsAmong, nat_tests}, Lent.Index.all_from}
-use Rattle.dw_section.proofs.Stages.{all_push, among_here, all_weaker}
+use Rattle.dw_section.proofs.{Words.RiseBy, Places.rise_at, Stages.{all_push, among_here, all_weaker}}
 use Rattle.std.specs.Cmp.{nat_cmp_is}
 use Rattle.std.proofs.lemmas.Map.Keys.{IsDistinct-from_apart, apart_from_distinct, IsDistinct-IsPermutation}
 
@@ -50,7 +50,7 @@ ascends_from (y ∷ z ∷ ys) h =
 pub all_permuted : {X : Type 0} (P : X → Type 0) (xs ys : List X) → IsPermutation xs ys → AllByRecursion P xs → AllByRecursion P ys
 all_permuted P xs ys p h = recursion_from_All P ys (All-permutation P xs ys p (All-from_recursion P xs h))
 
-members : (rs : List Range) → AllByRecursion (λ a. IsAmong a rs) rs
+pub members : (rs : List Range) → AllByRecursion (λ a. IsAmong a rs) rs
 members rs = all_from (λ a. IsAmong a rs) rs (λ a i. i)
 
 pub permuted_members : (xs ys : List Ranged) → IsPermutation xs ys → AllByRecursion (λ a. IsAmong a (map range_in xs)) (map range_in ys) × AllByRecursion (λ a. IsAmong a (map range_in ys)) (map range_in xs)
@@ -70,21 +70,18 @@ same_place e f = e.at == f.at
 not_less : (x y : ℕ) → y ≤ x → is_lt (nat_cmp x y) ≡ false
 not_less x y le = elim (cases_lt y x) [ inl lt ↦ ap is_lt (sym (nat_cmp_is x y Greater lt)) | inr ge ↦ ap is_lt (sym (nat_cmp_is x y Equal (omega arith))) ]
 
-from_low : (low : ℕ) (xs : List Ranged) (k : ℕ) (d : Ranged) → PlacesRise low (map range_in xs) → k < length xs → low ≤ (get_or xs k d).at
-from_low low [] k d up lt = absurd (omega arith)
-from_low low (e ∷ xs) zero d up lt = up.0
-from_low low (e ∷ xs) (suc k) d up lt = let p = from_low (suc e.at) xs k d up.1 (omega arith) in omega (arith, up.0)
+own_places : (low : ℕ) (xs : List Ranged) → PlacesRise low (map range_in xs) → RiseBy (λ (e : Ranged). e.at) low xs
+own_places low [] up = tt
+own_places low (e ∷ xs) up = (up.0, own_places (suc e.at) xs up.1)
 
-later_place : (low : ℕ) (xs : List Ranged) (i j : ℕ) (d : Ranged) → PlacesRise low (map range_in xs) → i < j → j < length xs → (get_or xs i d).at < (get_or xs j d).at
-later_place low (e ∷ xs) zero (suc j) d up less lt = from_low (suc e.at) xs j d up.1 (omega arith)
-later_place low (e ∷ xs) (suc i) (suc j) d up less lt = later_place (suc e.at) xs i j d up.1 (omega arith) (omega arith)
-later_place low xs i j d up less lt = absurd (omega arith)
+later_place : (xs : List Ranged) (i j : ℕ) (d : Ranged) → PlacesRise 0 (map range_in xs) → i < j → j < length xs → (get_or xs i d).at < (get_or xs j d).at
+later_place xs i j d up less lt = rise_at (λ (e : Ranged). e.at) 0 xs (own_places 0 xs up) i j d less lt
 
 places_apart : (xs : List Ranged) → PlacesRise 0 (map range_in xs) → IsDistinct same_place xs
-places_apart xs up = IsDistinct-from_apart same_place xs (λ i j d less lt. ne_eqb (get_or xs i d).at (get_or xs j d).at (λ same. omega (arith, later_place 0 xs i j d up less lt, same)))
+places_apart xs up = IsDistinct-from_apart same_place xs (λ i j d less lt. ne_eqb (get_or xs i d).at (get_or xs j d).at (λ same. omega (arith, later_place xs i j d up less lt, same)))
 
 places_sorted : (xs : List Ranged) → PlacesRise 0 (map range_in xs) → IsSortedByKey (λ (e : Ranged). e.at) nat_cmp xs
-places_sorted xs up = λ k d le lt. rw add-one (let p = later_place 0 xs k (suc k) d up (omega arith) (omega arith) in not_less (get_or xs (suc k) d).at (get_or xs k d).at (omega arith))
+places_sorted xs up = λ k d le lt. rw add-one (let p = later_place xs k (suc k) d up (omega arith) (omega arith) in not_less (get_or xs (suc k) d).at (get_or xs k d).at (omega arith))
 
 pub sorted_ascends : (xs ys : List Ranged) → PlacesRise 0 (map range_in xs) → IsPermutation xs ys → IsNonDecreasingBy (λ (e : Ranged). e.begin) ys → IsStableByKey (λ (e : Ranged). e.begin) nat_cmp xs ys → Ascends (map range_in ys)
 sorted_ascends xs ys up p sorted stable = ascends_from ys next

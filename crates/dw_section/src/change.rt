@@ -1,21 +1,22 @@
 //! The addresses at which the rules of an FDE change (6.4.3), one at a time, and a row narrowed to the registers that all changes
 //! specify.
 
-ghost use Rattle.std.specs.Prelude.{◌⊎◌, ◌≡◌, ◌+◌, ◌<◌, ◌↔◌, ℕ, List, [], IsTrue, Ok, Some, None, true, IsErr, IfOk, IfSome, OnErr, OnOk, MatchOption};
-ghost use Rattle.dw_num.specs.{Input.AreBytes, Target.address_limit};
+ghost use Rattle.std.specs.Prelude.{◌⊎◌, ◌≡◌, ◌<◌, ◌↔◌, ℕ, List, [], length, slice_index_or, IsTrue, Ok, Some, None, true, false, IsErr, IfOk, IfSome};
+ghost use Rattle.std.specs.Prelude.{OnErr, OnOk, MatchOption};
 ghost use Rattle.dw_row.specs.{Agreement.kept, Difference.{FirstDifference, place_behind}, RegisterSets.{SameBeside, has}};
 ghost use Rattle.dw_row.specs.Rows.{AreSpecified, Rules, is_specified, rule};
-ghost use Rattle.dw_cfa.specs.{RowWalk.{AllKeep, StandsOn}, declared.execution.LocatedRow.LocatedRow};
-ghost use Rattle.dw_section.specs.{Among.IsAmong, Changes.{GivesAddress, GivesChange, GoesOn, before_then, behind_all, kept_by}, Headers.{Head, Headers}};
-ghost use Rattle.dw_section.specs.{Opening.{AreChanged, CieLeaves}, Inner.{Changes.{Before, FindsChange, FindsFirst, ShownBehind, changing}, Lookup.AreRowsOf}};
-ghost use Rattle.dw_section.specs.Inner.{NarrowRow.NarrowedBy, PieceHeader.initial_in, Shown.{shown_if, shown_of}};
+ghost use Rattle.dw_cfa.specs.RowWalk.{StandsOn};
+ghost use Rattle.dw_section.specs.{Changes.{GivesAddress, GivesChange, GoesOn, before_then, behind_all, kept_by}, Meaning.{AreFdes, ChangesOf}};
+ghost use Rattle.dw_section.specs.{Opening.{AreChanged, CieLeaves}, declared.lookup.Fde.{Fde as TheFde}};
+ghost use Rattle.dw_section.specs.Inner.{Changes.{Before, FindsChange, FindsFirst, KeepsIf, ShownBehind}, NarrowRow.NarrowedBy, Shown.{shown_if, shown_of}};
 
-use crate::listed_fde::FoundFde;
+use crate::lookup::FdeRef;
+use crate::table::Table;
 use crate::walks::Walks;
 use dw_cfa::RowWalk;
 use dw_num::{Target, are_bytes};
 use dw_row::{RegisterSet, Row};
-use std::alloc::{AllocError, Global};
+use std::alloc::AllocError;
 use std::marker::Model;
 
 // The row that a walk kept, where one was.
@@ -144,7 +145,7 @@ fn show_behind<'a>(
     ensures led { steps.new.led ≡ steps.old.led }
     ensures cie { IfOk result (λ found. IfSome found.1 (λ behind. behind.cie_at ≡ cie_at)) }
     ensures beside { IfOk result (λ found. IfSome found.1 (λ _. ShownBehind steps.new changed.new)) }
-    ensures keeps { IfOk result (λ found. IfSome found.1 (λ behind. IsTrue behind.keeps → AreBytes steps.new.led.program.bytes → AllKeep steps.new.steps.current steps.new.steps.outcome.rows)) }
+    ensures keeps { IfOk result (λ found. IfSome found.1 (λ behind. KeepsIf behind.keeps steps.new)) }
 {
     let Ok(kept) = steps.keep_initial() else {
         return Err(AllocError);
@@ -175,11 +176,11 @@ pub struct Changes<'a> {
 }
 
 impl<'a> Model for Changes<'a> {
-    ghost use Rattle.dw_section.specs.{Changes.Changing, Inner.Changes.{ChangesSo, changes_among}, Inner.Shown.{shown_if, shown_of, before_of}};
+    ghost use Rattle.dw_section.specs.{Changes.Changing, Inner.Changes.{ChangesSo, showing}};
 
     ghost Value = { Changing };
 
-    ghost view = { λ c. record { section = record { target = c.target; bytes = c.bytes.now }; to_come = changes_among c.end (shown_of c.lent c.walks.walk.steps.current (shown_if c.kept c.walks.walk.kept)) c.walks.walk.steps.outcome.rows; shown = shown_of c.lent c.walks.walk.steps.current (shown_if c.kept c.walks.walk.kept); before = before_of c.lent (shown_if c.kept c.walks.walk.kept); failed = c.failed } };
+    ghost view = { λ c. showing (record { target = c.target; bytes = c.bytes.now }) c.walks.walk c.lent c.kept c.end c.failed };
 
     ghost invariant = { λ c. ChangesSo (record { target = c.target; bytes = c.bytes.now }) c.walks };
 }
@@ -204,16 +205,16 @@ fn drop_altered<'a>(shared: &mut Row<'a>, changes: &Changes<'a>)
     }
 }
 
-impl<'a> Changes<'a> {
-    // No change of a section is to come until `go_on` names an FDE.
-    pub(crate) fn none(alloc: Global, bytes: &'a [u8], target: Target) -> Changes<'a>
-        requires { (hs : List Head) × Headers target bytes.now hs }
-        ensures { result ≡ changing (record { target = target; bytes = bytes.now }) [] 0 }
+impl<'a> Table<'a> {
+    /// Changes of which none is to come, so that `go_on` has room to go on in. Takes no memory.
+    pub fn no_changes(&self) -> Changes<'a>
+        ensures { result ≡ record { section = self.now; to_come = []; shown = None; before = None; failed = false } }
     {
+        self.accepted();
         Changes {
-            bytes,
-            target,
-            walks: Walks::new(alloc, target),
+            bytes: self.bytes,
+            target: self.target,
+            walks: Walks::new(*self.index.allocator(), self.target),
             lent: false,
             kept: false,
             end: 0,
@@ -221,25 +222,34 @@ impl<'a> Changes<'a> {
         }
     }
 
-    // Goes to the changes of an FDE of the section, also where memory ran out before. The walk of a CIE with a long program
-    // is kept while other CIEs' FDEs are gone to, where there is memory for that.
-    #[inline(always)]
-    pub(crate) fn go_on(&mut self, fde: &FoundFde<'a>)
-        requires in_space { fde.now.own.begin < address_limit self.old.section.target.size }
-        requires known { (rows : List LocatedRow) × AreRowsOf self.old.section.target fde.now rows }
-        requires among { (hs : List Head) → Headers self.old.section.target self.old.section.bytes hs → IsAmong (initial_in fde.now.cie) hs }
-        ensures { (rows : List LocatedRow) → AreRowsOf self.old.section.target fde.now rows → self.new ≡ changing self.old.section rows (fde.now.own.begin + fde.now.own.range) }
+    /// Goes to the changes of an FDE of the list of `fdes`, in the room of changes of this section, also where memory ran out.
+    /// Programs are run by `Changes::next`, that of a CIE once more only where its walk was not kept. That of the FDE before was,
+    /// also where its CIE is another one with an equal program; where it is the same CIE, no bytes of its program are read again.
+    /// The walk of each CIE with a long program is kept, and memory is taken for that alone: where there is none, the walk is
+    /// dropped, and the program is run once more.
+    pub fn go_on(&self, changes: &mut Changes<'a>, fde: FdeRef)
+        requires place { (fs : List TheFde) → AreFdes self.now.target self.now.bytes fs → fde.place < length fs }
+        requires section { changes.old.section ≡ self.now }
+        ensures begun { (changes.new.failed ≡ false) × (changes.new.shown ≡ None) }
+        ensures before { changes.new.before ≡ None }
+        ensures section { changes.new.section ≡ self.now }
+        ensures changes { (fs : List TheFde) → AreFdes self.now.target self.now.bytes fs → (d : TheFde)
+            → ChangesOf self.now.target self.now.bytes (slice_index_or fs fde.place d) changes.new.to_come }
     {
-        self.walks.lead(&fde.cie, self.target);
-        are_bytes(fde.cie.program.bytes);
-        are_bytes(fde.own.program.bytes);
-        self.walks.walk.go_to(fde.own.program, fde.own.begin);
-        self.lent = false;
-        self.kept = false;
-        self.end = u128::from(fde.own.begin) + u128::from(fde.own.range);
-        self.failed = false;
+        self.accepted();
+        let found = self.found(fde);
+        changes.walks.lead(&found.cie, changes.target);
+        are_bytes(found.cie.program.bytes);
+        are_bytes(found.own.program.bytes);
+        changes.walks.walk.go_to(found.own.program, found.own.begin);
+        changes.lent = false;
+        changes.kept = false;
+        changes.end = u128::from(found.own.begin) + u128::from(found.own.range);
+        changes.failed = false;
     }
+}
 
+impl<'a> Changes<'a> {
     /// Goes on to the next change, whose row (6.4.1) `row` lends then, and answers its address, or none behind the last one. Want
     /// of memory is answered from then on. An address is below the FDE's end, so below 2^N, where an address has N bits.
     #[inline(always)]
@@ -276,9 +286,11 @@ impl<'a> Changes<'a> {
         ensures again { self.old.failed ≡ true → IsErr result }
         ensures section { self.new.section ≡ self.old.section }
         // The set has the registers in which the row that is shown is not that of the CIE.
-        ensures changed { IfOk result (λ found. IfSome found (λ behind. (row : Rules) × CieLeaves self.old.section.target self.old.section.bytes behind.cie_at row × IfSome self.new.shown (AreChanged changed.new row))) }
+        ensures changed { IfOk result (λ found. IfSome found (λ behind. (row : Rules)
+            × CieLeaves self.old.section.target self.old.section.bytes behind.cie_at row × IfSome self.new.shown (AreChanged changed.new row))) }
         // The changes still to come specify what the first one does.
-        ensures keeps { IfOk result (λ found. IfSome found (λ behind. IsTrue behind.keeps → IfSome self.new.shown (λ first. kept_by first self.new.to_come ≡ first))) }
+        ensures keeps { IfOk result (λ found. IfSome found (λ behind. IsTrue behind.keeps
+            → IfSome self.new.shown (λ first. kept_by first self.new.to_come ≡ first))) }
     {
         let Some(cie_at) = self.walks.cie_at else {
             self.advance()?;
@@ -341,7 +353,8 @@ impl<'a> Changes<'a> {
     /// a given one where there is such; or none. Takes no memory.
     #[inline(always)]
     pub fn next_difference(&self, behind: Option<u16>) -> Option<u16>
-        ensures first { (before after : Rules) → self.now.before ≡ Some before → self.now.shown ≡ Some after → FirstDifference (place_behind behind) before.registers after.registers result }
+        ensures first { (before after : Rules) → self.now.before ≡ Some before → self.now.shown ≡ Some after
+            → FirstDifference (place_behind behind) before.registers after.registers result }
         ensures none { self.now.before ≡ None → result ≡ None }
         ensures ascending { (before : Rules) → self.now.before ≡ Some before → AreSpecified 0 before.registers }
         ensures other_ascending { (after : Rules) → self.now.shown ≡ Some after → AreSpecified 0 after.registers }
@@ -358,7 +371,7 @@ impl<'a> Changes<'a> {
     /// Unspecified. Where the CIE's row shows that none does, it may stay where it is. Behind want of memory, which `advance`
     /// and `next` answer from then on, some of them are dropped.
     // No change drops a register that the CIE's program specifies, so most rows need no walk.
-    #[tactic(auto, using(crate::proofs::ChangesAmong::changes_keep, crate::proofs::Dropped::none_dropped, crate::proofs::Dropped::next_of, crate::proofs::Dropped::kept_again))]
+    #[tactic(auto, using(crate::proofs::ChangesAmong::none_dropped, crate::proofs::Dropped::next_of, crate::proofs::Dropped::kept_again))]
     pub fn narrow(&mut self, row: &mut Row<'a>) -> Result<(), AllocError>
         ensures row { OnOk result (row.new ≡ kept_by row.old self.old.to_come) }
         ensures behind { OnOk result ((self.new ≡ self.old) ⊎ (self.new ≡ behind_all self.old)) }

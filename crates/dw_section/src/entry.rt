@@ -4,7 +4,7 @@ ghost use Rattle.std.specs.{List.list_all, Prelude.{◌≡◌, ◌+◌, ◌<◌,
 ghost use Rattle.dw_num.specs.{Input.Takes, Refusals.Refuses, declared.{error.ReadError.TheVariants.OutOfMemory, refusal.Code.TheVariants.SectionTooLarge}};
 ghost use Rattle.dw_op.specs.Faults.{IsWithin};
 ghost use Rattle.dw_section.specs.{Cut.{IsItem, Piece, item_bytes, is_cie, id_width}, Faults.{item_at, CutFault}, Pieces.{Pieces, Entries}};
-ghost use Rattle.dw_section.specs.Inner.{Left.{PiecesLeft, GivesPiece, GoesOn}, Pieces.{ArePlaced, IsPlaced, item_of}, Reads.Gives};
+ghost use Rattle.dw_section.specs.Inner.{Left.{PiecesLeft, GivesPiece, GoesOn}, Pieces.{ArePlaced, IsPlaced, item_of, piece_in}, Reads.Gives};
 ghost use Rattle.dw_section.specs.declared.entry.Entry.{Entry};
 
 use dw_num::{Code, Cursor, Form, Program, ReadError, Refusal, Target};
@@ -159,12 +159,12 @@ pub(crate) struct EntryPlaces {
 }
 
 // One entry more.
-fn keep_entry(places: &mut EntryPlaces, kind: Kind, at: u64) -> Result<(), AllocError>
+fn keep_entry(places: &mut EntryPlaces, piece: &Placed<'_>) -> Result<(), AllocError>
     requires { places.old.fdes ≤ 2147483647 }
-    ensures { (ps : List Piece) (p : Piece) → p.kind ≡ kind → p.at ≡ at → ArePlaced ps places.old.cies.items places.old.fdes → OnOk result (ArePlaced (ps ++ p ∷ []) places.new.cies.items places.new.fdes) }
+    ensures { (ps : List Piece) → ArePlaced ps places.old → OnOk result (ArePlaced (ps ++ piece_in piece.now ∷ []) places.new) }
 {
-    match kind {
-        Kind::Cie => places.cies.push(at)?,
+    match piece.kind {
+        Kind::Cie => places.cies.push(piece.at)?,
         Kind::Fde => places.fdes += 1,
     }
     Ok(())
@@ -173,7 +173,7 @@ fn keep_entry(places: &mut EntryPlaces, kind: Kind, at: u64) -> Result<(), Alloc
 /// Cuts a section, and keeps where its CIEs stand.
 #[tactic(auto, using(crate::proofs::Tally::tallied_gap))]
 pub(crate) fn cut(alloc: Global, bytes: &[u8], target: Target) -> Result<EntryPlaces, ReadError>
-    ensures found { IfOk result (λ n. (ps : List Piece) × Pieces target bytes.now ps × ArePlaced ps n.cies.items n.fdes) }
+    ensures found { IfOk result (λ n. (ps : List Piece) × Pieces target bytes.now ps × ArePlaced ps n) }
     ensures first { IfErr result (Refuses (CutFault target bytes.now)) }
 {
     let mut cursor = start(bytes, target)?;
@@ -184,7 +184,7 @@ pub(crate) fn cut(alloc: Global, bytes: &[u8], target: Target) -> Result<EntryPl
     'items: while cursor.left() > 0 {
         match next_item(&mut cursor)? {
             None => {}
-            Some(piece) => keep_entry(&mut places, piece.kind, piece.at)?,
+            Some(piece) => keep_entry(&mut places, &piece)?,
         }
     }
     Ok(places)

@@ -1,16 +1,14 @@
 //! Running the programs of a section (6.4.2, 6.4.3), and its nonempty FDEs in the order of their begins.
 
-ghost use Rattle.std.specs.{List.AllByRecursion, Prelude.{◌≡◌, ◌<◌, true, List, map, IfOk, IfErr, OnOk, ◌+◌, ◌≤◌, ℕ, None, [], ◌∷◌, ◌++◌, length}};
-ghost use Rattle.std.specs.Prelude.{slice_index_or, MatchOption};
+ghost use Rattle.std.specs.{List.AllByRecursion, Prelude.{◌≡◌, ◌<◌, true, List, map, IfErr, OnOk, MatchOption, ◌≤◌, ℕ, None, [], ◌∷◌, ◌++◌, length}};
 ghost use Rattle.dw_num.specs.{Refusals.Refuses, Target.address_limit, declared.{refusal.Code.TheVariants.Overlap, target.Target.{Target as TheTarget}}};
-ghost use Rattle.dw_section.specs.{Accepted.{CiesRun, RulesFault}, Among.IsAmong, Cut.Piece, Headers.Head, Overlap.{nonempty, AreApart, FirstOverlap}};
-ghost use Rattle.dw_section.specs.{Pieces.Pieces, Programs.{CieRuns, CieBroken}, Ranges.{AreIndexed, IsRanged, range_in}, Stage.FirstStuck};
-ghost use Rattle.dw_section.specs.Inner.{Index.{JudgesOne, BreaksOne, AreJudged, AreRanges}, Initials.{place_of, AreAmong, AreOf, AreCies}};
-ghost use Rattle.dw_section.specs.Inner.{PieceHeader.{entry_in, initial_in}, Places.{Rises, IsAt}, Walks.AreLed};
-ghost use Rattle.dw_section.specs.declared.fde_range.Ranged.{Ranged as TheRanged};
+ghost use Rattle.dw_section.specs.{Accepted.{CiesRun, RulesFault}, Cut.Piece, Headers.Head, Overlap.{nonempty, AreApart, FirstOverlap}};
+ghost use Rattle.dw_section.specs.{Pieces.Pieces, Programs.{CieRuns, CieBroken}, Ranges.{AreIndexed, range_in}, Stage.FirstStuck};
+ghost use Rattle.dw_section.specs.Inner.{Index.{JudgesOne, BreaksOne, AreJudged, AreRanges, BeginsRise, ListsOf}};
+ghost use Rattle.dw_section.specs.Inner.{Initials.{place_of, AreAmong, AreOf, AreCies}, PieceHeader.{entry_in, initial_in}, Places.{Rises, IsAt}, Walks.AreLed};
 
 use crate::entry::next_piece;
-use crate::header::{Cies, FdeEntry, Initial, fde_of, or_fields_fault};
+use crate::header::{FdeEntry, Initial, fde_of, or_fields_fault};
 use crate::walks::Walks;
 use dw_cfa::become_initial;
 use dw_num::{Cursor, ReadError, Target, are_bytes};
@@ -65,7 +63,7 @@ fn keep_range(
     requires names { cie.now.at ≡ fde.now.cie_at }
     requires below { fde.now.at ≤ 2147483647 }
     ensures found { OnOk result (map range_in list.new.items ≡ map range_in list.old.items ++ nonempty (entry_in fde.now ∷ [])) }
-    ensures each { (hs : List Head) → IsAmong (initial_in cie.now) hs → IsAmong (entry_in fde.now) hs → AllByRecursion (IsRanged hs) list.old.items → OnOk result (AllByRecursion (IsRanged hs) list.new.items) }
+    ensures each { ListsOf (initial_in cie.now) (entry_in fde.now) list.old.items result list.new.items }
 {
     if fde.range > 0 {
         list.push(Ranged {
@@ -104,8 +102,8 @@ fn judge<'a>(
     Ok(keep_range(&mut judged.list, fde, cie)?)
 }
 
-// Judges the FDEs of a section that has a cut, behind the CIEs.
-fn run_on<'a>(
+/// Reads the fields of the FDEs of a section that has a cut, and runs their programs behind those of its CIEs, which run.
+pub(crate) fn run_fdes<'a>(
     walks: &mut Walks<'a>,
     judged: &mut Judged,
     bytes: &'a [u8],
@@ -134,31 +132,9 @@ fn run_on<'a>(
     Ok(())
 }
 
-/// Reads the fields of the FDEs of a section that has a cut, and runs their programs behind those of its CIEs, which run.
-pub(crate) fn run_fdes<'a>(
-    alloc: Global,
-    bytes: &'a [u8],
-    target: Target,
-    cies: &Cies<'a>,
-) -> Result<Judged, ReadError>
-    requires ascending { Rises 0 cies.now.places.items }
-    requires cies { (ps : List Piece) × Pieces target bytes.now ps × AreCies target ps cies.now.places.items cies.now.initials.items }
-    requires run { (hs : List Head) → AreOf hs cies.now.initials.items → AllByRecursion (CieRuns target) hs }
-    ensures found { IfOk result (λ j. (hs : List Head) × CiesRun target bytes.now hs × AreJudged target hs hs j.lacking j.list.items) }
-    ensures first { IfErr result (Refuses (RulesFault target bytes.now)) }
-{
-    let mut judged = Judged {
-        list: Vec::with_capacity(alloc, cies.counts.fdes)?,
-        lacking: None,
-    };
-    let (walks, places, initials) = (&mut Walks::new(alloc, target), &cies.places, &cies.initials);
-    run_on(walks, &mut judged, bytes, target, places, initials)?;
-    Ok(judged)
-}
-
 // Whether each begins behind the begin of the one before it.
 fn begins_rise(list: &[Ranged]) -> bool
-    ensures { result ≡ true → (k : ℕ) (d : TheRanged) → k + 1 < length list.now → (slice_index_or list.now k d).begin < (slice_index_or list.now (k + 1) d).begin }
+    ensures { result ≡ true → BeginsRise (length list.now) list.now }
 {
     for i in 1..list.len() {
         if list[i].begin <= list[i - 1].begin {

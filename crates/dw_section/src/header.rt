@@ -1,12 +1,12 @@
 //! The headers of a section: the fields of its entries.
 
-ghost use Rattle.std.specs.{List.AllByRecursion, Prelude.{◌≡◌, ◌⊎◌, ◌+◌, ◌≤◌, List, length, map, IfOk, IfErr, IfSome, MatchResult}};
+ghost use Rattle.std.specs.Prelude.{◌≡◌, ◌+◌, ◌≤◌, List, length, map, IfOk, IfErr, IfSome, MatchResult};
 ghost use Rattle.dw_num.specs.{Refusals.Refuses, Span.span_of, declared.error.ReadError.TheVariants.OutOfMemory};
 ghost use Rattle.dw_op.specs.Faults.{IsWithin};
-ghost use Rattle.dw_section.specs.{Counts.AreCounts, Cut.Piece, Headers.{Head, Has, Headers, head_in, CieHolds, CieStuck, CiesHold, FdeHolds, FdeStuck}};
-ghost use Rattle.dw_section.specs.{Headers.{CieFieldsFault, HeadersFault}, Pieces.Pieces, Places.cie_places, Stage.FirstStuck, StandingFde.StandsIn};
-ghost use Rattle.dw_section.specs.Inner.{Initials.{AreCies, IsRead}, Left.PiecesLeft, PieceHeader.{SaysFde, cie_at, fde_at, initial_in, entry_in, program_of}};
-ghost use Rattle.dw_section.specs.Inner.{Pieces.piece_in, Places.{IsAt, Rises}, Stage.Answers};
+ghost use Rattle.dw_section.specs.{Counts.AreCounts, Cut.Piece, Headers.{Head, Has, Headers, head_in, CieHolds, CieStuck, CiesHold, FdeStuck}};
+ghost use Rattle.dw_section.specs.{Headers.{CieFieldsFault, HeadersFault}, Pieces.Pieces, Places.cie_places, StandingFde.StandsIn};
+ghost use Rattle.dw_section.specs.Inner.{Initials.{AreCies, IsRead}, PieceHeader.{SaysFde, cie_at, fde_at, initial_in, entry_in, program_of}};
+ghost use Rattle.dw_section.specs.Inner.{Left.FieldsFaultOr, Pieces.piece_in, Places.{IsAt, Rises}, Stage.Answers};
 ghost use Rattle.dw_section.specs.declared.entry.Kind.TheVariants as kind;
 
 use crate::entry::{EntryCounts, Kind, Placed, cut, next_piece, width_of};
@@ -212,7 +212,7 @@ pub(crate) fn or_fields_fault(
 ) -> ReadError
     requires room { cursor.old.at + length cursor.old.bytes ≤ 2147483647 }
     requires ascending { Rises 0 places.now }
-    ensures { (ps : List Piece) → PiecesLeft cursor.old ps → Refuses (FirstStuck (FdeHolds target places.now) (FdeStuck target places.now) ps) result ⊎ ((result ≡ broken) × AllByRecursion (FdeHolds target places.now) ps) }
+    ensures { FieldsFaultOr broken target places.now cursor.old result }
 {
     let mut found = 0;
     'pieces: while let Some(piece) = next_piece(cursor) {
@@ -221,20 +221,6 @@ pub(crate) fn or_fields_fault(
         }
     }
     broken
-}
-
-// A CIE as it is told.
-fn cie_header<'a>(cie: Initial<'a>) -> Header<'a>
-    ensures { head_in result ≡ initial_in cie.entry }
-{
-    Header::Cie {
-        at: cie.at,
-        form: cie.form,
-        code_factor: cie.factors.code_factor,
-        data_factor: cie.factors.data_factor,
-        return_register: cie.return_register,
-        program: cie.program,
-    }
 }
 
 // The header of an entry whose fields hold if it is a CIE.
@@ -251,7 +237,15 @@ fn header_of<'a>(
     ensures stuck { IfErr result (FdeStuck target places.now (piece_in piece.now)) }
 {
     let Some(fde) = fde_of(piece, places, found, target)? else {
-        return Ok(cie_header(read_initial(piece, target)?));
+        let cie = read_initial(piece, target)?;
+        return Ok(Header::Cie {
+            at: cie.at,
+            form: cie.form,
+            code_factor: cie.factors.code_factor,
+            data_factor: cie.factors.data_factor,
+            return_register: cie.return_register,
+            program: cie.program,
+        });
     };
     Ok(Header::Fde {
         at: fde.at,

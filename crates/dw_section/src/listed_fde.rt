@@ -1,10 +1,9 @@
 //! The FDEs of a table, read again at their places, and how many rows their programs start (6.4.3).
 
-ghost use Rattle.std.specs.{List.{AllByRecursion, AllZip}, Prelude.{◌≡◌, ◌+◌, ◌≤◌, ℕ, List, length, map, ◌<◌, true, slice_index_or}};
+ghost use Rattle.std.specs.Prelude.{◌≡◌, ◌≤◌, ℕ, List, length, ◌<◌, slice_index_or};
 ghost use Rattle.dw_num.specs.Span.{Span, span_of};
-ghost use Rattle.dw_section.specs.{Accepted.RulesHold, Among.IsAmong, Fields.is_among, Headers.{Head, Headers, IsFde}, Meaning.{RowStarts, Starts, total}};
-ghost use Rattle.dw_section.specs.{Meaning.AreFdes, Ranges.{IsRanged, range_in, fde_in}, Inner.{Counted.{IsProgram, StartsOf}, Index.IsFound, Initials.AreOf}};
-ghost use Rattle.dw_section.specs.Inner.{Initials.{place_of, AreAmong}, Lookup.{fde_of, IsFoundIn}, PieceHeader.initial_in, Pieces.piece_in, Places.Rises};
+ghost use Rattle.dw_section.specs.{Headers.{Head, Headers, IsFde}, Meaning.{AreFdes, RowStarts}, Ranges.{IsRanged, fde_in}};
+ghost use Rattle.dw_section.specs.Inner.{Counted.{IsProgram, StartsOf}, Index.IsFound, Initials.AreOf, Lookup.{fde_of, IsFoundIn}, Pieces.piece_in};
 ghost use Rattle.dw_section.specs.declared.{fields.FdeFields.FdeFields, lookup.Fde.{Fde as TheFde}};
 
 use crate::entry::{Placed, width_of};
@@ -37,17 +36,6 @@ fn program_behind<'a>(own: &Placed<'a>, target: Target) -> Program<'a>
     }
 }
 
-// What the FDEs of the CIE at a place begin with.
-#[inline(always)]
-fn initial_at<'c, 'a>(initials: &'c [Initial<'a>], place: u64) -> &'c Initial<'a>
-    requires ascending { Rises 0 (map place_of initials.now) }
-    requires among { is_among place (map place_of initials.now) ≡ true }
-    ensures place { result.now.at ≡ place }
-    ensures is { (hs : List Head) → AreAmong hs initials.now → IsAmong (initial_in result.now) hs }
-{
-    &initials[initials.partition_point(|initial| initial.at < place)]
-}
-
 /// The FDE of an entry of the list, read again at its place. What the entry says of it is known, so of its fields the pointer
 /// alone is read.
 #[inline(always)]
@@ -71,6 +59,7 @@ pub(crate) fn found_fde<'a>(
         unreachable!();
     };
     let cie_at = pointer_of(&own, target);
+    let named = initials.partition_point(|initial| initial.at < cie_at);
     FoundFde {
         own: FdeEntry {
             at,
@@ -80,7 +69,7 @@ pub(crate) fn found_fde<'a>(
             range: fde.range,
             program: program_behind(&own, target),
         },
-        cie: *initial_at(initials, cie_at),
+        cie: initials[named],
     }
 }
 
@@ -99,24 +88,6 @@ fn starts_of(fde: &FoundFde<'_>, target: Target) -> u64
         }
     }
     starts
-}
-
-fn sum_starts<'a>(
-    bytes: &'a [u8],
-    target: Target,
-    initials: &[Initial<'a>],
-    index: &[Ranged],
-) -> u64
-    requires few { length index.now ≤ 2147483647 }
-    requires headers { (hs : List Head) × RulesHold target bytes.now hs × AreOf hs initials.now × AllByRecursion (IsRanged hs) index.now }
-    ensures { (hs : List Head) → RulesHold target bytes.now hs → AreOf hs initials.now → AllByRecursion (IsRanged hs) index.now → (counts : List ℕ) × AllZip (Starts target bytes.now) (map range_in index.now) counts × (result ≡ total counts) }
-{
-    let mut sum = 0;
-    for fde in index {
-        let found = found_fde(bytes, target, initials, fde);
-        sum += starts_of(&found, target);
-    }
-    sum
 }
 
 impl<'a> Table<'a> {
@@ -146,6 +117,12 @@ impl<'a> Table<'a> {
     pub fn row_starts(&self) -> u64
         ensures { RowStarts self.now.target self.now.bytes result }
     {
-        sum_starts(self.bytes, self.target, &self.initials, self.index())
+        let mut sum = 0;
+        let index = self.index();
+        for fde in index {
+            let found = found_fde(self.bytes, self.target, &self.initials, fde);
+            sum += starts_of(&found, self.target);
+        }
+        sum
     }
 }

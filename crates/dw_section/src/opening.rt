@@ -50,9 +50,12 @@ impl<'a> Table<'a> {
     #[inline(always)]
     pub fn opening(&self, fde: FdeRef) -> Opening
         requires { (fs : List TheFde) → AreFdes self.now.target self.now.bytes fs → fde.place < length fs }
-        ensures lengths { (fs : List TheFde) → AreFdes self.now.target self.now.bytes fs → (d : TheFde) → HasLengths self.now.target self.now.bytes (slice_index_or fs fde.place d) result.own result.initial }
-        ensures opens { (fs : List TheFde) → AreFdes self.now.target self.now.bytes fs → (d : TheFde) → IfSome result.row (OpensBehind self.now.target self.now.bytes (slice_index_or fs fde.place d)) }
-        ensures only { (fs : List TheFde) → AreFdes self.now.target self.now.bytes fs → (d : TheFde) (row : TheRow) → OpensBehind self.now.target self.now.bytes (slice_index_or fs fde.place d) row → IsSome result.row }
+        ensures lengths { (fs : List TheFde) → AreFdes self.now.target self.now.bytes fs → (d : TheFde)
+            → HasLengths self.now.target self.now.bytes (slice_index_or fs fde.place d) result.own result.initial }
+        ensures opens { (fs : List TheFde) → AreFdes self.now.target self.now.bytes fs → (d : TheFde)
+            → IfSome result.row (OpensBehind self.now.target self.now.bytes (slice_index_or fs fde.place d)) }
+        ensures only { (fs : List TheFde) → AreFdes self.now.target self.now.bytes fs → (d : TheFde) (row : TheRow)
+            → OpensBehind self.now.target self.now.bytes (slice_index_or fs fde.place d) row → IsSome result.row }
     {
         self.accepted();
         let found = self.found(fde);

@@ -3,9 +3,10 @@ use Rattle.dw_section.proofs.Words.{◌≡◌, ℕ, ◌≤◌, List, [], ◌∷�
 use Rattle.dw_section.proofs.Words.{Headers, Ok, Err, HeadersFault, HeadsRise, FdeFits, HasBytes, cie_ats, Range, IsIndex, AreApart, FirstOverlap, end_of, IsAmong, Instrs, CieRuns, CieBroken, FdeRuns, FdeBroken, HasRules, LacksRule}
 use Rattle.dw_section.proofs.Words.{factors_of, RulesHold, Accepted, CieProgramsFault, FdeProgramsFault, RulesFault, CheckFault, CiesRun, FdesRun, Indexed, Some, None, CieHead, FdeHead, InitialInstrs, some_is, behind_where_fault}
 use Rattle.dw_section.proofs.Words.{gives_where_kept, leaves_where_kept, one_behind, one_initial, zero, suc, ◌+◌, ◌<◌, ◌⊎◌, true, refl, append_assoc, append-nil, Option, Result, cases_lt, eqb_tells, NoCfaRule, CfaRule, Unset, Rules}
-use Rattle.dw_section.proofs.{Words.{Outcome, cfa_after, counts_exists, one_count, address_limit, is_among, HasCfa, nonempty, Precedes, Ascends, PlacesRise, Input, LeavesTo, RunsBehind, CieKept, LacksCfa, ◌-◌}, Lent.Heads.one_program}
-use Rattle.dw_section.proofs.{Lent.Heads.{heads_rise, heads_bytes, heads_fit, one_begin}, Lent.HeaderLaws.one_headers, Lent.Index.{all_in, one_index, all_from}, Stages.{holds_at, splits, all_weaker, Judges, Stage, answered, next_items}}
-use Rattle.dw_section.proofs.{Stages.next_stage, Ordered.apart_more, Tables.nonempty_rise, FirstFault.headers_stage}
+use Rattle.dw_section.proofs.{Words.{Outcome, cfa_after, counts_exists, one_count, address_limit, is_among, HasCfa, nonempty, Precedes, Ascends, PlacesRise, Input, IsPermutation, IsPermutation-refl, IsPermutation-sym, LeavesTo, RunsBehind, CieKept, LacksCfa, ◌-◌}, Lent.Heads.one_program}
+use Rattle.std.proofs.lemmas.List.Sorted.{IsPermutation-cons, IsPermutation-insert, IsPermutation-trans}
+use Rattle.dw_section.proofs.{Lent.Heads.{heads_rise, heads_bytes, heads_fit, one_begin}, Lent.HeaderLaws.one_headers, Lent.Index.{all_in, one_index}, Stages.{holds_at, splits, all_weaker, Judges, Stage, answered, next_items}}
+use Rattle.dw_section.proofs.{Stages.next_stage, Ordered.{all_permuted, apart_more, members}, Places.all_above, Tables.nonempty_rise, FirstFault.headers_stage}
 
 -- a row of this rule alone
 abbrev row_of : CfaRule → Rules
@@ -134,51 +135,35 @@ rule_judged target hs up all (fde f) b runs = record {
 -- ---- the order
 
 -- ranges in order
-record Ordered (rs : List Range) : Type 0 where
-  list : List Range
-  ascends : Ascends list
-  from : (x : Range) → IsAmong x list → IsAmong x rs
-  all : (x : Range) → IsAmong x rs → IsAmong x list
-
-rises_above : (low : ℕ) (rs : List Range) (x : Range) → PlacesRise low rs → IsAmong x rs → low ≤ x.at
-rises_above low [] x up i = absurd i
-rises_above low (a ∷ rs) x up (inl is) = omega (arith, up.0, ap (λ (y : Range). y.at) is)
-rises_above low (a ∷ rs) x up (inr i) = omega (arith, up.0, rises_above (suc a.at) rs x up.1 i)
+abbrev Ordered : List Range → Type 0
+Ordered rs = (list : List Range) × Ascends list × IsPermutation rs list
 
 -- one that stands before all others in the section is put among them
 inserted : (a : Range) (rs : List Range) → Ascends rs → AllByRecursion (λ b. a.at < b.at) rs → Ordered (a ∷ rs)
-inserted a [] up later = record { list = a ∷ []; ascends = (tt, tt); from = λ x i. i; all = λ x i. i }
+inserted a [] up later = (a ∷ [], (tt, tt), IsPermutation-refl (a ∷ []))
 inserted a (b ∷ rs) up later = elim (cases_lt b.begin a.begin) [
   | inr first ↦
       let before : Precedes a b = grind (arith, first, later.0) in
-      record { list = a ∷ b ∷ rs; ascends = ((before, all_weaker (Precedes b) (Precedes a) (λ x behind. grind (arith, before, behind)) rs up.0), up); from = λ x i. i; all = λ x i. i }
+      (a ∷ b ∷ rs, ((before, all_weaker (Precedes b) (Precedes a) (λ x behind. grind (arith, before, behind)) rs up.0), up), IsPermutation-refl (a ∷ b ∷ rs))
   | inl second ↦
       let rest = inserted a rs up.1 later.1 in
-      let precedes : (x : Range) → IsAmong x (a ∷ rs) → Precedes b x = λ x i. elim i [ inl is ↦ subst (Precedes b) (sym is) (inl second) | inr j ↦ all_in (Precedes b) rs x up.0 j ] in
-      record {
-        list = b ∷ rest.list;
-        ascends = (all_from (Precedes b) rest.list (λ x i. precedes x (rest.from x i)), rest.ascends);
-        from = λ x i. elim i [ inl is ↦ inr (inl is) | inr j ↦ elim (rest.from x j) [ inl is ↦ inl is | inr k ↦ inr (inr k) ] ];
-        all = λ x i. elim i [ inl is ↦ inr (rest.all x (inl is)) | inr j ↦ elim j [ inl is ↦ inl is | inr k ↦ inr (rest.all x (inr k)) ] ];
-      }
+      let same = IsPermutation-trans (a ∷ b ∷ rs) (b ∷ a ∷ rs) (b ∷ rest.0) (IsPermutation-insert (b ∷ rs) 1 a) (IsPermutation-cons b (a ∷ rs) rest.0 rest.2) in
+      (b ∷ rest.0, (all_permuted (Precedes b) (a ∷ rs) rest.0 rest.2 (inl second, up.0), rest.1), same)
 ]
 
 ordered : (low : ℕ) (rs : List Range) → PlacesRise low rs → Ordered rs
-ordered low [] up = record { list = []; ascends = tt; from = λ x i. i; all = λ x i. i }
+ordered low [] up = ([], tt, IsPermutation-refl [])
 ordered low (a ∷ rs) up =
     let rest = ordered (suc a.at) rs up.1 in
-    let all = inserted a rest.list rest.ascends (all_from (λ (b : Range). a.at < b.at) rest.list (λ b i. rises_above (suc a.at) rs b up.1 (rest.from b i))) in
-    record {
-      list = all.list;
-      ascends = all.ascends;
-      from = λ x i. elim (all.from x i) [ inl is ↦ inl is | inr j ↦ inr (rest.from x j) ];
-      all = λ x i. all.all x (elim i [ inl is ↦ inl is | inr j ↦ inr (rest.all x j) ]);
-    }
+    let later = all_permuted (λ (b : Range). a.at < b.at) rs rest.0 rest.2 (all_above (λ (b : Range). b.at) (suc a.at) rs up.1) in
+    let all = inserted a rest.0 rest.1 later in
+    (all.0, all.1, IsPermutation-trans (a ∷ rs) (a ∷ rest.0) all.0 (IsPermutation-cons a rs rest.0 rest.2) all.2)
 
 index_of : (hs : List Head) → HeadsRise 0 hs → (index : List Range) × IsIndex hs index
 index_of hs up =
-    let o = ordered 0 (nonempty hs) (nonempty_rise 0 hs up) in
-    (o.list, record { ascends = o.ascends; from = all_from (λ (a : Range). IsAmong a (nonempty hs)) o.list o.from; all = all_from (λ (a : Range). IsAmong a o.list) (nonempty hs) o.all })
+    let rs = nonempty hs in
+    let o = ordered 0 rs (nonempty_rise 0 hs up) in
+    (o.0, record { ascends = o.1; from = all_permuted (λ a. IsAmong a rs) rs o.0 o.2 (members rs); all = all_permuted (λ a. IsAmong a o.0) o.0 rs (IsPermutation-sym rs o.0 o.2) (members o.0) })
 
 -- ---- overlaps
 
@@ -196,26 +181,18 @@ overlap_one index r q v w = elim (splits v.before w.before v.it w.it v.after w.a
   | inr (inr p) ↦ let q = apart_at w.before w.it p.0 w.other (subst AreApart p.1 v.apart) w.other_in in absurd (omega (arith, q, w.meets))
 ]
 
-record Meets (it : Range) (before : List Range) : Type 0 where
-  other : Range
-  other_in : IsAmong other before
-  meets : it.begin < end_of other
-
-none_or_meets : (it : Range) (before : List Range) → AllByRecursion (λ a. end_of a ≤ it.begin) before ⊎ Meets it before
+none_or_meets : (it : Range) (before : List Range) → AllByRecursion (λ a. end_of a ≤ it.begin) before ⊎ ((other : Range) × IsAmong other before × (it.begin < end_of other))
 none_or_meets it [] = inl tt
 none_or_meets it (a ∷ before) = elim (cases_lt it.begin (end_of a)) [
-  | inl lt ↦ inr (record { other = a; other_in = inl refl; meets = lt })
-  | inr ge ↦ elim (none_or_meets it before) [
-    | inl none ↦ inl (ge, none)
-    | inr m ↦ inr (record { other = m.other; other_in = inr m.other_in; meets = m.meets })
-  ]
+  | inl lt ↦ inr (a, inl refl, lt)
+  | inr ge ↦ elim (none_or_meets it before) [ inl none ↦ inl (ge, none) | inr m ↦ inr (m.0, inr m.1, m.2) ]
 ]
 
 apart_or_overlap : (index before after : List Range) → index ≡ before ++ after → AreApart before → AreApart index ⊎ ((r : Refusal) × FirstOverlap index r)
 apart_or_overlap index before [] whole apart = inl (subst AreApart (sym (append-nil before) ∙ sym whole) apart)
 apart_or_overlap index before (it ∷ after) whole apart = elim (none_or_meets it before) [
   | inl none ↦ apart_or_overlap index (before ++ it ∷ []) after (whole ∙ sym (append_assoc before (it ∷ []) after)) (apart_more before it it.begin apart none (omega arith))
-  | inr m ↦ inr (record { code = Overlap; at = it.at }, record { before = before; it = it; after = after; whole = whole; apart = apart; other = m.other; other_in = m.other_in; meets = m.meets; is = refl })
+  | inr m ↦ inr (record { code = Overlap; at = it.at }, record { before = before; it = it; after = after; whole = whole; apart = apart; other = m.0; other_in = m.1; meets = m.2; is = refl })
 ]
 
 -- ---- the stages

@@ -1,7 +1,7 @@
 -- Headers are read as they are spelled, and a section has at most one list of them.
 use Rattle.dw_section.proofs.Words.{◌≡◌, ℕ, ◌+◌, List, [], ◌∷◌, length, Result, Ok, Err, inl, inr, refl, sym, ap, subst, ◌∙◌, arith, IfErr, length-append, AllByRecursion, AllZip, Target, Refusal, Input, AreBytes, Span, CieFields, FdeFields}
 use Rattle.dw_section.proofs.Words.{Kind, Piece, Pieces, cie_places, Rises, Fields, cie_fields, fde_fields, FieldsFault, program_of, contents_of, Head, cie_head, IsCie, IsFde, Has, Headers, CieHolds, CieStuck, FdeHolds, Read, ◌>>=◌, done}
-use Rattle.dw_section.proofs.{Words.{ok_is, cie_of_piece, cie_at, fde_of_piece, fde_at, fde_head, HasFields}, FieldLaws.{AreNumbers, fields_at, fault_is, fields_found, fields_again}, Items.one_pieces, Places.places_rise, Stages.one_zip}
+use Rattle.dw_section.proofs.{Words.{ok_is, cie_of_piece, cie_at, fde_of_piece, fde_at, fde_head, HasFields}, FieldLaws.{AreNumbers, fields_at, fault_is, fields_found, fields_again}, Items.one_pieces, Places.{PiecesRise, pieces_up, places_rise}, Stages.one_zip}
 use Rattle.dw_section.specs.Inner.Stage.{Answers}
 use Rattle.dw_section.specs.declared.entry.Kind.TheVariants as kind
 
@@ -80,7 +80,7 @@ one_headers target s hs ks p q =
 
 -- the places of a section's CIEs rise
 pub pieces_rise : (target : Target) (s : List ℕ) (ps : List Piece) → Pieces target s ps → Rises 0 (cie_places ps)
-pieces_rise target s ps p = subst (λ (qs : List Piece). Rises 0 (cie_places qs)) (sym p.are) (places_rise target.order 0 p.items)
+pieces_rise target s ps p = places_rise 0 ps (subst (PiecesRise 0) (sym p.are) (pieces_up target.order 0 p.items))
 
 -- a CIE that is refused is stuck
 pub cie_stuck : {X : Type 0} (view : X → Head) (target : Target) (p : Piece) (r : Result X Refusal) → p.kind ≡ kind.Cie → Answers view r (cie_at target p) → IfErr r (CieStuck target p)

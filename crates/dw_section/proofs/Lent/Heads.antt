@@ -1,26 +1,12 @@
 -- What holds of a section's headers.
 use Rattle.dw_section.proofs.Words.{◌≡◌, ℕ, suc, ◌+◌, ◌<◌, ◌≤◌, ◌^◌, List, [], ◌∷◌, ◌++◌, length, refl, sym, ap, subst, ◌∙◌, arith, inl, inr, get_or-append-add, AllByRecursion, AllZip, cons_option, Order, Target, Size, AreBytes}
 use Rattle.dw_section.proofs.Words.{length_bytes, address_limit, byte_count, Instr, ProgramSpells, Item, gap, entry, Piece, Pieces, pieces, item_bytes, all_bytes, place_if, cie_places, Rises, Head, cie, fde, Has, Headers, CieHead, FdeHead}
-use Rattle.dw_section.proofs.{Words.{head_at, cie_at_of, cie_ats, HeadsRise, FdeFits, HasBytes, InitialInstrs, factors_of, IsAmong, Four, Eight, RiseBy, Factors, Input}, Items.item_some, Lent.HeaderLaws.pieces_rise as places_of_pieces}
+use Rattle.dw_section.proofs.{Words.{head_at, cie_at_of, cie_ats, HeadsRise, FdeFits, HasBytes, InitialInstrs, factors_of, IsAmong, Four, Eight, Factors, Input}, Places.{PiecesRise, all_above, pieces_up}, Lent.HeaderLaws.pieces_rise as places_of_pieces}
 use Rattle.dw_section.proofs.{Lent.FieldTable.fde_said, Lent.Index.all_in, Stages.all_of_zip}
 use Rattle.dw_cfa.proofs.Lent.{Given.{one_program as one_listed}, InstrLaws.front_bytes}
 pub use Rattle.dw_section.proofs.Lent.Index.{all_in}
 
 -- ---- places rise
-
-abbrev PiecesRise : ℕ → List Piece → Type 0
-PiecesRise low ps = RiseBy (λ (p : Piece). p.at) low ps
-
-pub rise_from : {X : Type 0} (place : X → ℕ) (low more : ℕ) (xs : List X) → low ≤ more → RiseBy place more xs → RiseBy place low xs
-rise_from place low more [] le h = tt
-rise_from place low more (x ∷ xs) le h = (omega (arith, h.0), h.1)
-
-pieces_up : (order : Order) (at : ℕ) (items : List Item) → PiecesRise at (pieces order at items)
-pieces_up order at [] = tt
-pieces_up order at (gap ∷ items) = rise_from (λ (p : Piece). p.at) at (at + 4) _ (omega arith) (pieces_up order (at + 4) items)
-pieces_up order at (entry form body ∷ items) =
-    let n = length (item_bytes order (entry form body)) in
-    (omega arith, rise_from (λ (p : Piece). p.at) (suc at) (at + n) _ (omega (arith, item_some order (entry form body))) (pieces_up order (at + n) items))
 
 pub has_at : (target : Target) (places : List ℕ) (p : Piece) (h : Head) → Has target places p h → head_at h ≡ p.at
 has_at target places p h (inl c) = ap head_at c.3
@@ -34,14 +20,13 @@ heads_up target places low ps hs z up = absurd z
 pub heads_rise : (target : Target) (s : List ℕ) (hs : List Head) → Headers target s hs → HeadsRise 0 hs
 heads_rise target s hs p = heads_up target (cie_places p.entries) 0 p.entries hs p.each (subst (PiecesRise 0) (sym p.cut.are) (pieces_up target.order 0 p.cut.items))
 
-pub among_above : (low : ℕ) (hs : List Head) (h : Head) → HeadsRise low hs → IsAmong h hs → low ≤ head_at h
-among_above low [] h up i = absurd i
-among_above low (k ∷ hs) h up i = grind (arith, up.0, i, among_above (suc (head_at k)) hs h up.1)
-
 -- at a place stands one entry
 pub one_among : (low : ℕ) (hs : List Head) (h k : Head) → HeadsRise low hs → IsAmong h hs → IsAmong k hs → head_at h ≡ head_at k → h ≡ k
 one_among low [] h k up i j e = absurd i
-one_among low (x ∷ hs) h k up i j e = grind (arith, up, i, j, e, among_above (suc (head_at x)) hs k up.1, among_above (suc (head_at x)) hs h up.1, one_among (suc (head_at x)) hs h k up.1)
+one_among low (x ∷ hs) h k up i j e =
+    let above = all_in (λ y. suc (head_at x) ≤ head_at y) hs in
+    let all = all_above head_at (suc (head_at x)) hs up.1 in
+    grind (arith, up, i, j, e, above k all, above h all, one_among (suc (head_at x)) hs h k up.1)
 
 -- ---- programs are bytes
 

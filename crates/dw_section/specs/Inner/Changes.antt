@@ -1,9 +1,11 @@
 -- What the code and its proofs say beside Changes.
-use Rattle.std.specs.Prelude.{◌≡◌, ◌⊎◌, ℕ, ◌<◌, nat_lt, ◌&&◌, not, if◌then◌else◌, List, [], ◌∷◌, Option, Some, None, Result, Ok, Err, Bool, false}
+use Rattle.std.specs.Prelude.{◌≡◌, ◌⊎◌, ℕ, ◌<◌, nat_lt, ◌&&◌, not, if◌then◌else◌, List, [], ◌∷◌, Option, Some, None, Result, Ok, Err, Bool, false, IsTrue}
+use Rattle.dw_num.specs.Input.{AreBytes}
 use Rattle.dw_row.specs.{RegisterSets.Registers, Rows.Rules}
 use Rattle.dw_row.proofs.Lent.Equal.{row_test}
-use Rattle.dw_cfa.specs.{Behind.LeavesTo, RowSteps.Stepping, RowWalk.Walking, declared.execution.LocatedRow.LocatedRow}
-use Rattle.dw_section.specs.{Changes.Changing, Headers.{Head, Headers}, Opening.AreChanged, Table.Section, declared.walks.Walks.Walks, Inner.Walks.AreLed}
+use Rattle.dw_cfa.specs.{Behind.LeavesTo, RowSteps.Stepping, RowWalk.{AllKeep, Walking}, declared.execution.LocatedRow.LocatedRow}
+use Rattle.dw_section.specs.{Changes.Changing, Headers.{Head, Headers}, Opening.AreChanged, Table.Section, declared.walks.Walks.Walks}
+use Rattle.dw_section.specs.Inner.{Shown.{shown_if, shown_of, before_of}, Walks.AreLed}
 
 -- ---- changes among rows
 
@@ -43,11 +45,17 @@ changes_among end shown [] = []
 changes_among end shown (row ∷ rows) =
     if is_before end row.location rows && not (repeats shown row.row) then (row.location, row.row) ∷ changes_among end (Some row.row) rows else changes_among end shown rows
 
--- nothing was shown yet of the changes among rows
-abbrev pub changing : Section → List LocatedRow → ℕ → Changing
-changing s rows end = record { section = s; to_come = changes_among end None rows; shown = None; before = None; failed = false }
-
 -- ---- how the code finds them
+
+-- the changes that a walk shows, by whether it lends the row that was shown last, and whether it kept one
+abbrev pub showing : Section → Walking → Bool → Bool → ℕ → Bool → Changing
+showing s walk lent kept end failed = record {
+  section = s;
+  to_come = changes_among end (shown_of lent walk.steps.current (shown_if kept walk.kept)) walk.steps.outcome.rows;
+  shown = shown_of lent walk.steps.current (shown_if kept walk.kept);
+  before = before_of lent (shown_if kept walk.kept);
+  failed = failed;
+}
 
 -- the rows of a walk that was led by the headers of a section have no fault
 pub record ChangesSo (s : Section) (w : Walks) : Type 0 where
@@ -71,3 +79,7 @@ FindsFirst {A} {E} end old (Err e) new = FindsChange {E = E} end old None (Err e
 -- the row that was kept is the CIE's, and a set has the registers whose rules the row that is lent changes
 abbrev pub ShownBehind : Walking → Registers → Type 0
 ShownBehind walk changed = LeavesTo walk.led.factors walk.led.program (Ok walk.kept) × AreChanged changed walk.kept walk.steps.current
+
+-- if so, all rows to come specify what the row that is lent does
+abbrev pub KeepsIf : Bool → Walking → Type 0
+KeepsIf known walk = IsTrue known → AreBytes walk.led.program.bytes → AllKeep walk.steps.current walk.steps.outcome.rows

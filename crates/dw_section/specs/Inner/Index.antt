@@ -1,5 +1,5 @@
 -- What the code keeps of nonempty FDEs.
-use Rattle.std.specs.{Prelude.{◌≡◌, ℕ, ◌≤◌, ◌⊎◌, List, [], ◌∷◌, ◌++◌, map, Option, Result, IfErr, OnOk}, List.AllByRecursion}
+use Rattle.std.specs.{Prelude.{◌≡◌, ℕ, ◌+◌, ◌<◌, ◌≤◌, ◌⊎◌, List, [], ◌∷◌, ◌++◌, map, slice_index_or, Option, Result, IfErr, OnOk}, List.AllByRecursion}
 use Rattle.dw_num.specs.{Refusals.Refuses, declared.error.ReadError.ReadError}
 use Rattle.dw_num.specs.declared.target.Target.{Target}
 use Rattle.dw_section.specs.{Accepted.RulesHold, Among.IsAmong, Counts.AreCounts, Cut.Piece, Headers.{Head, Headers}}
@@ -22,6 +22,15 @@ PlacesRise low rs = RiseBy (λ (a : Range). a.at) low rs
 abbrev pub EndsAt : List Range → ℕ → Type 0
 EndsAt rs greatest =
     AllByRecursion (λ a. end_of a ≤ greatest) rs × ((greatest ≡ 0) ⊎ ((other : Range) × IsAmong other rs × (end_of other ≡ greatest)))
+
+-- where what is listed is of headers, with this CIE and this FDE among them, it still is
+abbrev pub ListsOf : {T E : Type 0} → Head → Head → List Ranged → Result T E → List Ranged → Type 0
+ListsOf named own old result new = (hs : List Head) → IsAmong named hs → IsAmong own hs → AllByRecursion (IsRanged hs) old
+    → OnOk result (AllByRecursion (IsRanged hs) new)
+
+-- of the first n each begins behind the begin of the one before it
+abbrev pub BeginsRise : ℕ → List Ranged → Type 0
+BeginsRise n list = (k : ℕ) (d : Ranged) → k + 1 < n → (slice_index_or list k d).begin < (slice_index_or list (k + 1) d).begin
 
 -- the programs of these run, the first among them that lacks a rule is this one, and their nonempty FDEs are these
 pub record AreJudged (target : Target) (hs front : List Head) (lacking : Option ℕ) (list : List Ranged) : Type 0 where

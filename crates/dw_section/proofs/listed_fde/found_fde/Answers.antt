@@ -1,15 +1,29 @@
-use Rattle.dw_section.proofs.Words.{◌≡◌, ◌∙◌, ℕ, List, map, refl, sym, ap, Form, Target, Span, span_of, Piece, FdeHead, Head, Headers, Has, fde, FdeFits, place_of, piece_in, Returns, Range, cie_places, StandsIn}
-use Rattle.dw_section.proofs.{KeptCies.all_among, Lent.Heads.all_in, StandLaws.{fde_from, own_stands}, Tables.places_so}
+use Rattle.dw_section.proofs.Words.{◌≡◌, ◌∙◌, ◌<◌, ℕ, List, length, get_or, map, refl, rules, sym, ap, subst, arith, nat_lt, IsPartitionPoint-from_clause, IsPartitionedBy-ltb, Form, Span, span_of, FdeHead, Head, Headers, Has, fde, FdeFits, place_of, piece_in}
+use Rattle.dw_section.proofs.{Words.{Range, cie_places, is_among, true, Initial, IsAmong, Piece, Returns, StandsIn, Target, initial_in}, KeptCies.all_among, Lent.{Heads.all_in, Judged.{all_get, found_initial, initials_ascend}}, StandLaws.{fde_from, own_stands}, Tables.places_so}
+use Rattle.dw_section.proofs.listed_fde.found_fde.Goals.{After-partition_point-named}
 use Rattle.dw_section.proofs.listed_fde.found_fde.Goals as goal
+
+same_head : (h : FdeHead) (at : ℕ) (form : Form) (cie_at begin range : ℕ) (program : Span) → h.at ≡ at → h.form ≡ form → h.cie_at ≡ cie_at → h.begin ≡ begin → h.range ≡ range → h.program ≡ program
+    → h ≡ record { at = at; form = form; cie_at = cie_at; begin = begin; range = range; program = program }
+same_head h at form cie_at begin range program a f c b r p = rw (sym a, sym f, sym c, sym b, sym r, sym p) refl
 
 -- what is read at its place is the entry of the list
 own_here : (target : Target) (s : List ℕ) (hs : List Head) (a : Range) (register : ℕ) (p : Headers target s hs) (r : Returns hs a register) (at : ℕ) → at ≡ a.at
     → (piece : Piece) → ((q : Piece) → StandsIn target.order s q → q.at ≡ at → piece ≡ q) → Has target (cie_places p.entries) piece (fde r.own)
 own_here target s hs a register p r at is piece only = let w = own_stands target s hs a register p r in rw (only w.0 w.1 (w.3 ∙ sym is)) w.2
 
-same_head : (h : FdeHead) (at : ℕ) (form : Form) (cie_at begin range : ℕ) (program : Span) → h.at ≡ at → h.form ≡ form → h.cie_at ≡ cie_at → h.begin ≡ begin → h.range ≡ range → h.program ≡ program
-    → h ≡ record { at = at; form = form; cie_at = cie_at; begin = begin; range = range; program = program }
-same_head h at form cie_at begin range program a f c b r p = rw (sym a, sym f, sym c, sym b, sym r, sym p) refl
+-- the CIE that it names is found
+found : (c : After-partition_point-named) → (c.partition_point-named.result < length c.args.initials.now) × ((d : Initial) → (get_or c.args.initials.now c.partition_point-named.result d).at ≡ c.pointer_of-cie_at.result)
+found c =
+    let q = c.requires.headers in
+    let xs = c.args.initials.now in
+    let place = c.pointer_of-cie_at.result in
+    let i = c.partition_point-named.result in
+    let so = places_so c.args.target c.args.bytes.now q.0 xs q.1 q.2 in
+    let pointer = c.pointer_of-cie_at.ensures.only (cie_places q.1.entries) q.3.own (own_here c.args.target c.args.bytes.now q.0 _ _ q.1 q.3 c.from-at.result c.from-at.ensures (piece_in c.in-Some.own) (λ x w e. rw c.in-Some.is at (c.in-Ok.ensures.only x w e))) in
+    let among : is_among place (map place_of xs) ≡ true = rw pointer (all_in (FdeFits c.args.target (map place_of xs)) q.0 (fde q.3.own) so.1 q.3.own_among).2 in
+    let point = IsPartitionPoint-from_clause (λ (x : Initial). nat_lt x.at place) xs i c.partition_point-named.ensures.partitioned (IsPartitionedBy-ltb place_of xs place (initials_ascend 0 xs so.0)) (λ a r f' k. search rules) in
+    found_initial place xs i so.0 among (λ k d lt. point.0 k d (omega arith) lt) (λ k d le lt. point.1 k d le lt)
 
 pub unreachable-requires : goal.unreachable-requires
 unreachable-requires c =
@@ -23,12 +37,8 @@ unreachable-requires-in_default-piece c =
     let w = own_stands c.args.target c.args.bytes.now q.0 _ _ q.1 q.3 in
     absurd (rw c.in_default-piece.is at (c.in-Ok.ensures.only w.0 w.1 (w.3 ∙ sym c.from-at.ensures)))
 
-pub initial_at-requires : goal.initial_at-requires
-initial_at-requires c =
-    let q = c.requires.headers in
-    let so = places_so c.args.target c.args.bytes.now q.0 c.args.initials.now q.1 q.2 in
-    let has = own_here c.args.target c.args.bytes.now q.0 _ _ q.1 q.3 c.from-at.result c.from-at.ensures (piece_in c.in-Some.own) (λ x w e. rw c.in-Some.is at (c.in-Ok.ensures.only x w e)) in
-    record { ascending = so.0; among = rw (c.pointer_of-cie_at.ensures.only (cie_places q.1.entries) q.3.own has) (all_in (FdeFits c.args.target (map place_of c.args.initials.now)) q.0 (fde q.3.own) so.1 q.3.own_among).2 }
+pub bounds-initials-named : goal.bounds-initials-named
+bounds-initials-named c = (found (goal.at.bounds-initials-named c).After-partition_point-named).0
 
 pub program_behind-requires : goal.program_behind-requires
 program_behind-requires c =
@@ -48,4 +58,10 @@ returns-clause-is c = λ hs headers initials r.
     let covers = r.covers in
     let head = same_head r.own c.from-at.result c.in-Some.own.form c.pointer_of-cie_at.result c.args.fde.now.begin c.args.fde.now.range (span_of c.program_behind.result)
     (ap (λ (a : Range). a.at) covers ∙ sym c.from-at.ensures) (ap (λ (h : FdeHead). h.form) own.3) (sym pointer) (ap (λ (a : Range). a.begin) covers) (ap (λ (a : Range). a.range) covers) (ap (λ (h : FdeHead). h.program) own.3 ∙ sym program) in
-    record { own = rw head at r.own_among; named = c.initial_at.ensures.is hs (all_among hs c.args.initials.now initials); names = sym c.initial_at.ensures.place }
+    let here = found (goal.at.returns-clause-is c).After-partition_point-named in
+    let x = c.index-initials-named in
+    record {
+      own = rw head at r.own_among;
+      named = subst (λ (y : Initial). IsAmong (initial_in y) hs) (sym x.is) (all_get (λ (y : Initial). IsAmong (initial_in y) hs) c.args.initials.now c.partition_point-named.result x.result (all_among hs c.args.initials.now initials) here.0);
+      names = sym (ap (λ (y : Initial). y.at) x.is ∙ here.1 x.result);
+    }

@@ -1,20 +1,63 @@
-use Rattle.dw_section.proofs.{Words.{◌∙◌, ap, subst, Changing, Head, Headers, IsAmong, List, initial_in}, Lent.HeaderLaws.one_headers, RowLookup.runs_found}
+use Rattle.dw_section.proofs.Words.{◌≡◌, ◌+◌, ◌∙◌, ap, arith, subst, sym, AreBytes, Changing, ChangesOf, IsAmong, IsFoundIn, List, LocatedRow, Section, changes_among, fde_of, initial_in, initial_head, led_by, Led, LedTo, None, Option}
+use Rattle.dw_section.proofs.{Words.{Outcome, RunsTo, program_input, span_of, input_of, ℕ}, FdeRows.{led_one, one_outcome}, Lent.HeaderLaws.one_headers, RowLookup.{Runs, runs_found}, table.Table.go_on.Goals.After-are_bytes-2}
 use Rattle.dw_section.proofs.table.Table.go_on.Goals as goal
 
-pub go_on-requires : goal.go_on-requires
-go_on-requires c =
-    let found = c.found-found.ensures.found in
-    let runs = runs_found c.args.self.now.target c.args.self.now.bytes c.accepted.ensures.bytes c.found-found.result found in
-    let among = λ (hs : List Head) (are : Headers c.args.self.now.target c.args.self.now.bytes hs). subst (λ (l : List Head). IsAmong (initial_in c.found-found.result.cie) l) (one_headers c.args.self.now.target c.args.self.now.bytes found.headers hs found.hold.0.0.0 are) found.is.named in
-    rw c.requires.section (record { in_space = runs.in_space; known = (runs.rows, runs.give); among = among })
+module _ (c : After-are_bytes-2) where
+  abbrev here : Section
+  here = record { target = c.changes.inside.target; bytes = c.changes.inside.bytes.now }
 
-pub returns : goal.returns
-returns c =
-    let runs = runs_found c.args.self.now.target c.args.self.now.bytes c.accepted.ensures.bytes c.found-found.result c.found-found.ensures.found in
-    let is = c.go_on.ensures runs.rows (rw c.requires.section runs.give) in
+  same : here ≡ c.args.self.now
+  same = ap (λ (k : Changing). k.section) c.changes.view_is ∙ c.requires.section
+
+  is_found : IsFoundIn here.target here.bytes c.found-found.result
+  is_found = subst (λ (s : Section). IsFoundIn s.target s.bytes c.found-found.result) (sym same) c.found-found.ensures.found
+
+  runs : Runs here.target here.bytes c.found-found.result
+  runs = runs_found here.target here.bytes (subst (λ (s : Section). AreBytes s.bytes) (sym same) c.accepted.ensures.bytes) c.found-found.result is_found
+
+  among : IsAmong (initial_in c.found-found.result.cie) c.changes.invariant.headers
+  among =
+      let hs = c.changes.invariant.headers in
+      subst (IsAmong (initial_in c.found-found.result.cie)) (one_headers here.target here.bytes is_found.headers hs is_found.hold.0.0.0 c.changes.invariant.are) is_found.is.named
+
+  abbrev RunsBy : Led → Outcome → Type 0
+  RunsBy l o = let own = c.found-found.result.own in RunsTo l.factors l.program (program_input own.program l.program.target) own.begin o
+
+  -- the walk was led to the FDE's CIE
+  led : c.lead.new.self.walk.led ≡ led_by here.target (initial_head c.found-found.result.cie)
+  led =
+      let hs = c.changes.invariant.headers in
+      led_one here.target here.bytes hs c.changes.invariant.are (initial_head c.found-found.result.cie) among c.lead.new.self.walk.led
+      (subst (λ (at : Option ℕ). LedTo here.target hs at c.lead.new.self.walk.led) c.lead.ensures.at (c.lead.ensures.led hs among c.changes.invariant.led).0)
+
+  -- so its rows are those of the FDE
+  ran : (o : Outcome) → RunsBy c.lead.new.self.walk.led o → o ≡ record { rows = runs.rows; fault = None }
+  ran o to =
+      let e = c.found-found.result in
+      one_outcome e.cie.factors (input_of here.target (span_of e.cie.program)) (input_of here.target (span_of e.own.program)) e.own.begin o runs.rows c.are_bytes.ensures c.are_bytes-2.ensures (omega (arith, runs.in_space)) (subst (λ (l : Led). RunsBy l o) led to) runs.give
+
+pub go_to-requires : goal.go_to-requires
+go_to-requires c = let w = (goal.at.go_to-requires c).After-are_bytes-2 in rw (led w) (runs w).in_space
+
+pub invariant_of-changes : goal.invariant_of-changes
+invariant_of-changes c =
+    let w = (goal.at.invariant_of-changes c).After-are_bytes-2 in
     record {
-      begun = (ap (λ (k : Changing). k.failed) is, ap (λ (k : Changing). k.shown) is);
-      before = ap (λ (k : Changing). k.before) is;
-      section = ap (λ (k : Changing). k.section) is ∙ c.requires.section;
-      changes = λ fs are d. rw (← c.found-found.ensures.listed fs are d, is) (runs.changes c.found-found.ensures.found.some);
+      no_fault = ap (λ (o : Outcome). o.fault) (ran w c.go_to.new.self.steps.outcome c.go_to.ensures.runs);
+      headers = c.changes.invariant.headers;
+      are = c.changes.invariant.are;
+      led = rw c.go_to.ensures.led (c.lead.ensures.led c.changes.invariant.headers (among w) c.changes.invariant.led);
     }
+
+pub returns-clause-section : goal.returns-clause-section
+returns-clause-section c = same (goal.at.returns-clause-section c).After-are_bytes-2
+
+pub returns-clause-changes : goal.returns-clause-changes
+returns-clause-changes c =
+    let w = (goal.at.returns-clause-changes c).After-are_bytes-2 in
+    let e = c.found-found.result in
+    let end = c.from.result + c.from-2.result in
+    let ends : e.own.begin + e.own.range ≡ end = omega (arith, c.from.ensures, c.from-2.ensures) in
+    let given = subst (λ (n : ℕ). ChangesOf (here w).target (here w).bytes (fde_of e) (changes_among n None (runs w).rows)) ends ((runs w).changes c.found-found.ensures.found.some) in
+    let mine = subst (λ (rows : List LocatedRow). ChangesOf (here w).target (here w).bytes (fde_of e) (changes_among end None rows)) (sym (ap (λ (o : Outcome). o.rows) (ran w c.go_to.new.self.steps.outcome c.go_to.ensures.runs))) given in
+    λ fs are d. rw (← c.found-found.ensures.listed fs are d) (subst (λ (s : Section). ChangesOf s.target s.bytes (fde_of e) (changes_among end None c.go_to.new.self.steps.outcome.rows)) (same w) mine)
