@@ -176,7 +176,8 @@ impl Dump {
         // It holds what the lines say, which tell nothing twice.
         ensures found { IfOk result (λ dump. (ss : List TheStatement) × Say (address_limit target.size) (lines_of bytes.now) ss × Describes dump ss) }
         // Where lines tell nothing twice and all of it fits, there is no fault.
-        ensures only { (ss : List TheStatement) → Say (address_limit target.size) (lines_of bytes.now) ss → MatchResult result (λ dump. Describes dump ss) (λ e. e ≡ OutOfMemory) }
+        ensures only { (ss : List TheStatement) → Say (address_limit target.size) (lines_of bytes.now) ss
+            → MatchResult result (λ dump. Describes dump ss) (λ e. e ≡ OutOfMemory) }
         // A fault names one of the lines, counted from 1.
         ensures within { IfErr result (NamesLine (lines_of bytes.now)) }
         // A refusal is the first fault.
