@@ -2,7 +2,8 @@
 
 ghost use Rattle.std.specs.{Prelude.{◌≡◌, List, IfOk, false}, List.AllZip};
 ghost use Rattle.clap.specs.Words.{Rule};
-ghost use Rattle.dw_words.specs.{CommandLine.{flag, operand, operands, option}, Inner.CommandLine.{IsArg, IsCommand, asked, command, command_named, with_subcommands}};
+ghost use Rattle.dw_words.specs.{CommandLine.{flag, operand, operands, option}};
+ghost use Rattle.dw_words.specs.{Inner.CommandLine.{IsArg, IsCommand, asked, command, command_named, with_subcommands}};
 
 use crate::help;
 use crate::request::Name;
