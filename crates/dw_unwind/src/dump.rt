@@ -2,9 +2,8 @@
 
 ghost use Rattle.std.specs.Prelude.{◌≡◌, ◌+◌, ◌<◌, ◌≤◌, ◌^◌, [], List, IfOk, IfErr, MatchResult, length};
 ghost use Rattle.dw_num.specs.Target.{address_limit};
-ghost use Rattle.dw_unwind.specs.{Describes.{Describes, RefusesDump}, Dump.Say, Laws.NamesLine, Lines.lines_of};
+ghost use Rattle.dw_unwind.specs.{Describes.{Describes, RefusesDump}, Dump.Say, Inner.Gathered.{Adds, Gathers, Keeps, Takes}, Laws.NamesLine, Lines.lines_of};
 ghost use Rattle.dw_unwind.specs.{Statement.{Statement as TheStatement, counter_is, register_is, memory_is}, declared.fault.DumpError.TheVariants.OutOfMemory};
-ghost use Rattle.dw_unwind.specs.Inner.Gathered.{Adds, Gathers, Keeps, Takes};
 
 use crate::fault::{DumpCode, DumpError, DumpFault};
 use crate::line::{Statement, len_until, read_line};

@@ -110,15 +110,13 @@ impl<'m, 'a> Machine<'m, 'a> {
     {
         match rule {
             CfaRule::Unset => unreachable!(),
-            CfaRule::Register { register, offset } => {
-                match self.env.registers.get(*register) {
-                    Some(value) => Ok(offset_by(value, *offset, self.env.target.size)),
-                    None => Err(UnwindError::NoRegister {
-                        column: Column::Cfa,
-                        register: *register,
-                    }),
-                }
-            }
+            CfaRule::Register { register, offset } => match self.env.registers.get(*register) {
+                Some(value) => Ok(offset_by(value, *offset, self.env.target.size)),
+                None => Err(UnwindError::NoRegister {
+                    column: Column::Cfa,
+                    register: *register,
+                }),
+            },
             CfaRule::Expression(expression) => self.value(expression, None, Column::Cfa, memory),
         }
     }
@@ -250,11 +248,8 @@ impl<'m, 'a> Machine<'m, 'a> {
             self.add(from, register, &own, cfa, memory, room)?;
             from = usize::from(register) + 1;
         }
-        let end = self
-            .env
-            .registers
-            .end()
-            .max(usize::from(self.return_register) + 1);
+        let returns = usize::from(self.return_register);
+        let end = self.env.registers.end().max(returns + 1);
         self.add_all_given(from, from.max(end), cfa, room)?;
         Ok(room.lent())
     }

@@ -31,5 +31,5 @@ returns-clause-so g c =
     let none = left_none row from (subst (IsLeft row from) c.in-None.ensures.steps.0 c.registers.invariant.left) in
     let so = c.in_ok-add_all_given.ensures (g.M.Memory.byte c.args.memory.now) c.registers.invariant.so_far in
     let all = so_all world m.steps m.default row m.return_register c.args.cfa end c.add_all_given.new.room so
-    (λ r le. not_listed world.register row m.return_register r (c.end.ensures.beyond r (omega (arith, le, c.max.ensures, c.max-end.ensures))) (none r (omega (arith, le, c.max.ensures))) (omega (arith, le, c.max.ensures, c.max-end.ensures, c.from.ensures))) in
+    (λ r le. not_listed world.register row m.return_register r (c.end.ensures.beyond r (omega (arith, le, c.max.ensures, c.max-end.ensures))) (none r (omega (arith, le, c.max.ensures))) (omega (arith, le, c.max.ensures, c.max-end.ensures, c.from-returns.ensures))) in
     (rw c.lent.ensures all, c.registers.invariant.count)
