@@ -1,5 +1,6 @@
 -- What a terminal is shown: a text before the first order is shown as it is.
 use Rattle.dw_command.proofs.Words.{◌≡◌, ◌≤◌, ◌+◌, ◌∙◌, ap, arith, ℕ, suc, Bool, true, false, List, [], ◌∷◌, refl, sym, length, take, Option, Some, None, nat_lt, cond, not, position, position_or_len, ltb-false}
+use Rattle.std.specs.Prelude.{unwrap_or}
 use Rattle.std.proofs.lemmas.List.Sums.{prefix_len-le-length}
 use Rattle.dw_command.specs.Inner.Terminal.{is_order, shown}
 
@@ -16,12 +17,13 @@ pub plain_stays : (xs : List ℕ) (n : ℕ) → n ≡ position_or_len is_order x
 plain_stays xs n is = rw is (plain_shown xs)
 
 -- without an order all bytes come before it
-pub no_order : (xs : List ℕ) (found : Option ℕ) → found ≡ position is_order xs → found ≡ None → length xs ≡ position_or_len is_order xs
-no_order xs found is none = of (nat_lt (position_or_len is_order xs) (length xs)) refl (sym is ∙ none)
+pub plain_of : (xs : List ℕ) (found : Option ℕ) (n : ℕ) → found ≡ position is_order xs → n ≡ unwrap_or found (length xs) → n ≡ position_or_len is_order xs
+plain_of xs found n is plain = of (nat_lt (position_or_len is_order xs) (length xs)) refl (plain ∙ ap (λ (o : Option ℕ). unwrap_or o (length xs)) is)
   where
     most : position_or_len is_order xs ≤ length xs
     most = prefix_len-le-length (λ x. not (is_order x)) xs
 
-    of : (b : Bool) → nat_lt (position_or_len is_order xs) (length xs) ≡ b → cond b (Some (position_or_len is_order xs)) None ≡ None → length xs ≡ position_or_len is_order xs
-    of true less same = absurd cc
-    of false least same = let p = ltb-false (position_or_len is_order xs) (length xs) least in omega (arith, p, most)
+    of : (b : Bool) → nat_lt (position_or_len is_order xs) (length xs) ≡ b → n ≡ unwrap_or (cond b (Some (position_or_len is_order xs)) None) (length xs)
+        → n ≡ position_or_len is_order xs
+    of true less same = same
+    of false least same = let p = ltb-false (position_or_len is_order xs) (length xs) least in omega (arith, same, p, most)

@@ -4,3 +4,4 @@ pub mod Lent
 pub mod Lines
 pub mod Output
 pub mod Terminal
+pub mod Exits

@@ -1,6 +1,6 @@
 //! Addresses in the lines of a text, one a line.
 
-ghost use Rattle.std.specs.Prelude.{◌≡◌, ◌+◌, ◌≤◌, ◌++◌, List, ℕ, drop, length, Ok, MatchResult};
+ghost use Rattle.std.specs.Prelude.{◌≡◌, ◌≤◌, ◌++◌, List, ℕ, length, Ok, MatchResult};
 ghost use Rattle.dw_unwind.specs.Lines.{lines_of};
 ghost use Rattle.dw_command.specs.{Addresses.{RefusesLine, addresses_of}, Inner.Lines.line_len};
 
@@ -21,21 +21,10 @@ fn line_len(text: &[u8]) -> usize
     text.len()
 }
 
-// What stands behind a line of that length and the line feed that ends it.
-fn behind_line<'a>(text: &'a [u8], len: usize) -> &'a [u8]
-    requires { len ≤ length text.now }
-    ensures { result.now ≡ drop (len + 1) text.entry.now }
-{
-    if len < text.len() {
-        &text[len + 1..]
-    } else {
-        &text[len..]
-    }
-}
-
 /// Adds the addresses of a text's lines. `BadLine` is answered for the first line that says none, an empty one among them.
 pub fn add_lines(addresses: &mut Vec<u64>, text: &[u8], size: Size) -> Result<(), DumpError>
-    ensures { MatchResult result (λ _. (more : List ℕ) × (addresses_of size 1 (lines_of text.now) ≡ Ok more) × (addresses.new.items ≡ addresses.old.items ++ more)) (RefusesLine size (lines_of text.now)) }
+    ensures { MatchResult result (λ _. (more : List ℕ) × (addresses_of size 1 (lines_of text.now) ≡ Ok more)
+        × (addresses.new.items ≡ addresses.old.items ++ more)) (RefusesLine size (lines_of text.now)) }
 {
     let mut rest = text;
     let mut line = 1;
@@ -46,7 +35,7 @@ pub fn add_lines(addresses: &mut Vec<u64>, text: &[u8], size: Size) -> Result<()
             return Err(DumpError::Fault(DumpFault { code, line }));
         };
         addresses.push(address)?;
-        rest = behind_line(rest, len);
+        rest = &rest[(len + 1).min(rest.len())..];
         line += 1;
     }
     Ok(())

@@ -1,8 +1,7 @@
 //! The whole command, over the words, files and outputs that it is given.
 
-ghost use Rattle.std.specs.{Prelude.{◌≡◌, ℕ, ◌≤◌, Result, IfOk, false, map, string_bytes}, Result.result_map_both};
-ghost use Rattle.dw_command.specs.{Answers.{Ends, PrintsText, TaskEnds, exit_of}, Engine.Runs};
-ghost use Rattle.dw_command.specs.{declared.failure.Failure.{Failure as TheFailure}, Inner.Output.output_of};
+ghost use Rattle.std.specs.{Prelude.{◌≡◌, ◌≤◌, IfOk, false, map, string_bytes}, Result.result_map_both};
+ghost use Rattle.dw_command.specs.{Answers.{Ends, PrintsText, TaskEnds}, Engine.Runs, Inner.{Exits.Exits, Output.output_of}};
 
 use crate::expression::{run_eval, run_expr};
 use crate::failure::Failure;
@@ -92,8 +91,7 @@ fn run_over<L: Load, W: Write, E: Write>(
 ) -> u8
     requires works { out.old.failed ≡ false }
     // It is the status of an answer to these words, over these files. The output failed where it says so, and not where there is an answer.
-    ensures ends { (answer : Result ℕ TheFailure)
-        × Ends (L.gives files.old) (output_of W.contents out.old) (output_of W.contents out.new) (map string_bytes words.now) answer × (result ≡ exit_of answer) }
+    ensures ends { Exits (L.gives files.old) (output_of W.contents out.old) (output_of W.contents out.new) (map string_bytes words.now) result }
     ensures most { result ≤ 5 }
 {
     match run(alloc, words, files, out) {

@@ -116,10 +116,7 @@ impl<R: Files + Input + AllocGlobal> Load for Disk<'_, R> {
         } else {
             bytes_at(self.rt, path)
         };
-        match bytes {
-            Ok(bytes) => Ok(bytes),
-            Err(error) => Err(kind_of(error)),
-        }
+        bytes.map_err(kind_of)
     }
 }
 
@@ -137,7 +134,8 @@ pub fn load_file<'a, L: Load>(files: &mut L, path: &'a str) -> Result<Vec<u8>, F
 
 /// The bytes of a dump. One of more than 2,147,483,647 bytes cannot be read.
 pub fn load_dump<'a, L: Load>(files: &mut L, path: &'a str) -> Result<Vec<u8>, Failure<'a>>
-    ensures loads { MatchResult result (λ bytes. LoadsDump (L.gives files.old) path.now (Ok bytes.items)) (λ e. LoadsDump (L.gives files.old) path.now (Err e)) }
+    ensures loads { MatchResult result (λ bytes. LoadsDump (L.gives files.old) path.now (Ok bytes.items))
+        (λ e. LoadsDump (L.gives files.old) path.now (Err e)) }
     ensures same { (p : List ℕ) (r : Result (List ℕ) TheLoadError) → L.gives files.new p r → L.gives files.old p r }
 {
     let bytes = load_file(files, path)?;

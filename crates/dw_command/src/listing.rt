@@ -4,7 +4,7 @@ ghost use Rattle.std.specs.Prelude.{◌≡◌, ◌+◌, ◌++◌, ◌-◌, ◌*�
 ghost use Rattle.std.specs.Prelude.{codes, false, true, decimal, MatchResult, unsigned_abs, if◌then◌else◌, IfErr, IfOk, OnErr, OnOk, ◌⊎◌};
 ghost use Rattle.std.specs.{Fmt.{digits, digit_glyph}, Int.{is_negative}, Io.KnownBytes.{Appends, Keeps}};
 ghost use Rattle.dw_command.specs.declared.listing.TheConstants.{PIECE, ROOM};
-ghost use Rattle.dw_command.specs.Inner.Output.{Adds, Breaks, Fills, Finishes, Stays, failures_of, put_so_far};
+ghost use Rattle.dw_command.specs.Inner.Output.{Adds, Breaks, Fills, Finishes, Stays, failures_of, put_in};
 
 use crate::failure::Failure;
 use dw_normal::{Sink, SinkFault};
@@ -127,7 +127,7 @@ impl<W: Write> Listing<W> {
     fn write_out(&mut self)
         ensures works { self.new.failed ≡ false → self.old.failed ≡ false }
         ensures empty { self.new.failed ≡ false → self.new.len ≡ 0 }
-        ensures put { Keeps (put_so_far (W.contents self.old.out) self.old.len self.old.room) (put_so_far (W.contents self.new.out) self.new.len self.new.room) }
+        ensures put { Keeps (put_in W.contents self.old) (put_in W.contents self.new) }
         ensures held { (gone : List ℕ) × (take self.old.len self.old.room ≡ gone ++ take self.new.len self.new.room) }
         // An output that failed gets no more.
         ensures stopped { self.old.failed ≡ true → self.new ≡ self.old }
@@ -171,7 +171,7 @@ impl<W: Write> Listing<W> {
     pub fn finish(&mut self) -> Result<(), Failure<'static>>
         ensures ends { Finishes W.contents self.old self.new result }
         // What was put stays: the output gets what is left, or as much of it as it takes.
-        ensures put { Keeps (put_so_far (W.contents self.old.out) self.old.len self.old.room) (put_so_far (W.contents self.new.out) self.new.len self.new.room) }
+        ensures put { Keeps (put_in W.contents self.old) (put_in W.contents self.new) }
     {
         self.write_out();
         self.check()?;
@@ -330,7 +330,7 @@ impl<W: Write> Listing<W> {
 
 /// A normal form is put like any text.
 impl<W: Write> Sink for Listing<W> {
-    ghost taken = { λ listing. put_so_far (W.contents listing.out) listing.len listing.room };
+    ghost taken = { λ listing. put_in W.contents listing };
 
     ghost failures = { λ listing. failures_of listing.failed };
 
@@ -338,8 +338,10 @@ impl<W: Write> Sink for Listing<W> {
         requires some { 0 < length bytes.now }
         requires room { failures_of self.old.failed < 2 ^ 64 - 1 }
         // It is put behind what was put before.
-        ensures took { IfOk result (λ n. (1 ≤ n) × (n ≤ length bytes.now) × (failures_of self.new.failed ≡ failures_of self.old.failed) × Appends (put_so_far (W.contents self.old.out) self.old.len self.old.room) (put_so_far (W.contents self.new.out) self.new.len self.new.room) (take n bytes.now)) }
-        ensures fault { IfErr result (λ _. (failures_of self.old.failed < failures_of self.new.failed) × Keeps (put_so_far (W.contents self.old.out) self.old.len self.old.room) (put_so_far (W.contents self.new.out) self.new.len self.new.room)) }
+        ensures took { IfOk result (λ n. (1 ≤ n) × (n ≤ length bytes.now) × (failures_of self.new.failed ≡ failures_of self.old.failed)
+            × Appends (put_in W.contents self.old) (put_in W.contents self.new) (take n bytes.now)) }
+        ensures fault { IfErr result (λ _. (failures_of self.old.failed < failures_of self.new.failed)
+            × Keeps (put_in W.contents self.old) (put_in W.contents self.new)) }
         ensures fits { OnOk result (self.new.len ≤ ROOM) }
         // Where the output fails, the room is full, and what the output did not take stays.
         ensures full { OnErr result (ROOM < self.old.len + PIECE) }

@@ -117,8 +117,7 @@ pub fn put_none<W: Write>(listing: &mut Listing<W>, address: u64)
     listing.make_room();
     listing.text(b" 0x");
     listing.hex(address);
-    listing.text(b" none");
-    listing.text(b"\n");
+    listing.text(b" none\n");
 }
 
 /// Puts the line of a row: the address from which it holds, the CFA's rule, and the specified registers' rules.

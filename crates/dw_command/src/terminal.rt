@@ -22,10 +22,7 @@ fn first_order(bytes: &[u8]) -> Option<usize>
 fn plain_len(bytes: &[u8]) -> usize
     ensures { result ≡ position_or_len is_order bytes.now }
 {
-    match first_order(bytes) {
-        Some(len) => len,
-        None => bytes.len(),
-    }
+    first_order(bytes).unwrap_or(bytes.len())
 }
 
 /// An output to a terminal. A control character, which the terminal would take for an order, is shown as `?`; a line feed

@@ -1,5 +1,5 @@
 -- What a caller in C gives and is told, in the numbers of the header.
-use Rattle.std.specs.Prelude.{ℕ, Option, Some, None, nat_eq, if◌then◌else◌}
+use Rattle.std.specs.Prelude.{◌≡◌, ◌⊎◌, ◌<◌, ◌≤◌, ℕ, List, ◌++◌, length, drop, Option, Some, None, nat_eq, if◌then◌else◌}
 use Rattle.dw_num.specs.{Codes.code_entry, declared.refusal.Refusal.Refusal}
 use Rattle.dw_num.specs.declared.target.{Order.TheVariants.{Little, Big}, Size.Size, Size.TheVariants.{Four, Eight}, Target.Target}
 use Rattle.dw_library.specs.declared.answer.{Counts.Counts, Refused.Refused}
@@ -42,6 +42,12 @@ not_refused = record { code = 0; section = 0; at = 0 }
 -- a refusal of the first or the second section
 abbrev pub told : ℕ → Refusal → Refused
 told section r = record { code = (code_entry r.code).0; section = section; at = r.at }
+
+-- items at the front of a buffer, where they fit; else the buffer stays
+abbrev pub AreAtFront : {A : Type 0} → List A → List A → ℕ → List A → Type 0
+AreAtFront items old status new =
+    ((status ≡ ok) × (length items ≤ length old) × (new ≡ items ++ drop (length items) old))
+    ⊎ ((status ≡ too_short) × (length old < length items) × (new ≡ old))
 
 abbrev pub no_entries : Counts
 no_entries = record { cies = 0; fdes = 0 }

@@ -9,7 +9,7 @@ use Rattle.dw_row.specs.Rows.{Rules}
 use Rattle.dw_row.specs.declared.rule.CfaRule.TheVariants as cfa
 use Rattle.dw_section.specs.{Accepted.CheckFault, Among.IsAmong, Meaning.{AreFdes, NoneCovers, RulesAt}, Ranges.{LeadsTo, Uncovered, IsTable}}
 use Rattle.dw_section.specs.{StandingFde.{LookUpFault, Misleads, Ruled, RulesOf}, declared.fde_range.Ranged.Ranged, declared.lookup.Fde.Fde}
-use Rattle.dw_library.specs.Answers.{ok, refused, out_of_memory, bad_argument, too_short, not_refused, told}
+use Rattle.dw_library.specs.Answers.{AreAtFront, ok, refused, out_of_memory, bad_argument, too_short, not_refused, told}
 use Rattle.dw_library.specs.declared.{answer.Refused.Refused, index.Row.Row, index.Rule.Rule}
 
 -- ---- the index
@@ -22,17 +22,11 @@ HasSize (Some target) s status size why =
     ⊎ ((status ≡ refused) × ((r : Refusal) × CheckFault target s r × (why ≡ told 1 r)) × (size ≡ 0))
     ⊎ ((status ≡ out_of_memory) × (size ≡ 0) × (why ≡ not_refused))
 
--- entries at the front of a buffer, where they fit; else the buffer stays
-abbrev pub AreEntries : List Ranged → List Ranged → ℕ → List Ranged → Type 0
-AreEntries index old status new =
-    ((status ≡ ok) × (length index ≤ length old) × (new ≡ index ++ drop (length index) old))
-    ⊎ ((status ≡ too_short) × (length old < length index) × (new ≡ old))
-
 -- the status, the buffer before and after, how many entries there are, and the refusal
 abbrev pub IsIndexed : Option Target → List ℕ → ℕ → List Ranged → List Ranged → ℕ → Refused → Type 0
 IsIndexed None s status old new count why = (status ≡ bad_argument) × (new ≡ old) × (count ≡ 0) × (why ≡ not_refused)
 IsIndexed (Some target) s status old new count why =
-    (((index : List Ranged) × IsTable target s index × (count ≡ length index) × AreEntries index old status new) × (why ≡ not_refused))
+    (((index : List Ranged) × IsTable target s index × (count ≡ length index) × AreAtFront index old status new) × (why ≡ not_refused))
     ⊎ ((status ≡ refused) × ((r : Refusal) × CheckFault target s r × (why ≡ told 1 r)) × (new ≡ old) × (count ≡ 0))
     ⊎ ((status ≡ out_of_memory) × (new ≡ old) × (count ≡ 0) × (why ≡ not_refused))
 

@@ -3,3 +3,5 @@ pub mod FrameAt
 pub mod Windows
 pub mod Expressions
 pub mod Changes
+pub mod Index
+pub mod Looks

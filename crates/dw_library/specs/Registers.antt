@@ -1,6 +1,6 @@
 -- Registers as C gives them and is told them.
-use Rattle.std.specs.Prelude.{◌≡◌, ◌⊎◌, ◌<◌, ◌≤◌, ℕ, List, [], ◌∷◌, ◌++◌, length, drop, Option, Some, None, nat_eq, if◌then◌else◌}
-use Rattle.dw_library.specs.{Answers.{ok, too_short}, declared.held.Register.Register}
+use Rattle.std.specs.Prelude.{ℕ, List, [], ◌∷◌, Option, Some, None, nat_eq, if◌then◌else◌}
+use Rattle.dw_library.specs.{Answers.AreAtFront, declared.held.Register.Register}
 
 -- a value, or else another one
 abbrev pub first_of : Option ℕ → Option ℕ → Option ℕ
@@ -20,8 +20,5 @@ abbrev pub told_register : ℕ × Option ℕ → Register
 told_register (r, Some v) = record { number = r; known = 1; reserved = 0; value = v }
 told_register (r, None) = record { number = r; known = 0; reserved = 0; value = 0 }
 
--- registers at the front of a buffer, where they fit; else the buffer stays
 abbrev pub AreTold : List Register → List Register → ℕ → List Register → Type 0
-AreTold registers old status new =
-    ((status ≡ ok) × (length registers ≤ length old) × (new ≡ registers ++ drop (length registers) old))
-    ⊎ ((status ≡ too_short) × (length old < length registers) × (new ≡ old))
+AreTold registers old status new = AreAtFront registers old status new

@@ -1,7 +1,7 @@
 //! What calls answer: statuses, refusals and counts, as `include/dwframe.h` declares them.
 
-ghost use Rattle.std.specs.Prelude.{◌≡◌, ◌⊎◌, ◌<◌, ◌≤◌, ◌++◌, drop, length, slice_set};
-ghost use Rattle.dw_library.specs.Answers.{target_of, told, ok, refused as the_refused, too_short};
+ghost use Rattle.std.specs.Prelude.{◌≡◌, ◌<◌, ◌≤◌, length, slice_set};
+ghost use Rattle.dw_library.specs.Answers.{AreAtFront, target_of, told, refused as the_refused};
 
 use crate::names::Status;
 use dw_num::{Order, Refusal, Size, Target};
@@ -70,7 +70,7 @@ pub(crate) fn target_of(address_size: u32, byte_order: u32) -> Option<Target>
 
 /// Writes items to the front of a buffer, where they fit.
 pub(crate) fn put_front<T: Copy>(items: &[T], out: &mut [T]) -> u32
-    ensures { ((result ≡ ok) × (length items.now ≤ length out.old) × (out.new ≡ items.now ++ drop (length items.now) out.old)) ⊎ ((result ≡ too_short) × (length out.old < length items.now) × (out.new ≡ out.old)) }
+    ensures { AreAtFront items.now out.old result out.new }
 {
     if out.len() < items.len() {
         return Status::TooShort as u32;

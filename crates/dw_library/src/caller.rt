@@ -1,11 +1,10 @@
 //! The frame of the caller, by an index that the caller keeps, or by one that is made.
 
-ghost use Rattle.std.specs.Prelude.{◌≡◌, map, Ok, Err, MatchResult, OnErr};
+ghost use Rattle.std.specs.Prelude.{◌≡◌, map, OnErr};
 ghost use Rattle.dw_section.specs.Ranges.{IsTable};
-ghost use Rattle.dw_unwind.specs.declared.frame.Frame.{Frame as TheCallerFrame};
-ghost use Rattle.dw_library.specs.{Answers.target_of, CallerFrame.{IsFrame, IsUnwound, Told, column_of, fault_of_kind, held_in, policy_of, status_of}};
-ghost use Rattle.dw_library.specs.{CallerFrame.{told_fault, told_frame}, FrameAt.{IsAnyUnwound, IsFrameAt, IsOwnUnwound}, Registers.{told_register, AreTold}};
-ghost use Rattle.dw_library.specs.Inner.FrameAt.{Why, WhyOwn};
+ghost use Rattle.dw_library.specs.{Answers.target_of, CallerFrame.{IsUnwound, Told, column_of, fault_of_kind, held_in, policy_of, status_of}};
+ghost use Rattle.dw_library.specs.{CallerFrame.told_fault, FrameAt.{IsAnyUnwound, IsOwnUnwound}, Registers.{told_register, AreTold}};
+ghost use Rattle.dw_library.specs.Inner.FrameAt.{FoundIsTold, IsFound, IsFoundOwn, OwnIsTold};
 
 use crate::answer::{Refused, Section, refuse, target_of};
 use crate::held::{Held, Register, give_all};
@@ -182,8 +181,8 @@ fn frame_at<'r>(
     held: &Held<'_>,
     frame_room: &'r mut FrameRoom,
 ) -> Result<CallerFrame<'r>, UnwindAtError>
-    ensures any { MatchResult result (λ f. IsFrameAt target default bytes.now index.now stop.now (held_in held.now) (Ok f)) (Why target default bytes.now index.now stop.now (held_in held.now)) }
-    ensures own { IsTable target bytes.now index.now → MatchResult result (λ f. IsFrame target default bytes.now stop.now (held_in held.now) (Ok f)) (WhyOwn target default bytes.now stop.now (held_in held.now)) }
+    ensures any { IsFound target default bytes.now stop.now (held_in held.now) index.now result }
+    ensures own { IsTable target bytes.now index.now → IsFoundOwn target default bytes.now stop.now (held_in held.now) result }
 {
     let mut room = RowRoom::new(alloc);
     let mut given = Registers::new(alloc);
@@ -208,8 +207,8 @@ fn unwound_at(
     out: &mut [Register],
     frame: &mut Frame,
 ) -> Result<u32, UnwindAtError>
-    ensures any { MatchResult result (λ status. (f : TheCallerFrame) × IsFrameAt target default bytes.now index.now stop.now (held_in held.now) (Ok f) × (frame.new ≡ told_frame f) × AreTold (map told_register f.registers) out.old status out.new) (Why target default bytes.now index.now stop.now (held_in held.now)) }
-    ensures own { IsTable target bytes.now index.now → MatchResult result (λ status. (f : TheCallerFrame) × IsFrame target default bytes.now stop.now (held_in held.now) (Ok f) × (frame.new ≡ told_frame f) × AreTold (map told_register f.registers) out.old status out.new) (WhyOwn target default bytes.now stop.now (held_in held.now)) }
+    ensures any { FoundIsTold target default bytes.now stop.now (held_in held.now) index.now out.old result frame.new out.new }
+    ensures own { IsTable target bytes.now index.now → OwnIsTold target default bytes.now stop.now (held_in held.now) out.old result frame.new out.new }
     ensures kept { OnErr result ((frame.new ≡ frame.old) × (out.new ≡ out.old)) }
 {
     let mut room = FrameRoom::new(alloc);
@@ -241,9 +240,13 @@ pub extern "C" fn dwframe_unwind_at(
     fault: &mut Fault,
 ) -> u32
     // By the index of an accepted section it tells what `dwframe_unwind` tells.
-    ensures own { let told : Told = record { status = result; registers = out.new; frame = frame.new; refusal = refused.new; fault = fault.new } in IsOwnUnwound (target_of section.now.address_size section.now.byte_order) (policy_of stop.now.unset) section.now.bytes.now index.now stop.now (held_in held.now) out.old told }
+    ensures own { let told : Told = record { status = result; registers = out.new; frame = frame.new; refusal = refused.new; fault = fault.new } in
+        IsOwnUnwound (target_of section.now.address_size section.now.byte_order) (policy_of stop.now.unset) section.now.bytes.now
+        index.now stop.now (held_in held.now) out.old told }
     // By any other it tells the frame by the FDE that stands where the index leads, or why there is none.
-    ensures any { let told : Told = record { status = result; registers = out.new; frame = frame.new; refusal = refused.new; fault = fault.new } in IsAnyUnwound (target_of section.now.address_size section.now.byte_order) (policy_of stop.now.unset) section.now.bytes.now index.now stop.now (held_in held.now) out.old told }
+    ensures any { let told : Told = record { status = result; registers = out.new; frame = frame.new; refusal = refused.new; fault = fault.new } in
+        IsAnyUnwound (target_of section.now.address_size section.now.byte_order) (policy_of stop.now.unset) section.now.bytes.now
+        index.now stop.now (held_in held.now) out.old told }
 {
     *frame = NO_FRAME;
     *refused = Refused::default();
@@ -280,7 +283,9 @@ pub extern "C" fn dwframe_unwind(
     refused: &mut Refused,
     fault: &mut Fault,
 ) -> u32
-    ensures { let told : Told = record { status = result; registers = out.new; frame = frame.new; refusal = refused.new; fault = fault.new } in IsUnwound (target_of section.now.address_size section.now.byte_order) (policy_of stop.now.unset) section.now.bytes.now stop.now (held_in held.now) out.old told }
+    ensures { let told : Told = record { status = result; registers = out.new; frame = frame.new; refusal = refused.new; fault = fault.new } in
+        IsUnwound (target_of section.now.address_size section.now.byte_order) (policy_of stop.now.unset) section.now.bytes.now
+        stop.now (held_in held.now) out.old told }
 {
     *frame = NO_FRAME;
     *refused = Refused::default();

@@ -87,7 +87,8 @@ pub extern "C" fn dwframe_evaluate(
     refused: &mut Refused,
     fault: &mut Fault,
 ) -> u32
-    ensures { let told : Told = record { status = result; value = value.new; refusal = refused.new; fault = fault.new } in IsEvaluated (target_of context.now.address_size context.now.byte_order) block.now context.now (held_in held.now) told }
+    ensures { let told : Told = record { status = result; value = value.new; refusal = refused.new; fault = fault.new } in
+        IsEvaluated (target_of context.now.address_size context.now.byte_order) block.now context.now (held_in held.now) told }
 {
     *value = 0;
     *refused = Refused::default();

@@ -106,7 +106,9 @@ fn put_blocks(
     all: &mut Blocks,
 ) -> u32
     requires none { all.old ≡ no_blocks }
-    ensures { let old : Buffers = record { blocks = blocks.old; bytes = bytes.old } in let told : Told = record { status = result; buffers = record { blocks = blocks.new; bytes = bytes.new }; all = all.new } in TellsBlocks row.now old told ⊎ (told ≡ says out_of_memory old) }
+    ensures { let old : Buffers = record { blocks = blocks.old; bytes = bytes.old } in
+        let told : Told = record { status = result; buffers = record { blocks = blocks.new; bytes = bytes.new }; all = all.new } in
+        TellsBlocks row.now old told ⊎ (told ≡ says out_of_memory old) }
 {
     let Ok(gathered) = gather(alloc, row) else {
         return Status::OutOfMemory as u32;
@@ -136,9 +138,13 @@ pub extern "C" fn dwframe_expressions_at(
     refused: &mut Refused,
 ) -> u32
     // By the index of an accepted section they are those of the section's rules.
-    ensures own { let old : Buffers = record { blocks = blocks.old; bytes = expressions.old } in let told : Told = record { status = result; buffers = record { blocks = blocks.new; bytes = expressions.new }; all = all.new } in AreExpressions (target_of section.now.address_size section.now.byte_order) section.now.bytes.now index.now address old told refused.new }
+    ensures own { let old : Buffers = record { blocks = blocks.old; bytes = expressions.old } in
+        let told : Told = record { status = result; buffers = record { blocks = blocks.new; bytes = expressions.new }; all = all.new } in
+        AreExpressions (target_of section.now.address_size section.now.byte_order) section.now.bytes.now index.now address old told refused.new }
     // By any other they are those of the FDE that stands where an entry that covers the address leads, or none.
-    ensures any { let old : Buffers = record { blocks = blocks.old; bytes = expressions.old } in let told : Told = record { status = result; buffers = record { blocks = blocks.new; bytes = expressions.new }; all = all.new } in AreAnyExpressions (target_of section.now.address_size section.now.byte_order) section.now.bytes.now index.now address old told refused.new }
+    ensures any { let old : Buffers = record { blocks = blocks.old; bytes = expressions.old } in
+        let told : Told = record { status = result; buffers = record { blocks = blocks.new; bytes = expressions.new }; all = all.new } in
+        AreAnyExpressions (target_of section.now.address_size section.now.byte_order) section.now.bytes.now index.now address old told refused.new }
 {
     *all = Blocks::default();
     *refused = Refused::default();

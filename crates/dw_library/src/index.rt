@@ -1,11 +1,11 @@
 //! Look-ups by an index that the caller keeps.
 
-ghost use Rattle.std.specs.Prelude.{◌≡◌, ◌+◌, ◌^◌, ◌<◌, ℕ, IfOk, IfErr, OnErr, MatchResult, length, map};
+ghost use Rattle.std.specs.Prelude.{◌≡◌, ◌+◌, ◌^◌, ◌<◌, ℕ, IfErr, OnErr, length, map};
 ghost use Rattle.dw_op.specs.Faults.{IsWithin};
 ghost use Rattle.dw_section.specs.{Ranges.IsTable, StandingFde.{LookUpFault, Misleads, RefusesAs}};
 ghost use Rattle.dw_section.specs.declared.standing_fde.LookUpError.TheVariants as TheLookUpError;
-ghost use Rattle.dw_library.specs.{Answers.target_of, Index.{HasSize, IsAnyRow, IsIndexed, IsRow, IsTold, TellsFde}};
-ghost use Rattle.dw_library.specs.Index.{TellsRules, Told, no_row, over, row_of, rule_of};
+ghost use Rattle.dw_library.specs.{Answers.target_of, Index.{HasSize, IsAnyRow, IsIndexed, IsRow, IsTold}};
+ghost use Rattle.dw_library.specs.{Index.{Told, no_row, over, row_of, rule_of}, Inner.Index.{TellsAny, TellsOwn}};
 
 use crate::answer::{Refused, Section, put_at, put_front, refuse, target_of};
 use crate::names::Status;
@@ -187,8 +187,8 @@ fn put_row(
     out: &mut [Rule],
     row: &mut Row,
 ) -> Result<u32, LookUpError>
-    ensures own { IsTable target bytes.now index.now → row.old ≡ no_row → MatchResult result (λ status. TellsRules target bytes.now address out.old (record { status = status; row = row.new; rules = out.new })) (λ e. e ≡ TheLookUpError.OutOfMemory) }
-    ensures any { row.old ≡ no_row → IfOk result (λ status. TellsFde target bytes.now index.now address out.old (record { status = status; row = row.new; rules = out.new })) }
+    ensures own { IsTable target bytes.now index.now → row.old ≡ no_row → TellsOwn target bytes.now address out.old row.new out.new result }
+    ensures any { row.old ≡ no_row → TellsAny target bytes.now index.now address out.old row.new out.new result }
     ensures bad { IfErr result (λ e. e ≡ TheLookUpError.BadIndex → Misleads target bytes.now index.now address) }
     ensures within { IfErr result (RefusesAs (IsWithin bytes.now)) }
     ensures refused { IfErr result (RefusesAs (LookUpFault target bytes.now index.now address)) }
@@ -218,9 +218,11 @@ pub extern "C" fn dwframe_row_at(
     refused: &mut Refused,
 ) -> u32
     // By the index of an accepted section it tells what the section says.
-    ensures own { let told : Told = record { status = result; row = row.new; rules = rules.new } in IsRow (target_of section.now.address_size section.now.byte_order) section.now.bytes.now index.now address rules.old told refused.new }
+    ensures own { let told : Told = record { status = result; row = row.new; rules = rules.new } in
+        IsRow (target_of section.now.address_size section.now.byte_order) section.now.bytes.now index.now address rules.old told refused.new }
     // By any other it tells what the FDE says that stands where an entry that covers the address leads, or that no entry or no such FDE does.
-    ensures any { let told : Told = record { status = result; row = row.new; rules = rules.new } in IsAnyRow (target_of section.now.address_size section.now.byte_order) section.now.bytes.now index.now address rules.old told refused.new }
+    ensures any { let told : Told = record { status = result; row = row.new; rules = rules.new } in
+        IsAnyRow (target_of section.now.address_size section.now.byte_order) section.now.bytes.now index.now address rules.old told refused.new }
 {
     *row = Row::default();
     *refused = Refused::default();

@@ -1,11 +1,9 @@
 //! Many rows by one call: those of many addresses, and those of an FDE, one after another.
 
-ghost use Rattle.std.specs.{Prelude.{◌≡◌, ◌≤◌, ◌++◌, ℕ, List, [], ◌∷◌, length, IfOk, OnErr}, List.AllByRecursion};
-ghost use Rattle.dw_row.specs.Rows.{Rules};
+ghost use Rattle.std.specs.{Prelude.{◌≡◌, ◌≤◌, length, IfOk, OnErr}, List.AllByRecursion};
 ghost use Rattle.dw_section.specs.Ranges.{fde_in};
 ghost use Rattle.dw_library.specs.{Answers.target_of, Changes.{AreAllChanges, AreWritten, Fits, TellsCovering, Told, no_totals}};
-ghost use Rattle.dw_library.specs.{Index.over, Looks.{AreLooks, IsLook, Look, TellsLooks, ToldRows}, declared.index.Rule.{Rule as TheRule}};
-ghost use Rattle.dw_library.specs.{declared.rows.Change.{Change as TheChange}, Inner.Changes.IsLow};
+ghost use Rattle.dw_library.specs.{Looks.{AreLooks, TellsLooks, ToldRows}, Inner.{Changes.{IsLow, WritesMore}, Looks.IsPut}};
 
 use crate::answer::{Refused, Section, put_at, refuse, target_of};
 use crate::index::{Row, Rule, told_row};
@@ -24,7 +22,7 @@ fn put_look<'a>(
     row: &mut Row,
     rules: &mut [Rule],
 ) -> Result<usize, AllocError>
-    ensures look { IfOk result (λ count. (l : Look) × IsLook table.now.target table.now.bytes address l × (row.new ≡ l.row) × (rules.new ≡ over l.rules rules.old) × (count ≡ length l.rules)) }
+    ensures look { IfOk result (IsPut table.now.target table.now.bytes address rules.old row.new rules.new) }
     ensures kept { OnErr result ((row.new ≡ row.old) × (rules.new ≡ rules.old)) }
 {
     table.accepted();
@@ -47,7 +45,8 @@ fn put_looks<'a>(
 ) -> u32
     requires rows { length addresses.now ≤ length rows.old }
     requires done { done.old ≡ 0 }
-    ensures { TellsLooks table.now.target table.now.bytes addresses.now rows.old rules.old (record { status = result; done = done.new; rows = rows.new; rules = rules.new }) }
+    ensures { let told : ToldRows = record { status = result; done = done.new; rows = rows.new; rules = rules.new } in
+        TellsLooks table.now.target table.now.bytes addresses.now rows.old rules.old told }
 {
     let mut total: u128 = 0;
     let size = rules.len() as u128;
@@ -78,7 +77,8 @@ pub extern "C" fn dwframe_rows_at(
     done: &mut usize,
     refused: &mut Refused,
 ) -> u32
-    ensures { let told : ToldRows = record { status = result; done = done.new; rows = rows.new; rules = rules.new } in AreLooks (target_of section.now.address_size section.now.byte_order) section.now.bytes.now addresses.now rows.old rules.old told refused.new }
+    ensures { let told : ToldRows = record { status = result; done = done.new; rows = rows.new; rules = rules.new } in
+        AreLooks (target_of section.now.address_size section.now.byte_order) section.now.bytes.now addresses.now rows.old rules.old told refused.new }
 {
     *done = 0;
     *refused = Refused::default();
@@ -128,7 +128,7 @@ fn put_change(
     out: &mut [Change],
     rules: &mut [Rule],
 ) -> Totals
-    ensures { (done : List (ℕ × Rules)) (changes : List TheChange) (buffer : List TheRule) → AreWritten (fde_in entry.now) done changes buffer out.old rules.old before → AreWritten (fde_in entry.now) (done ++ (address, row.now) ∷ []) changes buffer out.new rules.new result }
+    ensures { WritesMore (fde_in entry.now) (address, row.now) out.old rules.old before out.new rules.new result }
 {
     let fde = Fde {
         begin: entry.begin,
@@ -183,7 +183,8 @@ fn put_covering(
     needed: &mut Totals,
 ) -> u32
     requires none { needed.old ≡ no_totals }
-    ensures { let told : Told = record { status = result; changes = out.new; rules = rules.new; needed = needed.new } in TellsCovering table.now.target table.now.bytes address out.old rules.old told }
+    ensures { let told : Told = record { status = result; changes = out.new; rules = rules.new; needed = needed.new } in
+        TellsCovering table.now.target table.now.bytes address out.old rules.old told }
 {
     table.accepted();
     let Some(fde) = table.fde_at(address) else {
@@ -210,7 +211,8 @@ pub extern "C" fn dwframe_changes(
     needed: &mut Totals,
     refused: &mut Refused,
 ) -> u32
-    ensures { let told : Told = record { status = result; changes = changes.new; rules = rules.new; needed = needed.new } in AreAllChanges (target_of section.now.address_size section.now.byte_order) section.now.bytes.now address changes.old rules.old told refused.new }
+    ensures { let told : Told = record { status = result; changes = changes.new; rules = rules.new; needed = needed.new } in
+        AreAllChanges (target_of section.now.address_size section.now.byte_order) section.now.bytes.now address changes.old rules.old told refused.new }
 {
     *needed = Totals::default();
     *refused = Refused::default();

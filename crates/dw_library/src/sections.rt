@@ -94,7 +94,8 @@ pub extern "C" fn dwframe_same(
     alike: &mut u32,
     refused: &mut Refused,
 ) -> u32
-    ensures { IsCompared (target_of_both first.now.address_size first.now.byte_order second.now.address_size second.now.byte_order) first.now.bytes.now second.now.bytes.now result alike.new refused.new }
+    ensures { IsCompared (target_of_both first.now.address_size first.now.byte_order second.now.address_size second.now.byte_order)
+        first.now.bytes.now second.now.bytes.now result alike.new refused.new }
 {
     *alike = 0;
     *refused = Refused::default();

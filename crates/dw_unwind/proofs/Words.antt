@@ -21,4 +21,4 @@ pub use Rattle.dw_unwind.specs.{Statement.{register_is, times, told}, Unwound.{A
 pub use Rattle.dw_unwind.specs.{Unwound.stopped, UnwoundAt.{IsLed, LacksRow, by_index}, declared.by_index.UnwindAtError.UnwindAtError, declared.fault.DumpCode.DumpCode, declared.fault.DumpCode.TheVariants.{BadLine, Repeated, ValueTooLarge}}
 pub use Rattle.dw_unwind.specs.declared.{fault.DumpFault.DumpFault, frame.Column.Column, frame.Column.TheVariants.{Cfa, Register}, frame.Frame.Frame, frame.UnwindError.UnwindError, frame.UnwindError.TheVariants.{Device, Eval, NoFde}}
 pub use Rattle.dw_unwind.specs.{declared.frame.UnwindError.TheVariants.{NoRegister, OutOfMemory, Unreadable}, declared.dump.Gathered.Gathered, declared.memory.Range.Range, Inner.Gathered.{Gathers, HasBytes, IsWhole, Keeps, Takes}}
-pub use Rattle.dw_unwind.specs.Inner.{Gathered.{bytes_by, bytes_of, ranges_of}, Ranges.{AreApart, IsSoundRange, Meet, cover_count}, Recovery.{Adds, IsLeft, Over, Rise, SoFar}, Room.registers_in, Spelling.{Lacks, MemoryHead, len_until}}
+pub use Rattle.dw_unwind.specs.Inner.{Gathered.{bytes_by, bytes_of, ranges_of}, Ranges.{AreApart, IsSoundRange, Meet, cover_count}, Recovery.{Adds, AddsOver, IsLeft, ListedBelow, Over, Rise, SoFar, ValueOver}, Room.registers_in, Spelling.{Lacks, MemoryHead, len_until}}

@@ -2,6 +2,7 @@
 pub mod Stated
 pub mod Gathered
 pub mod Recovery
+pub mod Found
 pub mod Dump
 pub mod Ranges
 pub mod Spelling

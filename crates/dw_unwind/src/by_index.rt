@@ -1,12 +1,11 @@
 //! The frame of the caller by an index that was kept, or by the table of a section (6.4.1).
 
-ghost use Rattle.std.specs.Prelude.{◌≡◌, ◌⊎◌, ◌-◌, ◌^◌, ◌<◌, ◌≤◌, true, IfOk, IfErr, OnOk, MatchResult, Result, Err};
+ghost use Rattle.std.specs.Prelude.{◌≡◌, ◌⊎◌, ◌-◌, ◌^◌, ◌<◌, ◌≤◌, true, IfOk, IfErr, OnOk, Result, Err};
 ghost use Rattle.dw_row.specs.declared.rule.CfaRule.TheVariants.{Unset};
 ghost use Rattle.dw_section.specs.{Fits.RowFits, Ranges.IsTable};
-ghost use Rattle.dw_unwind.specs.Unwound.{IsCovered, IsUncovered, Unwound, UnwindFails, is_device, stopped};
-ghost use Rattle.dw_unwind.specs.UnwoundAt.{IsLed, LacksRow, UnwoundAt, UnwindAtFails, by_index};
+ghost use Rattle.dw_unwind.specs.{Unwound.{Unwound, UnwindFails, is_device, stopped}, UnwoundAt.{IsLed, LacksRow, UnwoundAt, UnwindAtFails, by_index}};
 ghost use Rattle.dw_unwind.specs.declared.frame.{Frame.{Frame as TheFrame}, UnwindError.{UnwindError as TheError}};
-ghost use Rattle.dw_unwind.specs.declared.frame.UnwindError.TheVariants.{NoFde, OutOfMemory};
+ghost use Rattle.dw_unwind.specs.{Inner.Found.FindsRow, declared.frame.UnwindError.TheVariants.OutOfMemory};
 ghost use Rattle.dw_unwind.specs.declared.by_index.UnwindAtError.TheVariants as TheUnwindAtError;
 
 use crate::frame::{Frame, UnwindError};
@@ -43,7 +42,7 @@ fn row_at<'a>(
     address: u64,
     room: &mut RowRoom<'a>,
 ) -> Result<u16, UnwindAtError>
-    ensures own { IsTable target bytes.now index.now → MatchResult result (λ register. IsCovered target bytes.now address register room.new) (λ e. (e ≡ TheUnwindAtError.Unwind OutOfMemory) ⊎ ((e ≡ TheUnwindAtError.Unwind NoFde) × IsUncovered target bytes.now address)) }
+    ensures own { IsTable target bytes.now index.now → FindsRow target bytes.now address room.new result }
     ensures led { IfOk result (λ register. IsLed target bytes.now index.now address register room.new) }
     ensures lacks { IfErr result (LacksRow target bytes.now index.now address) }
     ensures set { OnOk result (room.new.cfa ≡ Unset → ⊥) }
@@ -89,11 +88,17 @@ pub fn unwind_at<'a, 'r, M: Memory>(
     // The count of failures stays or grows.
     ensures counted { M.failures memory.old ≤ M.failures memory.new }
     // By the index of an accepted section it is what `unwind` answers of it.
-    ensures own { IsTable target bytes.now index.now → (r : Result TheFrame TheError) × (result ≡ by_index r) × (M.failures memory.new ≡ M.failures memory.old → (r ≡ Err OutOfMemory) ⊎ Unwound target bytes.now pc (stopped target registers.now (M.byte memory.old)) default steps r) × (M.failures memory.old < M.failures memory.new → (e : TheError) × (r ≡ Err e) × UnwindFails target bytes.now pc (stopped target registers.now (M.byte memory.old)) default steps e) }
+    ensures own { IsTable target bytes.now index.now → (r : Result TheFrame TheError) × (result ≡ by_index r)
+        × (M.failures memory.new ≡ M.failures memory.old → (r ≡ Err OutOfMemory)
+        ⊎ Unwound target bytes.now pc (stopped target registers.now (M.byte memory.old)) default steps r)
+        × (M.failures memory.old < M.failures memory.new → (e : TheError) × (r ≡ Err e)
+        × UnwindFails target bytes.now pc (stopped target registers.now (M.byte memory.old)) default steps e) }
     // By any other it is the frame by the FDE that stands where the index leads, or the first fault, or want of memory.
-    ensures answered { M.failures memory.new ≡ M.failures memory.old → (result ≡ Err (TheUnwindAtError.Unwind OutOfMemory)) ⊎ UnwoundAt target bytes.now index.now pc (stopped target registers.now (M.byte memory.old)) default steps result }
+    ensures answered { M.failures memory.new ≡ M.failures memory.old → (result ≡ Err (TheUnwindAtError.Unwind OutOfMemory))
+        ⊎ UnwoundAt target bytes.now index.now pc (stopped target registers.now (M.byte memory.old)) default steps result }
     // Where the count grows, a read of a column that is reached has failed.
-    ensures failed { M.failures memory.old < M.failures memory.new → (e : TheError) × (result ≡ Err (TheUnwindAtError.Unwind e)) × (is_device e ≡ true) × UnwindAtFails target bytes.now index.now pc (stopped target registers.now (M.byte memory.old)) default steps e }
+    ensures failed { M.failures memory.old < M.failures memory.new → (e : TheError) × (result ≡ Err (TheUnwindAtError.Unwind e))
+        × (is_device e ≡ true) × UnwindAtFails target bytes.now index.now pc (stopped target registers.now (M.byte memory.old)) default steps e }
     // No other failure is named.
     ensures device { (e : TheError) → result ≡ Err (TheUnwindAtError.Unwind e) → is_device e ≡ true → M.failures memory.old < M.failures memory.new }
 {
@@ -137,9 +142,11 @@ pub fn unwind<'r, M: Memory>(
     // The count of failures stays or grows.
     ensures counted { M.failures memory.old ≤ M.failures memory.new }
     // Where it stays, the answer is the frame or the first fault, or want of memory.
-    ensures answered { M.failures memory.new ≡ M.failures memory.old → (result ≡ Err OutOfMemory) ⊎ Unwound target table.now.bytes pc (stopped target registers.now (M.byte memory.old)) default steps result }
+    ensures answered { M.failures memory.new ≡ M.failures memory.old → (result ≡ Err OutOfMemory)
+        ⊎ Unwound target table.now.bytes pc (stopped target registers.now (M.byte memory.old)) default steps result }
     // Where it grows, a read of a column that is reached has failed.
-    ensures failed { M.failures memory.old < M.failures memory.new → (e : TheError) × (result ≡ Err e) × (is_device e ≡ true) × UnwindFails target table.now.bytes pc (stopped target registers.now (M.byte memory.old)) default steps e }
+    ensures failed { M.failures memory.old < M.failures memory.new → (e : TheError) × (result ≡ Err e) × (is_device e ≡ true)
+        × UnwindFails target table.now.bytes pc (stopped target registers.now (M.byte memory.old)) default steps e }
     // No other failure is named.
     ensures device { (e : TheError) → result ≡ Err e → is_device e ≡ true → M.failures memory.old < M.failures memory.new }
 {

@@ -2,9 +2,8 @@
 
 ghost use Rattle.std.specs.Prelude.{◌≡◌, ◌+◌, ◌<◌, ◌≤◌, ◌^◌, [], List, IfOk, IfErr, MatchResult, length};
 ghost use Rattle.dw_num.specs.Target.{address_limit};
-ghost use Rattle.dw_unwind.specs.{Describes.{Describes, RefusesDump}, Dump.Say, Laws.NamesLine, Lines.lines_of};
+ghost use Rattle.dw_unwind.specs.{Describes.{Describes, RefusesDump}, Dump.Say, Inner.Gathered.{Adds, Gathers, Keeps, Takes}, Laws.NamesLine, Lines.lines_of};
 ghost use Rattle.dw_unwind.specs.{Statement.{Statement as TheStatement, counter_is, register_is, memory_is}, declared.fault.DumpError.TheVariants.OutOfMemory};
-ghost use Rattle.dw_unwind.specs.Inner.Gathered.{Adds, Gathers, Keeps, Takes};
 
 use crate::fault::{DumpCode, DumpError, DumpFault};
 use crate::line::{Statement, len_until, read_line};
@@ -176,7 +175,8 @@ impl Dump {
         // It holds what the lines say, which tell nothing twice.
         ensures found { IfOk result (λ dump. (ss : List TheStatement) × Say (address_limit target.size) (lines_of bytes.now) ss × Describes dump ss) }
         // Where lines tell nothing twice and all of it fits, there is no fault.
-        ensures only { (ss : List TheStatement) → Say (address_limit target.size) (lines_of bytes.now) ss → MatchResult result (λ dump. Describes dump ss) (λ e. e ≡ OutOfMemory) }
+        ensures only { (ss : List TheStatement) → Say (address_limit target.size) (lines_of bytes.now) ss
+            → MatchResult result (λ dump. Describes dump ss) (λ e. e ≡ OutOfMemory) }
         // A fault names one of the lines, counted from 1.
         ensures within { IfErr result (NamesLine (lines_of bytes.now)) }
         // A refusal is the first fault.

@@ -108,13 +108,11 @@ impl FrameRoom {
     pub(crate) fn lent(&self) -> FrameRegisters<'_>
         ensures { result ≡ self.now }
     {
-        if self.more.is_empty() {
-            return FrameRegisters {
-                values: &self.near[..self.len],
-            };
-        }
-        FrameRegisters {
-            values: self.more.as_slice(),
-        }
+        let values = if self.more.is_empty() {
+            &self.near[..self.len]
+        } else {
+            self.more.as_slice()
+        };
+        FrameRegisters { values }
     }
 }

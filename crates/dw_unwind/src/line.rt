@@ -17,8 +17,6 @@ pub(crate) enum Statement {
     Memory(u64, Vec<u8>),
 }
 
-const SPACE: u8 = b' ';
-
 // What stands behind a prefix.
 fn behind<'a>(text: &'a [u8], prefix: &[u8]) -> Option<&'a [u8]>
     ensures { MatchOption result ((rest : List ℕ) → text.entry.now ≡ prefix.entry.now ++ rest → ⊥) (λ rest. text.entry.now ≡ prefix.entry.now ++ rest.now) }
@@ -46,7 +44,7 @@ fn word_behind<'a>(line: &'a [u8], prefix: &[u8]) -> Option<(&'a [u8], &'a [u8])
         (λ parts. Lacks 32 parts.0.now × (line.entry.now ≡ prefix.entry.now ++ (parts.0.now ++ 32 ∷ parts.1.now))) }
 {
     let text = behind(line, prefix)?;
-    let len = len_until(SPACE, text);
+    let len = len_until(b' ', text);
     if len == text.len() {
         return None;
     }
@@ -118,8 +116,7 @@ fn hex_pairs(alloc: Global, text: &[u8]) -> Result<Option<Vec<u8>>, AllocError>
 fn counter_line(line: &[u8]) -> Option<u64>
     ensures { MatchOption result ((v : ℕ) → CounterLine v line.now → ⊥) (λ v. CounterLine v line.now) }
 {
-    let digits = behind(line, b"pc 0x")?;
-    hexadecimal(digits)
+    hexadecimal(behind(line, b"pc 0x")?)
 }
 
 fn register_line(line: &[u8]) -> Option<(u16, u64)>

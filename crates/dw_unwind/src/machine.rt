@@ -1,13 +1,12 @@
 //! The frame of the caller by the rules of a row (6.4.1): its columns, one after another.
 
 ghost use Rattle.std.specs.Prelude.{◌≡◌, ◌⊎◌, ℕ, ◌+◌, ◌-◌, ◌^◌, ◌<◌, ◌≤◌, true, Option, IsTrue, OnOk, Err};
-ghost use Rattle.dw_eval.specs.{Context.context, Evaluation.first_stack, Registers.held};
+ghost use Rattle.dw_eval.specs.Context.{context};
 ghost use Rattle.dw_row.specs.{Rows.{rule, is_specified}, declared.rule.{CfaRule.TheVariants.Unset, RegRule.TheVariants.Unspecified}};
 ghost use Rattle.dw_section.specs.Fits.{CfaFits, RowFits, RuleFits};
-ghost use Rattle.dw_unwind.specs.{Columns.{CfaFails, CfaIs, RegisterFails, RegisterIs, SavedFails, ValueFails, ValueIs, defaulted, in_column}};
-ghost use Rattle.dw_unwind.specs.{Columns.{saved_at, value_in}, Unwound.{FrameFails, FrameIs, RegistersAre, RegistersFail, is_device, is_listed, stopped}};
+ghost use Rattle.dw_unwind.specs.{Columns.{defaulted, in_column, value_in}, Unwound.{FrameFails, FrameIs, is_device, stopped}};
 ghost use Rattle.dw_unwind.specs.declared.frame.{UnwindError.{UnwindError as TheError}, UnwindError.TheVariants.OutOfMemory};
-ghost use Rattle.dw_unwind.specs.Inner.Recovery.{Adds, Over, SoFar};
+ghost use Rattle.dw_unwind.specs.Inner.Recovery.{AddsOver, CfaOver, FrameOver, ListedBelow, RegisterOver, RegistersOver, SavedOver, ValueOver, lists};
 
 use crate::frame::{Column, Frame, UnwindError};
 use crate::frame_room::{FrameRegisters, FrameRoom};
@@ -64,7 +63,7 @@ impl<'m, 'a> Machine<'m, 'a> {
     ) -> Result<u64, UnwindError>
         requires room { M.failures memory.old < 2 ^ 64 - 1 }
         ensures same { M.byte memory.new ≡ M.byte memory.old }
-        ensures so { let c = context self.now.env (M.byte memory.old) in Over (λ answer. answer ≡ saved_at c self.now.steps column address) (SavedFails c self.now.steps column address) (M.failures memory.old) result (M.failures memory.new) }
+        ensures so { SavedOver self.now (M.byte memory.old) column address (M.failures memory.old) result (M.failures memory.new) }
     {
         let target = self.env.target;
         let len = usize::from(target.size.byte_count());
@@ -94,7 +93,7 @@ impl<'m, 'a> Machine<'m, 'a> {
         requires target { expression.now.target ≡ self.now.env.target }
         requires room { M.failures memory.old < 2 ^ 64 - 1 }
         ensures same { M.byte memory.new ≡ M.byte memory.old }
-        ensures so { let c = context self.now.env (M.byte memory.old) in Over (ValueIs c self.now.steps column expression.now (first_stack c.target.size start)) (ValueFails c self.now.steps column (first_stack c.target.size start) expression.now) (M.failures memory.old) result (M.failures memory.new) }
+        ensures so { ValueOver self.now (M.byte memory.old) column expression.now start (M.failures memory.old) result (M.failures memory.new) }
     {
         let list = expression.ops(self.alloc)?;
         let answer = evaluate(self.alloc, &list, start, &self.env, memory, self.steps);
@@ -107,19 +106,17 @@ impl<'m, 'a> Machine<'m, 'a> {
         requires fits { CfaFits self.now.env.target rule.now }
         requires room { M.failures memory.old < 2 ^ 64 - 1 }
         ensures same { M.byte memory.new ≡ M.byte memory.old }
-        ensures so { let c = context self.now.env (M.byte memory.old) in Over (CfaIs c self.now.steps rule.now) (CfaFails c self.now.steps rule.now) (M.failures memory.old) result (M.failures memory.new) }
+        ensures so { CfaOver self.now (M.byte memory.old) rule.now (M.failures memory.old) result (M.failures memory.new) }
     {
         match rule {
             CfaRule::Unset => unreachable!(),
-            CfaRule::Register { register, offset } => {
-                match self.env.registers.get(*register) {
-                    Some(value) => Ok(offset_by(value, *offset, self.env.target.size)),
-                    None => Err(UnwindError::NoRegister {
-                        column: Column::Cfa,
-                        register: *register,
-                    }),
-                }
-            }
+            CfaRule::Register { register, offset } => match self.env.registers.get(*register) {
+                Some(value) => Ok(offset_by(value, *offset, self.env.target.size)),
+                None => Err(UnwindError::NoRegister {
+                    column: Column::Cfa,
+                    register: *register,
+                }),
+            },
             CfaRule::Expression(expression) => self.value(expression, None, Column::Cfa, memory),
         }
     }
@@ -145,7 +142,7 @@ impl<'m, 'a> Machine<'m, 'a> {
         requires fits { RuleFits self.now.env.target rule.now }
         requires room { M.failures memory.old < 2 ^ 64 - 1 }
         ensures same { M.byte memory.new ≡ M.byte memory.old }
-        ensures so { let c = context self.now.env (M.byte memory.old) in Over (RegisterIs c self.now.steps self.now.default cfa register rule.now) (RegisterFails c self.now.steps cfa register rule.now) (M.failures memory.old) result (M.failures memory.new) }
+        ensures so { RegisterOver self.now (M.byte memory.old) cfa register rule.now (M.failures memory.old) result (M.failures memory.new) }
     {
         let column = Column::Register(register);
         let size = self.env.target.size;
@@ -178,7 +175,7 @@ impl<'m, 'a> Machine<'m, 'a> {
     // Whether a register that the row does not specify is listed.
     #[inline(always)]
     fn lists(&self, register: u16) -> bool
-        ensures { rule self.now.row.now register ≡ Unspecified → result ≡ is_listed (held self.now.env.registers.now) self.now.row.now self.now.return_register register }
+        ensures { rule self.now.row.now register ≡ Unspecified → result ≡ lists self.now register }
     {
         self.env.registers.get(register).is_some() || register == self.return_register
     }
@@ -194,7 +191,7 @@ impl<'m, 'a> Machine<'m, 'a> {
         requires up { from ≤ to }
         requires most { to ≤ 65536 }
         requires unset { (r : ℕ) → from ≤ r → r < to → rule self.now.row.now r ≡ Unspecified }
-        ensures { OnOk result ((byte : ℕ → Option ℕ) → let c = context self.now.env byte in SoFar c self.now.steps self.now.default self.now.row.now self.now.return_register cfa from room.old → SoFar c self.now.steps self.now.default self.now.row.now self.now.return_register cfa to room.new) }
+        ensures { OnOk result ((byte : ℕ → Option ℕ) → ListedBelow self.now byte cfa from room.old → ListedBelow self.now byte cfa to room.new) }
     {
         'given: for index in from..to {
             let register = index as u16;
@@ -222,9 +219,9 @@ impl<'m, 'a> Machine<'m, 'a> {
         requires specified { IsTrue (is_specified own.now) }
         requires fits { RowFits self.now.env.target self.now.row.now }
         requires room { M.failures memory.old < 2 ^ 64 - 1 }
-        requires so_far { let c = context self.now.env (M.byte memory.old) in SoFar c self.now.steps self.now.default self.now.row.now self.now.return_register cfa from room.old }
+        requires so_far { ListedBelow self.now (M.byte memory.old) cfa from room.old }
         ensures same { M.byte memory.new ≡ M.byte memory.old }
-        ensures so { let c = context self.now.env (M.byte memory.old) in Over (Adds c self.now.steps self.now.default self.now.row.now self.now.return_register cfa register room.new) (RegistersFail c self.now.steps self.now.default self.now.row.now self.now.return_register cfa) (M.failures memory.old) result (M.failures memory.new) }
+        ensures so { AddsOver self.now (M.byte memory.old) cfa register room.new (M.failures memory.old) result (M.failures memory.new) }
     {
         let to = usize::from(register);
         self.add_all_given(from, to, cfa, room)?;
@@ -243,7 +240,7 @@ impl<'m, 'a> Machine<'m, 'a> {
         requires fits { RowFits self.now.env.target self.now.row.now }
         requires room { M.failures memory.old < 2 ^ 64 - 1 }
         ensures same { M.byte memory.new ≡ M.byte memory.old }
-        ensures so { let c = context self.now.env (M.byte memory.old) in Over (RegistersAre c self.now.steps self.now.default self.now.row.now self.now.return_register cfa) (RegistersFail c self.now.steps self.now.default self.now.row.now self.now.return_register cfa) (M.failures memory.old) result (M.failures memory.new) }
+        ensures so { RegistersOver self.now (M.byte memory.old) cfa (M.failures memory.old) result (M.failures memory.new) }
     {
         room.clear();
         let mut from = 0;
@@ -251,11 +248,8 @@ impl<'m, 'a> Machine<'m, 'a> {
             self.add(from, register, &own, cfa, memory, room)?;
             from = usize::from(register) + 1;
         }
-        let end = self
-            .env
-            .registers
-            .end()
-            .max(usize::from(self.return_register) + 1);
+        let returns = usize::from(self.return_register);
+        let end = self.env.registers.end().max(returns + 1);
         self.add_all_given(from, from.max(end), cfa, room)?;
         Ok(room.lent())
     }
@@ -270,7 +264,7 @@ impl<'m, 'a> Machine<'m, 'a> {
         requires fits { RowFits self.now.env.target self.now.row.now }
         requires room { M.failures memory.old < 2 ^ 64 - 1 }
         ensures same { M.byte memory.new ≡ M.byte memory.old }
-        ensures so { let c = context self.now.env (M.byte memory.old) in Over (FrameIs c self.now.steps self.now.default self.now.row.now self.now.return_register) (FrameFails c self.now.steps self.now.default self.now.row.now self.now.return_register) (M.failures memory.old) result (M.failures memory.new) }
+        ensures so { FrameOver self.now (M.byte memory.old) (M.failures memory.old) result (M.failures memory.new) }
     {
         let cfa = self.cfa(&self.row.cfa(), memory)?;
         let registers = self.registers(cfa, memory, room)?;
@@ -304,9 +298,11 @@ pub fn unwind_row<'r, M: Memory>(
     // The count of failures stays or grows.
     ensures counted { M.failures memory.old ≤ M.failures memory.new }
     // Where it stays, the answer is the frame or the first fault, or want of memory.
-    ensures answered { M.failures memory.new ≡ M.failures memory.old → (result ≡ Err OutOfMemory) ⊎ FrameIs (stopped target registers.now (M.byte memory.old)) steps default row.now return_register result }
+    ensures answered { M.failures memory.new ≡ M.failures memory.old → (result ≡ Err OutOfMemory)
+        ⊎ FrameIs (stopped target registers.now (M.byte memory.old)) steps default row.now return_register result }
     // Where it grows, a read of a column that is reached has failed.
-    ensures failed { M.failures memory.old < M.failures memory.new → (e : TheError) × (result ≡ Err e) × (is_device e ≡ true) × FrameFails (stopped target registers.now (M.byte memory.old)) steps default row.now return_register e }
+    ensures failed { M.failures memory.old < M.failures memory.new → (e : TheError) × (result ≡ Err e) × (is_device e ≡ true)
+        × FrameFails (stopped target registers.now (M.byte memory.old)) steps default row.now return_register e }
     // No other failure is named.
     ensures device { (e : TheError) → result ≡ Err e → is_device e ≡ true → M.failures memory.old < M.failures memory.new }
 {

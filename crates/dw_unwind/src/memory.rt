@@ -4,7 +4,8 @@ ghost use Rattle.std.specs.Prelude.{◌≡◌, ℕ, ◌+◌, ◌<◌, ◌≤◌,
 ghost use Rattle.std.specs.{Bool.MatchBool, List.AllByRecursion, List.Sorted.{IsPermutation, IsNonDecreasingBy}};
 ghost use Rattle.dw_num.specs.Fixed.{fixed_number};
 ghost use Rattle.dw_eval.specs.Bytes.{bytes_from};
-ghost use Rattle.dw_unwind.specs.{Ranges.{byte_among, byte_in, end_of}, declared.memory.Range.{Range as TheRange}, Inner.Ranges.{AreApart, IsSoundRange, Meet, Rise}};
+ghost use Rattle.dw_unwind.specs.{Ranges.{byte_among, byte_in, end_of}, declared.memory.Range.{Range as TheRange}};
+ghost use Rattle.dw_unwind.specs.Inner.Ranges.{AreApart, IsSoundRange, Meet, Rise};
 
 use byteorder::{BigEndian, ByteOrder, LittleEndian};
 use dw_eval::{Memory, ReadFault};

@@ -2,7 +2,8 @@
 
 ghost use Rattle.std.specs.{Prelude.{◌≡◌, List, IfOk, codes, false, true}, List.AllZip};
 ghost use Rattle.clap.specs.Words.{Rule};
-ghost use Rattle.dw_words.specs.{CommandLine.{file, flag, operand, operands, option}, Inner.{CommandLine.{IsArg, IsCommand, asked, command, command_named, own_rules, with_subcommands}, Plan.text_of}};
+ghost use Rattle.dw_words.specs.CommandLine.{file, flag, operand, operands, option};
+ghost use Rattle.dw_words.specs.Inner.{CommandLine.{IsArg, IsCommand, asked, command, command_named, own_rules, with_subcommands}, Plan.text_of};
 
 use crate::help;
 use crate::request::Name;

@@ -1,8 +1,8 @@
 //! What the words of a command line ask for.
 
-ghost use Rattle.std.specs.Prelude.{◌≡◌, ◌≤◌, [], IfErr, IfOk, IfSome, MatchResult, None, Some, map, option_and_then, option_map, string_bytes};
+ghost use Rattle.std.specs.Prelude.{◌≡◌, ◌≤◌, [], IfOk, IfSome, None, Some, map, option_and_then, option_map, string_bytes};
 ghost use Rattle.clap.specs.Words.{all_of, first_of, found_of, rows_of};
-ghost use Rattle.dw_words.specs.{Plan.Planned, Inner.Values.either};
+ghost use Rattle.dw_words.specs.{Plan.Planned, Inner.Values.{IsValue, either}};
 ghost use Rattle.dw_num.specs.declared.target.Size.{Size as TheSize};
 ghost use Rattle.dw_words.specs.declared.request.{Name.TheVariants.{At, Check, Eval, Expr, Normal, Same, Unwind}, PlanError.TheVariants.BadValue};
 ghost use Rattle.dw_words.specs.Inner.Plan.{Answers, FromFault, Given, GivenAt, Jobs, Targets, Tasks, addresses_in, asked_by, block_in};
@@ -39,8 +39,7 @@ fn texts_of<'m, 'a>(matches: &'m ArgMatches<'a>, id: &str) -> Option<&'m [&'a st
 
 // What has to be there, or the name of the option or operand whose value is bad.
 fn needed<T>(value: Option<T>, name: &'static str) -> Result<T, PlanError>
-    ensures ok { IfOk result (λ x. value ≡ Some x) }
-    ensures err { IfErr result (λ e. (value ≡ None) × (e ≡ BadValue name.entry)) }
+    ensures { IsValue value (BadValue name.entry) result }
 {
     value.ok_or(PlanError::BadValue(name))
 }
@@ -53,8 +52,8 @@ fn either<T: Copy>(
     first: (&str, T),
     second: (&str, T),
 ) -> Result<T, PlanError>
-    ensures { let said = option_and_then (either first.entry.0.now first.entry.1 second.entry.0.now second.entry.1) (first_of id.now (rows_of (found_of matches.now))) in
-        MatchResult result (λ v. said ≡ Some v) (λ e. (said ≡ None) × (e ≡ BadValue option.entry)) }
+    ensures { let said = first_of id.now (rows_of (found_of matches.now)) in
+        IsValue (option_and_then (either first.entry.0.now first.entry.1 second.entry.0.now second.entry.1) said) (BadValue option.entry) result }
 {
     match text_of(matches, id) {
         Some(text) if text == first.0 => Ok(first.1),

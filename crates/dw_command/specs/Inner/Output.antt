@@ -8,13 +8,17 @@ use Rattle.dw_command.specs.declared.{failure.Failure.Failure, files.LoadError.L
 abbrev pub put_so_far : Option (List ℕ) → ℕ → List ℕ → Option (List ℕ)
 put_so_far held len room = append_known held (take len room)
 
+-- what was put to a listing
+abbrev pub put_in : {W : Type 0} → (W → Option (List ℕ)) → Listing W → Option (List ℕ)
+put_in contents l = put_so_far (contents l.out) l.len l.room
+
 -- how often an output failed, by whether it did; one that failed is written to no more, so its count is at its end
 abbrev pub failures_of : Bool → ℕ
 failures_of failed = if failed then 18446744073709551615 else 0
 
 -- a listing as an output, by what its writer holds
 abbrev pub output_of : {W : Type 0} → (W → Option (List ℕ)) → Listing W → Output
-output_of contents l = record { put = put_so_far (contents l.out) l.len l.room; left = l.len; failures = failures_of l.failed }
+output_of contents l = record { put = put_in contents l; left = l.len; failures = failures_of l.failed }
 
 -- an answer is not printed to this listing: its output failed, or memory ran out
 abbrev pub Breaks : {W : Type 0} → Listing W → Failure → Type 0
@@ -29,12 +33,12 @@ pub record Fills {W : Type 0} (old new : Listing W) (text : List ℕ) : Type 0 w
 -- unless the output failed by now, it had not failed before, and a text is put behind what was put then
 pub record Adds {W : Type 0} (contents : W → Option (List ℕ)) (old new : Listing W) (text : List ℕ) : Type 0 where
   pub works : new.failed ≡ false → old.failed ≡ false
-  pub put : new.failed ≡ false → Appends (put_so_far (contents old.out) old.len old.room) (put_so_far (contents new.out) new.len new.room) text
+  pub put : new.failed ≡ false → Appends (put_in contents old) (put_in contents new) text
 
 -- and what was put stays
 pub record Stays {W : Type 0} (contents : W → Option (List ℕ)) (old new : Listing W) : Type 0 where
   pub works : new.failed ≡ false → old.failed ≡ false
-  pub put : new.failed ≡ false → Keeps (put_so_far (contents old.out) old.len old.room) (put_so_far (contents new.out) new.len new.room)
+  pub put : new.failed ≡ false → Keeps (put_in contents old) (put_in contents new)
 
 -- what was put is written out, and the output works, or an answer is not printed
 abbrev pub Finishes : {A W : Type 0} → (W → Option (List ℕ)) → Listing W → Listing W → Result A Failure → Type 0

@@ -1,4 +1,5 @@
-use Rattle.dw_command.proofs.{Words.{◌∙◌, length, refl, sym}, AddressLines.{none_left, read_all, read_bad, read_more, read_none, some_left}}
+use Rattle.dw_command.proofs.{Words.{◌∙◌, ◌+◌, ℕ, ap, drop, length, refl, sym, take_rest}, AddressLines.{none_left, read_all, read_bad, read_more, read_none, some_left}}
+use Rattle.std.proofs.lemmas.List.{drop_min}
 use Rattle.dw_command.proofs.address_lines.add_lines.Goals as goal
 
 pub loop-rest-init : goal.loop-rest-init
@@ -16,8 +17,8 @@ loop-rest-preserved c =
     let rest = c.loop-rest.rest.now in
     let n = c.line_len-len.result in
     let some = some_left (length rest) c.is_empty.result c.is_empty.ensures c.loop-rest-test.true in
-    read_more c.args.size c.args.text.now rest c.behind_line-rest.result.now c.loop-rest.line n c.in-Some.address c.args.addresses.now.items c.loop-rest.addresses.items c.push.new.self.items c.loop-rest.invariant
-    c.line_len-len.ensures.value c.line_len-len.ensures.within some (sym c.in-Some.is ∙ c.address.ensures) c.behind_line-rest.ensures c.in_ok-push.ensures.items
+    read_more c.args.size c.args.text.now rest _ c.loop-rest.line n c.in-Some.address c.args.addresses.now.items c.loop-rest.addresses.items c.push.new.self.items c.loop-rest.invariant
+    c.line_len-len.ensures.value c.line_len-len.ensures.within some (sym c.in-Some.is ∙ c.address.ensures) (take_rest rest c.min.result ∙ ap (λ (k : ℕ). drop k rest) c.min.ensures ∙ drop_min (n + 1) rest) c.in_ok-push.ensures.items
 
 pub returns : goal.returns
 returns c =

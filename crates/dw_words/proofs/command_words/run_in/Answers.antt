@@ -6,10 +6,10 @@ returns-in_err-task c =
     let values = rows_of (found_of c.args.matches.now) in
     let p = err_from_is_err_and c.from_residual-in_err-task.result c.from_residual-in_err-task.ensures.1 in
     let target = c.in_ok-target.ensures in
-    rw (p.1, p.2) (run_fails c.args.text.now values c.in_ok-name.name c.in_ok-target.target c.in_err-task.field-0.0 (sym c.name_of.ensures ∙ c.in_ok-name.ensures.ok) target.0 target.1 c.in_err-task.ensures)
+    rw (p.1, p.2) (run_fails c.args.text.now values c.in_ok-name.name c.in_ok-target.target c.in_err-task.field-0.0 (sym c.name_of.ensures ∙ c.in_ok-name.ensures) target.0 target.1 c.in_err-task.ensures)
 
 pub returns : goal.returns
 returns c =
-    let named : c.args.text.now ≡ _ = named c.args.text.now c.in_ok-name.name (sym c.name_of.ensures ∙ c.in_ok-name.ensures.ok) in
+    let named : c.args.text.now ≡ _ = named c.args.text.now c.in_ok-name.name (sym c.name_of.ensures ∙ c.in_ok-name.ensures) in
     let target = c.in_ok-target.ensures in
     (target.1, target.2, subst (λ (text : Text). IsTask (rows_of (found_of c.args.matches.now)) text c.in_ok-target.target.size c.in_ok-task.task) (sym named) c.in_ok-task.ensures)

@@ -1,4 +1,4 @@
-use Rattle.dw_unwind.proofs.Words.{ℕ, Ok, Err, sym, subst, err_from_is_err_and, RegRule, context, RuleFits, rule_fits, RegisterIs, RegisterFails, RegistersFail, Adds, SoFar}
+use Rattle.dw_unwind.proofs.Words.{ℕ, Ok, Err, sym, subst, err_from_is_err_and, RegRule, context, RuleFits, rule_fits, RegisterIs, RegisterFails, RegistersFail, Adds, ListedBelow}
 use Rattle.dw_unwind.proofs.{ColumnLaws.over_error, FrameLaws.{specified_listed, so_added, so_reached}}
 use Rattle.dw_unwind.proofs.machine.Machine.add.Goals as goal
 
@@ -14,7 +14,7 @@ returns-in_err-value-clause-so g c =
     let r = c.args.register in
     let world = context m.env (g.M.Memory.byte c.args.memory.now) in
     let listed = specified_listed world m.steps m.default row m.return_register c.args.cfa r c.args.own.now c.requires.own c.requires.specified in
-    let so_far = subst (λ (n : ℕ). SoFar world m.steps m.default row m.return_register c.args.cfa n c.add_all_given.new.room) c.from-to.ensures
+    let so_far = subst (λ (n : ℕ). ListedBelow m (g.M.Memory.byte c.args.memory.now) c.args.cfa n c.add_all_given.new.room) c.from-to.ensures
     (c.in_ok-add_all_given.ensures (g.M.Memory.byte c.args.memory.now) c.requires.so_far) in
     let reached = so_reached world m.steps m.default row m.return_register c.args.cfa r c.add_all_given.new.room so_far listed in
     let p = err_from_is_err_and c.from_residual-in_err-value.result c.from_residual-in_err-value.ensures.1 in
@@ -31,7 +31,7 @@ returns-clause-so g c =
     let r = c.args.register in
     let world = context m.env (g.M.Memory.byte c.args.memory.now) in
     let listed = specified_listed world m.steps m.default row m.return_register c.args.cfa r c.args.own.now c.requires.own c.requires.specified in
-    let so_far = subst (λ (n : ℕ). SoFar world m.steps m.default row m.return_register c.args.cfa n c.add_all_given.new.room) c.from-to.ensures
+    let so_far = subst (λ (n : ℕ). ListedBelow m (g.M.Memory.byte c.args.memory.now) c.args.cfa n c.add_all_given.new.room) c.from-to.ensures
     (c.in_ok-add_all_given.ensures (g.M.Memory.byte c.args.memory.now) c.requires.so_far) in
     let told = c.in_ok-value.ensures.so in
     let value = subst (λ (x : RegRule). RegisterIs world m.steps m.default c.args.cfa r x (Ok c.in_ok-value.value)) c.requires.own told.0 in

@@ -1,4 +1,4 @@
-use Rattle.dw_unwind.proofs.{Words.{◌≡◌, ℕ, suc, ◌+◌, Ok, arith, sym, ap, subst, ◌∙◌, RegRule, context, RegisterIs, SoFar}, FrameLaws.{so_added, so_passed}}
+use Rattle.dw_unwind.proofs.{Words.{◌≡◌, ℕ, suc, ◌+◌, Ok, arith, sym, ap, subst, ◌∙◌, RegRule, context, RegisterIs, ListedBelow}, FrameLaws.{so_added, so_passed}}
 use Rattle.dw_unwind.proofs.machine.Machine.add_all_given.Goals as goal
 
 pub given-preserved : goal.given-preserved
@@ -31,4 +31,4 @@ pub returns : goal.returns
 returns c = λ byte so.
     let m = c.args.self.now in
     let last : c.given.index ≡ c.args.to = omega (arith, c.given-test.false) in
-    subst (λ (n : ℕ). SoFar (context m.env byte) m.steps m.default m.row.now m.return_register c.args.cfa n c.given.room) last (c.given.invariant.so_far byte so)
+    subst (λ (n : ℕ). ListedBelow m byte c.args.cfa n c.given.room) last (c.given.invariant.so_far byte so)

@@ -1,4 +1,4 @@
-use Rattle.dw_unwind.proofs.{Words.{ℕ, Option, Err, subst, arith, err_from_is_err_and, context, Over, Adds, IsLeft, RegistersAre, RegistersFail}, ColumnLaws.over_error, FrameLaws.{left_before, left_none, not_listed, so_all}}
+use Rattle.dw_unwind.proofs.{Words.{ℕ, Option, Err, subst, arith, err_from_is_err_and, context, Over, Adds, AddsOver, IsLeft, RegistersAre, RegistersFail}, ColumnLaws.over_error, FrameLaws.{left_before, left_none, not_listed, so_all}}
 use Rattle.dw_unwind.proofs.machine.Machine.registers.Goals as goal
 
 pub returns-in_err-add-clause-so : goal.returns-in_err-add-clause-so
@@ -11,7 +11,7 @@ returns-in_err-add-clause-so g c =
     let adds = Adds world m.steps m.default row m.return_register c.args.cfa c.in-Some.register c.add.new.room in
     let fails = RegistersFail world m.steps m.default row m.return_register c.args.cfa in
     let p = err_from_is_err_and c.from_residual.result c.from_residual.ensures.1 in
-    let moved = subst (λ (b : ℕ → Option ℕ). Over (Adds (context m.env b) m.steps m.default row m.return_register c.args.cfa c.in-Some.register c.add.new.room) (RegistersFail (context m.env b) m.steps m.default row m.return_register c.args.cfa) (g.M.Memory.failures c.registers.memory) (Err e) after)
+    let moved = subst (λ (b : ℕ → Option ℕ). AddsOver m b c.args.cfa c.in-Some.register c.add.new.room (g.M.Memory.failures c.registers.memory) (Err e) after)
     c.registers.invariant.same c.in_err-add.ensures.so in
     let counted = subst (λ (n : ℕ). Over adds fails n (Err e) after) c.registers.invariant.count moved in
     rw (p.1, p.2) (over_error adds (RegistersAre world m.steps m.default row m.return_register c.args.cfa) fails fails (λ x h. h) (λ x h. h) (g.M.Memory.failures c.args.memory.now) e after counted)
@@ -31,5 +31,5 @@ returns-clause-so g c =
     let none = left_none row from (subst (IsLeft row from) c.in-None.ensures.steps.0 c.registers.invariant.left) in
     let so = c.in_ok-add_all_given.ensures (g.M.Memory.byte c.args.memory.now) c.registers.invariant.so_far in
     let all = so_all world m.steps m.default row m.return_register c.args.cfa end c.add_all_given.new.room so
-    (λ r le. not_listed world.register row m.return_register r (c.end.ensures.beyond r (omega (arith, le, c.max.ensures, c.max-end.ensures))) (none r (omega (arith, le, c.max.ensures))) (omega (arith, le, c.max.ensures, c.max-end.ensures, c.from.ensures))) in
+    (λ r le. not_listed world.register row m.return_register r (c.end.ensures.beyond r (omega (arith, le, c.max.ensures, c.max-end.ensures))) (none r (omega (arith, le, c.max.ensures))) (omega (arith, le, c.max.ensures, c.max-end.ensures, c.from-returns.ensures))) in
     (rw c.lent.ensures all, c.registers.invariant.count)

@@ -1,4 +1,4 @@
-use Rattle.dw_unwind.proofs.Words.{◌≡◌, ◌≤◌, context, SoFar, IsLeft}
+use Rattle.dw_unwind.proofs.Words.{◌≡◌, ◌≤◌, ListedBelow, IsLeft}
 use Rattle.dw_unwind.proofs.machine.Machine.registers.Given as goal
 
 abbrev pub invariant-registers : goal.invariant-registers
@@ -7,5 +7,5 @@ invariant-registers g l = record {
   count : g.M.Memory.failures l.memory ≡ g.M.Memory.failures l.initial.memory;
   most : l.from ≤ 65536;
   left : IsLeft l.self.row.now l.from l.register-iterator;
-  so_far : SoFar (context l.self.env (g.M.Memory.byte l.initial.memory)) l.self.steps l.self.default l.self.row.now l.self.return_register l.cfa l.from l.room;
+  so_far : ListedBelow l.self (g.M.Memory.byte l.initial.memory) l.cfa l.from l.room;
 }

@@ -1,4 +1,4 @@
-use Rattle.dw_unwind.proofs.{Words.{subst, Expression, context, first_stack, ValueIs, ValueFails, Over}, ColumnLaws.{Tells, value_over}}
+use Rattle.dw_unwind.proofs.{Words.{subst, Expression, context, first_stack, ValueOver}, ColumnLaws.{Tells, value_over}}
 use Rattle.dw_unwind.proofs.machine.Machine.value.Goals as goal
 
 pub returns-clause-so : goal.returns-clause-so
@@ -10,5 +10,5 @@ returns-clause-so g c =
     let after = g.M.Memory.failures c.evaluate-answer.new.memory in
     let told = c.evaluate-answer.ensures in
     let tells : Tells world m.steps c.in_ok-list.list first before after c.evaluate-answer.result = record { counted = told.counted; answered = told.answered; failed = told.failed; device = told.device } in
-    subst (λ (x : Expression). Over (ValueIs world m.steps c.args.column x first) (ValueFails world m.steps c.args.column first x) before c.in_column.result after) c.in_ok-list.ensures
+    subst (λ (x : Expression). ValueOver m (g.M.Memory.byte c.args.memory.now) c.args.column x c.args.start before c.in_column.result after) c.in_ok-list.ensures
     (rw c.in_column.ensures (value_over world m.steps c.args.column c.in_ok-list.list first before after c.evaluate-answer.result tells))
