@@ -215,7 +215,8 @@ struct Cost {
 
 // Apart from the file's bytes: what is owned beside the ways out of this is proved for long.
 fn costs_of<'a>(alloc: Global, target: Target, bytes: &[u8]) -> Result<Cost, Failure<'a>>
-    ensures { MatchResult result (λ c. Costs target bytes.now (Ok (record { normal = c.normal; starts = c.starts; changes = c.changes }))) (λ e. Costs target bytes.now (Err e)) }
+    ensures { MatchResult result
+        (λ c. Costs target bytes.now (Ok (record { normal = c.normal; starts = c.starts; changes = c.changes }))) (λ e. Costs target bytes.now (Err e)) }
 {
     let normal = normal_length(alloc, bytes, target, LIMIT)?;
     let table = check(alloc, bytes, target)?;

@@ -27,7 +27,8 @@ pub(crate) struct FdeFields {
 
 #[inline(always)]
 fn want_byte(cursor: &mut Cursor<'_>, wanted: u8, code: Code) -> Result<(), Refusal>
-    ensures { (rest : Fields TheCieFields) → Passes result (fields_at (field (fixed 1) (λ n. unless (n == wanted) code) (λ n. rest)) cursor.old) (λ v. fields_at rest cursor.new) }
+    ensures { (rest : Fields TheCieFields) →
+        Passes result (fields_at (field (fixed 1) (λ n. unless (n == wanted) code) (λ n. rest)) cursor.old) (λ v. fields_at rest cursor.new) }
 {
     let at = cursor.at();
     let byte = cursor.byte()?;
@@ -40,7 +41,9 @@ fn want_byte(cursor: &mut Cursor<'_>, wanted: u8, code: Code) -> Result<(), Refu
 
 #[inline(always)]
 fn read_version(cursor: &mut Cursor<'_>) -> Result<u8, Refusal>
-    ensures { (rest : ℕ → Fields TheCieFields) → Passes result (fields_at (field (fixed 1) (λ v. unless (v == 1 || (v == 3 || v == 4)) BadVersion) rest) cursor.old) (λ v. fields_at (rest v) cursor.new) }
+    ensures { (rest : ℕ → Fields TheCieFields) →
+        Passes result (fields_at (field (fixed 1) (λ v. unless (v == 1 || (v == 3 || v == 4)) BadVersion) rest) cursor.old)
+        (λ v. fields_at (rest v) cursor.new) }
 {
     let at = cursor.at();
     let version = cursor.byte()?;

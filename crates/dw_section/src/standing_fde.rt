@@ -46,7 +46,8 @@ pub(crate) fn cie_at(bytes: &[u8], at: u64, target: Target) -> Result<Option<Pla
     ensures within { IfErr result (IsWithin bytes.now) }
     ensures fault { IfErr result (ItemFault target bytes.now at) }
     ensures none { IfOk result (λ o. (r : TheRefusal) → ItemFault target bytes.now at r → ⊥) }
-    ensures only { (p : Piece) → StandsIn target.order bytes.now p → p.at ≡ at → p.kind ≡ kind.Cie → MatchResult result (λ o. MatchOption o ⊥ (λ q. piece_in q ≡ p)) (λ _. ⊥) }
+    ensures only { (p : Piece) → StandsIn target.order bytes.now p → p.at ≡ at → p.kind ≡ kind.Cie →
+        MatchResult result (λ o. MatchOption o ⊥ (λ q. piece_in q ≡ p)) (λ _. ⊥) }
 {
     let Some(piece) = piece_at(bytes, at, target)? else {
         return Ok(None);
@@ -100,7 +101,9 @@ fn standing<'a>(bytes: &'a [u8], at: u64, target: Target) -> Result<Option<Found
 // How many entries of an index begin at or below an address, where begins ascend.
 fn begun(index: &[Ranged], address: u64) -> usize
     ensures bound { result ≤ length index.now }
-    ensures divides { Ascends (map range_in index.now) → ((k : ℕ) (d : TheRanged) → k < result → (slice_index_or index.now k d).begin ≤ address) × ((k : ℕ) (d : TheRanged) → result ≤ k → k < length index.now → address < (slice_index_or index.now k d).begin) }
+    ensures divides { Ascends (map range_in index.now) →
+        ((k : ℕ) (d : TheRanged) → k < result → (slice_index_or index.now k d).begin ≤ address)
+        × ((k : ℕ) (d : TheRanged) → result ≤ k → k < length index.now → address < (slice_index_or index.now k d).begin) }
 {
     index.partition_point(|fde| fde.begin <= address)
 }
@@ -177,7 +180,10 @@ fn row_of<'a>(
     ensures bad { IfErr result (λ e. e ≡ LookUpError.BadIndex → NoneStands target bytes.now at address) }
     ensures within { IfErr result (RefusesAs (IsWithin bytes.now)) }
     ensures refused { IfErr result (RefusesAs (StandingFault target bytes.now at address)) }
-    ensures own { (hs : List Head) (a : Range) (register : ℕ) → RulesHold target bytes.now hs → Returns hs a register → a.at ≡ at → a.begin ≤ address → address < a.begin + a.range → MatchResult result (λ fde. (fde ≡ fde_in (record { begin = a.begin; range = a.range; at = a.at; return_register = register })) × RulesAt target bytes.now address room.new) (λ e. e ≡ LookUpError.OutOfMemory) }
+    ensures own { (hs : List Head) (a : Range) (register : ℕ) → RulesHold target bytes.now hs →
+        Returns hs a register → a.at ≡ at → a.begin ≤ address → address < a.begin + a.range →
+        MatchResult result (λ fde. (fde ≡ fde_in (record { begin = a.begin; range = a.range; at = a.at; return_register = register }))
+        × RulesAt target bytes.now address room.new) (λ e. e ≡ LookUpError.OutOfMemory) }
 {
     are_bytes(bytes);
     let Some(fde) = standing(bytes, at, target)? else {
@@ -219,9 +225,13 @@ pub fn look_up<'a>(
     room: &mut RowRoom<'a>,
 ) -> Result<Option<Fde>, LookUpError>
     // By the index of an accepted section it is what the section says.
-    ensures own { IsTable target bytes.now index.now → MatchResult result (λ o. MatchOption o ((fs : List TheFde) → AreFdes target bytes.now fs → NoneCovers address fs) (λ fde. RulesAt target bytes.now address room.new × ((fs : List TheFde) → AreFdes target bytes.now fs → IsAmong fde fs))) (λ e. e ≡ LookUpError.OutOfMemory) }
+    ensures own { IsTable target bytes.now index.now → MatchResult result (λ o.
+        MatchOption o ((fs : List TheFde) → AreFdes target bytes.now fs → NoneCovers address fs)
+        (λ fde. RulesAt target bytes.now address room.new × ((fs : List TheFde) → AreFdes target bytes.now fs → IsAmong fde fs)))
+        (λ e. e ≡ LookUpError.OutOfMemory) }
     // By any other it is what the FDE says that stands where an entry that covers the address leads, or none where no entry does.
-    ensures found { IfOk result (λ o. MatchOption o (Uncovered index.now address) (λ fde. (at : ℕ) × LeadsTo index.now address at × RulesOf target bytes.now at address (record { fde = fde; row = room.new }))) }
+    ensures found { IfOk result (λ o. MatchOption o (Uncovered index.now address)
+        (λ fde. (at : ℕ) × LeadsTo index.now address at × RulesOf target bytes.now at address (record { fde = fde; row = room.new }))) }
     // The FDE covers fewer than 2^64 addresses.
     ensures range { IfOk result (λ o. IfSome o (λ fde. (range : ℕ) × (range < 2 ^ 64) × (fde.end ≡ fde.begin + range))) }
     // Its rules are in range, by whatever index.
