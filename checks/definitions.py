@@ -21,6 +21,8 @@ ITEM = re.compile(
 )
 # Behind its clauses a function has a body, and a method of a trait, which is never `pub`, may have none.
 FN = re.compile(r"^( *)(pub )?(?:const |(extern \"C\") )?fn (\w+)(.*?)(?:^\1[{}]|;$)", re.M | re.S)
+# A clause that is long goes on in the next lines.
+CLAUSE = re.compile(r"^ *(?:requires|ensures)\b.*(?:\n(?! *(?:requires\b|ensures\b|//)).+)*", re.M)
 OWNER = re.compile(r"^(?:impl(?:<[^>]*>)? (?:[\w:<>', ]+ for )?(\w+)|pub trait (\w+))", re.M)
 MODEL = re.compile(r"^impl(?:<[^>]*>)? (?:Model|Iterator) for (\w+).*?^\}", re.M | re.S)
 # Of a model only the type of its value is read: how private fields keep that value changes nothing for a caller.
@@ -139,7 +141,7 @@ def functions(file, text, exported):
         who = owner and (owner[1] or owner[2])
         is_exported = who in exported and (fn[2] or owner[2]) if who else fn[3] or exported.get(fn[4]) == file
         if is_exported:
-            yield who, fn[4], fn[5], re.findall(r"^ *(?:requires|ensures)\b.*$", fn[5], re.M)
+            yield who, fn[4], fn[5], CLAUSE.findall(fn[5])
     for block in MODEL.finditer(text):
         if block[1] in exported and "next_gives" in block[0]:
             yield block[1], "next", block[0], GHOST.findall(block[0])
