@@ -1,6 +1,6 @@
 //! Running the programs of a section (6.4.2, 6.4.3), and its nonempty FDEs in the order of their begins.
 
-ghost use Rattle.std.specs.{List.AllByRecursion, Prelude.{◌≡◌, ◌<◌, true, List, map, IfErr, OnOk, MatchOption, ◌≤◌, ℕ, None, [], ◌∷◌, ◌++◌, length}};
+ghost use Rattle.std.specs.{List.AllByRecursion, Prelude.{◌≡◌, ◌<◌, true, List, map, IfErr, IfOk, OnOk, MatchOption, ◌≤◌, ℕ, None, [], ◌∷◌, ◌++◌, length}};
 ghost use Rattle.dw_num.specs.{Refusals.Refuses, Target.address_limit, declared.{refusal.Code.TheVariants.Overlap, target.Target.{Target as TheTarget}}};
 ghost use Rattle.dw_section.specs.{Accepted.{CiesRun, RulesFault}, Cut.Piece, Headers.Head, Overlap.{nonempty, AreApart, FirstOverlap}};
 ghost use Rattle.dw_section.specs.{Pieces.Pieces, Programs.{CieRuns, CieBroken}, Ranges.{AreIndexed, range_in}, Stage.FirstStuck};
@@ -8,7 +8,7 @@ ghost use Rattle.dw_section.specs.Inner.{Index.{JudgesOne, BreaksOne, AreJudged,
 ghost use Rattle.dw_section.specs.Inner.{Initials.{place_of, AreAmong, AreOf, AreCies}, PieceHeader.{entry_in, initial_in}, Places.{Rises, IsAt}, Walks.AreLed};
 
 use crate::entry::next_piece;
-use crate::header::{FdeEntry, Initial, fde_of, or_fields_fault};
+use crate::header::{Cies, FdeEntry, Initial, fde_of, or_fields_fault};
 use crate::walks::Walks;
 use dw_cfa::become_initial;
 use dw_num::{Cursor, ReadError, Target, are_bytes};
@@ -102,8 +102,8 @@ fn judge<'a>(
     Ok(keep_range(&mut judged.list, fde, cie)?)
 }
 
-/// Reads the fields of the FDEs of a section that has a cut, and runs their programs behind those of its CIEs, which run.
-pub(crate) fn run_fdes<'a>(
+// Judges the FDEs of a section that has a cut, behind the CIEs.
+fn run_on<'a>(
     walks: &mut Walks<'a>,
     judged: &mut Judged,
     bytes: &'a [u8],
@@ -130,6 +130,29 @@ pub(crate) fn run_fdes<'a>(
         }
     }
     Ok(())
+}
+
+/// Reads the fields of the FDEs of a section that has a cut, and runs their programs behind those of its CIEs, which run. Apart from
+/// `checked`: a function that owns walks beside a table is proved for minutes.
+pub(crate) fn run_fdes<'a>(
+    alloc: Global,
+    bytes: &'a [u8],
+    target: Target,
+    cies: &Cies<'a>,
+) -> Result<Judged, ReadError>
+    requires ascending { Rises 0 cies.now.places.items }
+    requires cies { (ps : List Piece) × Pieces target bytes.now ps × AreCies target ps cies.now.places.items cies.now.initials.items }
+    requires run { (hs : List Head) → AreOf hs cies.now.initials.items → AllByRecursion (CieRuns target) hs }
+    ensures found { IfOk result (λ j. (hs : List Head) × CiesRun target bytes.now hs × AreJudged target hs hs j.lacking j.list.items) }
+    ensures first { IfErr result (Refuses (RulesFault target bytes.now)) }
+{
+    let mut judged = Judged {
+        list: Vec::with_capacity(alloc, cies.counts.fdes)?,
+        lacking: None,
+    };
+    let (walks, places, initials) = (&mut Walks::new(alloc, target), &cies.places, &cies.initials);
+    run_on(walks, &mut judged, bytes, target, places, initials)?;
+    Ok(judged)
 }
 
 // Whether each begins behind the begin of the one before it.

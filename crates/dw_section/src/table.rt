@@ -7,9 +7,8 @@ ghost use Rattle.dw_section.specs.{Accepted.{CheckFault, Accepted}, Counts.AreCo
 ghost use Rattle.dw_section.specs.declared.lookup.Fde.{Fde as TheFde};
 
 use crate::entry::{EntryCounts, refusal};
-use crate::fde_range::{Judged, Ranged, first_overlap, put_in_order, run_cies, run_fdes};
+use crate::fde_range::{Ranged, first_overlap, put_in_order, run_cies, run_fdes};
 use crate::header::{Initial, cies_of, or_fields_fault};
-use crate::walks::Walks;
 use dw_num::{Code, Cursor, ReadError, Target, are_bytes};
 use std::alloc::Global;
 use std::marker::Model;
@@ -84,12 +83,7 @@ fn checked<'a>(alloc: Global, bytes: &'a [u8], target: Target) -> Result<Table<'
         let mut cursor = Cursor::new(bytes, 0, target);
         return Err(or_fields_fault(&mut cursor, target, &cies.places, broken));
     }
-    let mut judged = Judged {
-        list: Vec::with_capacity(alloc, cies.counts.fdes)?,
-        lacking: None,
-    };
-    let (walks, places, initials) = (&mut Walks::new(alloc, target), &cies.places, &cies.initials);
-    run_fdes(walks, &mut judged, bytes, target, places, initials)?;
+    let judged = run_fdes(alloc, bytes, target, &cies)?;
     if let Some(at) = judged.lacking {
         return Err(ReadError::Refused(refusal(Code::NoCfaRule, at)));
     }

@@ -1,5 +1,5 @@
 use Rattle.dw_section.proofs.{Words.{List, length, AllByRecursion, AreJudged, FdeHolds, Head, Headers, HeadsLeft, AreAmong, AreLed, Pieces, PiecesLeft}, Between.Walk}
-use Rattle.dw_section.proofs.fde_range.run_fdes.Given as goal
+use Rattle.dw_section.proofs.fde_range.run_on.Given as goal
 
 -- the fields so far hold; and of whatever headers the section has, these were judged
 abbrev pub invariant-pieces : goal.invariant-pieces

@@ -1,8 +1,8 @@
 use Rattle.dw_section.proofs.Words.{◌≡◌, List, ◌∷◌, Some, None, map, refl, subst, inl, inr, IsAmong, entry_in, AllByRecursion, piece_in, initial_in, Has, Head, HeadsLeft, FdeHolds, FdeStuck, FdeRuns, FdeBroken, Pieces, PiecesLeft}
 use Rattle.dw_section.proofs.{Words.refuses_by, Between.{between_next, between_stuck, between_among, between_later, between_rest, Walk, walk_start, walk_next, walk_end, walk_stuck}, FdeWalk.{says_holds, says_tells, says_fits, places_at}}
 use Rattle.dw_section.proofs.{FdeWalk.{headers_exist, fields_fault}, KeptCies.{all_among, of_headers, some_headers, places_are}, Left.{left_all, heads_all, heads_next, heads_none, stays_then}, Stages.{all_push, handed_on}}
-use Rattle.dw_section.proofs.{Tables.judged_cie, fde_range.run_fdes.Goals.{In-Some, In-Some-2, In_ok-fde}}
-use Rattle.dw_section.proofs.fde_range.run_fdes.Goals as goal
+use Rattle.dw_section.proofs.{Tables.judged_cie, fde_range.run_on.Goals.{In-Some, In-Some-2, In_ok-fde}}
+use Rattle.dw_section.proofs.fde_range.run_on.Goals as goal
 
 -- the header of the piece that comes next
 next : (c : In-Some) (hs : List Head) → HeadsLeft c.args.places.now c.pieces.cursor hs
