@@ -128,7 +128,7 @@ pub(crate) fn signed(cursor: &mut Cursor<'_>, factors: Factors, at: u64) -> Resu
 }
 
 // The expression of a block that stands at this place, with its faults at places of the section.
-#[tactic(auto, using(dw_op::proofs::Lent::FaultPlaces::fault_within, crate::proofs::Expressions::expression_found, crate::proofs::Expressions::expression_refused))]
+#[tactic(auto, using(crate::proofs::Expressions::expressions))]
 fn accept_at<'a>(block: &'a [u8], at: u64, target: Target) -> Result<ExprRef<'a>, Refusal>
     requires { at + length block.now < 2 ^ 63 }
     ensures { result ≡ expression_in at target block.now }

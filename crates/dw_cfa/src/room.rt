@@ -17,7 +17,7 @@ use std::alloc::Global;
 use std::marker::Model;
 
 // Runs a CIE's program, and an FDE's up to the end of the last row that starts at or below an address.
-#[tactic(auto, using(crate::proofs::Words::err_from_is_err_and, crate::proofs::Lent::Given::refusal_weaker, crate::proofs::RunSteps::run_stuck, crate::proofs::RunSteps::run_ran))]
+#[tactic(auto, using(crate::proofs::LookUps::ends))]
 #[inline(always)]
 fn run_both<'a>(
     leading: &Leading<'a>,
@@ -35,7 +35,7 @@ fn run_both<'a>(
 }
 
 // The same, by what a look-up keeps.
-#[tactic(auto, using(crate::proofs::Words::err_from_is_err_and, crate::proofs::Lent::Given::refusal_weaker, crate::proofs::LookUps::look_up_ran, crate::proofs::RunSteps::run_stuck))]
+#[tactic(auto, using(crate::proofs::LookUps::ends))]
 #[inline(always)]
 fn run_look_up<'a>(
     leading: &Leading<'a>,

@@ -103,3 +103,5 @@ fault_place f i h (Some r) e = let d = behind_all f i (Some r) h e in stuck_with
 pub made_place : (f : Factors) (t : Target) (at : ℕ) (bytes : List ℕ) (made : Input) → made ≡ input at bytes t → AreBytes bytes → IfSome (left_of false f made).fault (λ r. (at ≤ r.at) × (r.at ≤ at + length bytes))
 unfolding left_of listing
 made_place f t at bytes made is h = rw is (fault_place f (input at bytes t) h (placed f (input at bytes t)).fault refl)
+
+pub ruleset yields = (yields_end, yields_instr, yields_fault)
