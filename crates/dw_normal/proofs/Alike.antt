@@ -6,9 +6,6 @@ use Rattle.std.specs.Cmp.Lexicographic.{pointwise}
 use Rattle.dw_num.specs.declared.target.Form.TheVariants.{Dwarf32}
 use Rattle.dw_section.specs.Cut.{entry, item_bytes}
 
-pub untrue : {P : Type 0} (b : Bool) → b ≡ false → IsTrue b → P
-untrue b e is = absurd cc
-
 module _ {t u : Target} (same : t ≡ u) (ms ns : List Member) (k : ℕ) (d : Member) where
   -- an FDE of one table, and that of another at its place
   abbrev held : Target → List Member → List ℕ

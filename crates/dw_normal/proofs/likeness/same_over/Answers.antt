@@ -1,9 +1,9 @@
 use Rattle.dw_normal.proofs.Words.{◌∙◌, refl, arith, take_all}
-use Rattle.dw_normal.proofs.{Alike.{fdes_more_like, untrue}, Grouped.no_member, Placed.as_many}
+use Rattle.dw_normal.proofs.{Alike.fdes_more_like, Joined.untrue, Grouped.no_member, Placed.as_many}
 use Rattle.dw_normal.proofs.likeness.same_over.Goals as goal
 
 pub fdes-init : goal.fdes-init
-fdes-init c = record { same = λ ms ns are others. refl; writing = (c.requires.writing, c.requires.other_writing); ready = (refl, refl) }
+fdes-init c = record { same = λ ms ns are others. refl; walks = c.requires.walks; ready = (refl, refl); kept = c.requires.kept }
 
 pub same_fdes-requires : goal.same_fdes-requires
 same_fdes-requires c =
@@ -11,8 +11,8 @@ same_fdes-requires c =
       target = rw (inv.ready.0, inv.ready.1) c.requires.target;
       place = rw inv.ready.0 (λ fs are. omega (arith, c.requires.count fs are, c.fdes-test.true));
       other_place = rw inv.ready.1 (λ fs are. omega (arith, c.requires.other_count fs are, c.fdes-test.true));
-      writing = inv.writing.0;
-      other_writing = inv.writing.1;
+      walks = inv.walks;
+      kept = inv.kept;
     }
 
 pub returns-then-not-branch : goal.returns-then-not-branch
@@ -30,8 +30,9 @@ fdes-preserved c =
           let same = rw (inv.ready.0, inv.ready.1) at c.in_ok-same_fdes.ensures.same in
           let here = same ms ns are others no_member in
           fdes_more_like c.requires.target ms ns c.fdes.place no_member (omega (arith, count, c.fdes-test.true)) (omega (arith, other, c.fdes-test.true)) (inv.same ms ns are others) (here.1 c.if-not-branch.false);
-      writing = c.in_ok-same_fdes.ensures.writing;
+      walks = c.in_ok-same_fdes.ensures.walks;
       ready = (c.in_ok-same_fdes.ensures.ready.0 ∙ inv.ready.0, c.in_ok-same_fdes.ensures.ready.1 ∙ inv.ready.1);
+      kept = c.in_ok-same_fdes.ensures.kept;
     }
 
 pub returns : goal.returns
