@@ -106,14 +106,8 @@ cies_end counts t ms rows are answer e old new is put =
     ends_there counts [] (cies_bytes t rows) (fdes_bytes t ms ms) (canon t ms) (sym (canon_both t ms rows are)) answer e old old new is (none_sent counts old) put
 
 -- the CIEs of a table can be written
-pub record CiesReady (u : Target) (rows : List (ℕ × Rules)) : Type 0 where
-  pub rise : RowsRise 0 rows
-  pub fits : AllByRecursion (λ (row : ℕ × Rules). AllByRecursion (InstrFits u) (cie_instrs row.1)) rows
-
-pub cies_ready : {t u : Target} {s : List ℕ} {rows : List (ℕ × Rules)} → AreBytes s → Accepted t s → ((ms : List Member) → AreMembers t s ms → rows ≡ initial_rows ms) → u ≡ t → CiesReady u rows
-cies_ready {t = t} {s = s} {rows = rows} b ok initial same =
+pub cies_ready : {t u : Target} {s : List ℕ} {rows : List (ℕ × Rules)} → AreBytes s → Accepted t s → ((ms : List Member) → AreMembers t s ms → rows ≡ initial_rows ms) → u ≡ t
+    → RowsRise 0 rows × AllByRecursion (λ (row : ℕ × Rules). AllByRecursion (InstrFits u) (cie_instrs row.1)) rows
+cies_ready {t = t} {s = s} b ok initial same =
     let some = members_exist t s b ok in
-    let are = initial some.0 some.1 in record {
-      rise = subst (RowsRise 0) (sym are) (rows_rise t some.0 (renders t s b ok some.0 some.1).rise);
-      fits = rows_fit t s b ok some.0 some.1 same are;
-    }
+    let are = initial some.0 some.1 in (subst (RowsRise 0) (sym are) (rows_rise t some.0 (renders t s b ok some.0 some.1).rise), rows_fit t s b ok some.0 some.1 same are)

@@ -25,14 +25,10 @@ fills_more bytes all (Err x) e old start new is same le h = subst (λ (y : Stop)
     by_error Failed h = h
     by_error Memory h = tt
 
-module _ {out : Output} {mid : List ℕ} (h : Holds out mid) (after rest all : List ℕ) (whole : mid ++ rest ≡ all) where
-  -- what leads to all, and is not all yet
-  pub left_more : (left : List ℕ) → after ++ left ≡ out.bytes.items ++ rest → (h.lost ++ after) ++ left ≡ all
-  left_more left e =
-      append_assoc h.lost after left ∙ ap (λ (l : List ℕ). h.lost ++ l) e ∙ sym (append_assoc h.lost out.bytes.items rest) ∙ ap (λ (l : List ℕ). l ++ rest) (sym h.whole) ∙ whole
-
-  pub left_none : after ≡ out.bytes.items ++ rest → all ≡ h.lost ++ after
-  left_none e = sym (ap (λ (l : List ℕ). h.lost ++ l) e ∙ sym (append_assoc h.lost out.bytes.items rest) ∙ ap (λ (l : List ℕ). l ++ rest) (sym h.whole) ∙ whole)
+-- what leads to all, and is not all yet
+pub left_more : {out : Output} {mid : List ℕ} (h : Holds out mid) (after rest all : List ℕ) → mid ++ rest ≡ all → (left : List ℕ) → after ++ left ≡ out.bytes.items ++ rest → (h.lost ++ after) ++ left ≡ all
+left_more {out = out} h after rest all whole left e =
+    append_assoc h.lost after left ∙ ap (λ (l : List ℕ). h.lost ++ l) e ∙ sym (append_assoc h.lost out.bytes.items rest) ∙ ap (λ (l : List ℕ). l ++ rest) (sym h.whole) ∙ whole
 
 -- ---- the whole
 

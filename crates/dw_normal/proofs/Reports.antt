@@ -13,14 +13,12 @@ use Rattle.dw_normal.specs.declared.error.WriteError.TheVariants as write_error
 
 -- ---- the members of a section
 
--- its entries were counted, from where so much room is
-abbrev AreCounted : Target → List ℕ → Bool → Result Unit Stop → Place → Place → Type 0
-AreCounted t s counts end old new = (ms : List Member) → AreMembers t s ms → Puts counts (canon t ms) end old new
-
-pub is_too_long : (t : Target) (s : List ℕ) (cap : ℕ) (counts : Bool) (e : Stop) (old new : Place) → AreBytes s → Accepted t s → old.room ≡ cap → e ≡ Full → AreCounted t s counts (Err e) old new → IsTooLong t cap s
-is_too_long t s cap counts e old new b ok room full counted =
+-- there is no room for the entries
+pub is_too_long : (t : Target) (s : List ℕ) (cap : ℕ) (counts : Bool) (e : Stop) (old new : Place) → AreBytes s → Accepted t s → old.room ≡ cap → e ≡ Full
+    → ((ms : List Member) → AreMembers t s ms → Puts counts (canon t ms) (Err e) old new) → IsTooLong t cap s
+is_too_long t s cap counts e old new b ok room full put =
     let found = members_exist t s b ok in
-    let long : old.room < length (canon t found.0) = subst (λ (x : Stop). AreCounted t s counts (Err x) old new) full counted found.0 found.1 in
+    let long : old.room < length (canon t found.0) = subst (λ (x : Stop). Puts counts (canon t found.0) (Err x) old new) full (put found.0 found.1) in
     (canon t found.0, is_normal t s found.0 b ok found.1, omega (arith, long, room))
 
 -- the normal form of a section that is short
@@ -122,15 +120,15 @@ module _ {t : Target} {cap : ℕ} {s : List ℕ} {end : Result Unit Stop} {old n
 
 -- ---- what a tape took
 
-pub on_tape : (bytes items : List ℕ) (new : Option (List ℕ)) → Appends (Some []) new bytes → new ≡ Some items → items ≡ bytes
-on_tape bytes items new took is = subst (λ (o : Option (List ℕ)). Appends (Some []) o bytes) is took
+pub on_tape : (bytes items : List ℕ) (old new : Option (List ℕ)) → old ≡ Some [] → Appends old new bytes → new ≡ Some items → items ≡ bytes
+on_tape bytes items old new empty took is = subst (λ (o : Option (List ℕ)). Appends (Some []) o bytes) is (subst (λ (o : Option (List ℕ)). Appends o new bytes) empty took)
 
 -- what a call that wrote on an empty tape answered
 module _ (t : Target) (cap : ℕ) (s : List ℕ) (b : AreBytes s) (failed failed' : ℕ) (old new : Option (List ℕ)) (empty : old ≡ Some []) where
   pub tape_only : (count : ℕ) (items : List ℕ) → Writes t cap s (Ok count) failed failed' old new → new ≡ Some items → (n : List ℕ) → IsNormalForm t s n → items ≡ n
   tape_only count items w is n normal =
       let out = w.1 in
-      on_tape out.0 items new (subst (λ (x : Option (List ℕ)). Appends x new out.0) empty out.4) is ∙ normal_form_is_one t s out.0 n b out.1 normal
+      on_tape out.0 items old new empty out.4 is ∙ normal_form_is_one t s out.0 n b out.1 normal
 
 pub tape_fault : (t : Target) (cap : ℕ) (s : List ℕ) (failed failed' : ℕ) (old new : Option (List ℕ)) (e : WriteError) (result : ReadError)
     → Writes t cap s (Err e) failed failed' old new → result ≡ unread e → Refuses (NormalFault t cap s) result

@@ -1,5 +1,5 @@
 -- The normal form is the CIEs with the initial rows, and then the FDEs.
-use Rattle.dw_normal.proofs.Words.{◌≡◌, ℕ, zero, suc, ◌+◌, ◌≤◌, List, [], ◌∷◌, ◌++◌, length, take, map, refl, sym, ap, ◌∙◌, append_assoc, arith, length-append, nil_from_length, Target, Rules}
+use Rattle.dw_normal.proofs.Words.{◌≡◌, ℕ, List, [], ◌∷◌, ◌++◌, length, map, refl, sym, ap, ◌∙◌, append_assoc, nil_from_length, Target, Rules}
 use Rattle.dw_normal.proofs.Words.{group_of, groups_of, part_of, parts_of, canon, initial_of, return_registers, cie_of, Member, Written, entry_bytes, section_bytes, section_append, laid_is, initial_rows}
 use Rattle.dw_normal.proofs.Words.{rules, OnOk, Result, Ok, Err, cie_with, cies_bytes, fdes_bytes, Begun, Walks}
 use Rattle.dw_normal.specs.Inner.Begun.{KeepsFde}
@@ -28,11 +28,6 @@ module _ (t : Target) (all : List Member) where
   pub none_bytes : (ms : List Member) → length ms ≡ 0 → fdes_bytes t all ms ≡ []
   none_bytes ms e = ap (fdes_bytes t all) (nil_from_length ms e)
 
-  pub front : (k : ℕ) (ms : List Member) → length (fdes_bytes t all (take k ms)) ≤ length (fdes_bytes t all ms)
-  front zero ms = omega arith
-  front (suc k) [] = omega arith
-  front (suc k) (x ∷ xs) = omega (arith, front k xs, length-append (bytes_of x) (fdes_bytes t all (take k xs)), length-append (bytes_of x) (fdes_bytes t all xs))
-
 -- ---- an FDE that was begun
 
 still_walks : (b c : Begun) → Walks b → c.changes.section ≡ b.changes.section → KeepsFde b c → Walks c
@@ -41,8 +36,3 @@ still_walks b c h section kept = search rules
 pub walks_on : {A E : Type 0} (r : Result A E) (b c : Begun) → Walks b → c.changes.section ≡ b.changes.section → KeepsFde b c → OnOk r (Walks c)
 walks_on (Ok x) b c h section kept = still_walks b c h section kept
 walks_on (Err e) b c h section kept = tt
-
--- ---- the whole
-
-pub canon_length : (t : Target) (ms : List Member) → length (canon t ms) ≡ length (cies_bytes t (initial_rows ms)) + length (fdes_bytes t ms ms)
-canon_length t ms = ap length (canon_is t ms) ∙ length-append (cies_bytes t (initial_rows ms)) (fdes_bytes t ms ms)

@@ -15,30 +15,7 @@ use dw_section::FdeRef;
 use std::alloc::Global;
 use std::collections::BTreeMap;
 
-// Whether the FDEs at a place of both tables are written alike.
-fn same_fdes<'r, 'a, 'q, 'b>(
-    one: &mut Begun<'r, 'a>,
-    two: &mut Begun<'q, 'b>,
-    mine: &mut Output,
-    other: &mut Output,
-    fde: FdeRef,
-) -> Result<bool, Stop>
-    requires target { (table_of one.old).target ≡ (table_of two.old).target }
-    requires place { IsListed (table_of one.old) fde.place }
-    requires other_place { IsListed (table_of two.old) fde.place }
-    requires walks { Walks one.old × Walks two.old }
-    requires kept { IsKept mine.old × IsKept other.old }
-    ensures same { OfBoth (table_of one.old) (table_of two.old) (λ ms ns. (d : Member) → IfOk result (Likens (ms ≡ ns) (fde_bytes (table_of one.old) ms fde.place d ≡ fde_bytes (table_of two.old) ns fde.place d))) }
-    ensures walks { OnOk result (Walks one.new × Walks two.new) }
-    ensures ready { (one.new.ready ≡ one.old.ready) × (two.new.ready ≡ two.old.ready) }
-    ensures kept { IsKept mine.new × IsKept other.new }
-{
-    fill_next(mine, one, fde)?;
-    fill_next(other, two, fde)?;
-    Ok(mine.bytes == other.bytes)
-}
-
-// The same of all FDEs of tables that have as many. It ends at the first FDE that differs.
+// Whether all FDEs of two tables that have as many are written alike. It ends at the first that differs.
 fn same_over<'r, 'a, 'q, 'b>(
     one: &mut Begun<'r, 'a>,
     two: &mut Begun<'q, 'b>,
@@ -54,31 +31,13 @@ fn same_over<'r, 'a, 'q, 'b>(
     ensures { OfBoth (table_of one.old) (table_of two.old) (λ ms ns. IfOk result (Likens (ms ≡ ns) (all_fdes (table_of one.old) ms ≡ all_fdes (table_of two.old) ns))) }
 {
     'fdes: for place in 0..count {
-        if !same_fdes(one, two, mine, other, FdeRef { place })? {
+        fill_next(mine, one, FdeRef { place })?;
+        fill_next(other, two, FdeRef { place })?;
+        if mine.bytes != other.bytes {
             return Ok(false);
         }
     }
     Ok(true)
-}
-
-// The CIEs of a table's normal form, and where each of them stands.
-fn cies_of(
-    alloc: Global,
-    out: &mut Output,
-    ready: &Ready<'_>,
-    places: &mut BTreeMap<u16, u64>,
-) -> Result<Vec<u8>, Stop>
-    requires none { places.old.entries ≡ [] }
-    requires rows { AreInitial ready.now.table ready.now.rows.entries }
-    requires kept { IsKept out.old }
-    ensures cies { IfOk result (λ cies. cies.items ≡ cies_bytes ready.now.table.target ready.now.rows.entries) }
-    ensures low { OnOk result (length (cies_bytes ready.now.table.target ready.now.rows.entries) ≤ 2147483647) }
-    ensures places { OnOk result (ArePlaces ready.now.table.target ready.now.rows.entries places.new.entries) }
-    ensures kept { OnOk result (IsKept out.new) }
-{
-    let mut tape = Tape::new(alloc);
-    write_cies(&mut tape, out, places, ready)?;
-    Ok(tape.into_bytes())
 }
 
 /// Whether two tables say the same: the same nonempty FDEs with the same return address registers, and the same rules at each
@@ -96,8 +55,10 @@ pub(crate) fn same_tables(alloc: Global, one: &Ready<'_>, two: &Ready<'_>) -> Re
     let (mut places, mut others) = (BTreeMap::new(alloc), BTreeMap::new(alloc));
     let mut mine = Output::new(alloc, LIMIT, false);
     let mut other = Output::new(alloc, LIMIT, false);
-    let cies = cies_of(alloc, &mut mine, one, &mut places)?;
-    if cies != cies_of(alloc, &mut other, two, &mut others)? {
+    let (mut cies, mut other_cies) = (Tape::new(alloc), Tape::new(alloc));
+    write_cies(&mut cies, &mut mine, &mut places, one)?;
+    write_cies(&mut other_cies, &mut other, &mut others, two)?;
+    if cies.into_bytes() != other_cies.into_bytes() {
         return Ok(false);
     }
     if count == 0 {

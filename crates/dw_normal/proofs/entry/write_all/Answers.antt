@@ -1,5 +1,5 @@
 use Rattle.dw_normal.specs.Inner.Writing.{table_of}
-use Rattle.dw_normal.proofs.Words.{ℕ, ◌<◌, ◌-◌, ◌++◌, ◌^◌, ◌∙◌, Ok, Err, get_or, arith, sym, subst, members_exist, Member, AreMembers, List, Target, contents, entry_bytes, fde_with, fixed_bytes, sink_at, Holds, Place, Written, Fills, Puts, Result, Stop, unsized}
+use Rattle.dw_normal.proofs.Words.{◌++◌, ◌∙◌, Ok, Err, get_or, arith, sym, subst, members_exist, Member, AreMembers, List, Target, contents, entry_bytes, fde_with, fixed_bytes, sink_at, Holds, Place, Written, Fills, Puts, Result, Stop, unsized}
 use Rattle.dw_normal.proofs.{Entries.{fdes_fail, fdes_next}, Grouped.no_member, Joined.{fill_puts, puts_from}, entry.write_all.Given.Over, entry.write_all.Goals.In-fdes}
 use Rattle.dw_normal.proofs.entry.write_all.Goals as goal
 
@@ -31,23 +31,17 @@ returns-in_err-fill_next g c = λ ms are.
     fdes_fail (start g at) (mid g at) c.fdes.invariant.fdes c.requires.count c.fdes-test.true are no_member c.from_residual.result _ _ c.from_residual.ensures.1
     (fill_puts g.S.Sink.failures g.S.Sink.taken c.fdes.sink c.args.out.now.counts t (next g at ms) _ c.fdes.out c.fill_next.new.out c.in_err-fill_next.ensures.room.0 stops)
 
-pub put_entry-requires-clause-failures : goal.put_entry-requires-clause-failures
-put_entry-requires-clause-failures g c =
-    let one = some g (goal.at.put_entry-requires-clause-failures g c).In-fdes in
-    subst (λ (n : ℕ). n < 2 ^ 64 - 1) (sym (c.fdes.invariant.fdes one.0 one.1).0) c.requires.failures
-
-pub put_entry-requires-clause-room : goal.put_entry-requires-clause-room
-put_entry-requires-clause-room g c =
-    let one = some g (goal.at.put_entry-requires-clause-room g c).In-fdes in
-    omega (arith, (c.fdes.invariant.fdes one.0 one.1).1, c.in_ok-fill_next.ensures.room.0, c.requires.room)
-
-pub put_entry-requires-clause-holds : goal.put_entry-requires-clause-holds
-put_entry-requires-clause-holds g c =
-    let at = (goal.at.put_entry-requires-clause-holds g c).In-fdes in
+pub put_entry-requires : goal.put_entry-requires
+put_entry-requires g c =
+    let at = (goal.at.put_entry-requires g c).In-fdes in
     let one = some g at in
+    let put = c.fdes.invariant.fdes one.0 one.1 in
     let filled = rw c.fdes.invariant.ready at c.in_ok-fill_next.ensures.contents in
-    let built = contents (table_of c.args.begun.now).target (next g at one.0) in
-    (built, subst (λ (u : Target). Holds c.fill_next.new.out (fixed_bytes u.order 4 0 ++ built)) (sym c.target-order.ensures) (filled one.0 one.1 no_member))
+    let built = contents (table_of c.args.begun.now).target (next g at one.0) in record {
+      failures = omega (arith, put.0, c.requires.failures);
+      room = omega (arith, put.1, c.in_ok-fill_next.ensures.room.0, c.requires.room);
+      holds = (built, subst (λ (u : Target). Holds c.fill_next.new.out (fixed_bytes u.order 4 0 ++ built)) (sym c.target-order.ensures) (filled one.0 one.1 no_member));
+    }
 
 pub returns-in_err-put_entry : goal.returns-in_err-put_entry
 returns-in_err-put_entry g c = λ ms are.

@@ -8,7 +8,7 @@ more g c = search rules
 pub rows-init : goal.rows-init
 rows-init g c =
     let can = cies_ready c.accepted.ensures.bytes c.accepted.ensures.accepted c.requires.rows c.target-target.ensures in
-    search (rules, cies_start, can.rise, can.fits)
+    search (rules, cies_start, can.0, can.1)
 
 pub returns-in_err-fill_cie-clause-puts : goal.returns-in_err-fill_cie-clause-puts
 returns-in_err-fill_cie-clause-puts g c =
