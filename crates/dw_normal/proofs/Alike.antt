@@ -1,13 +1,10 @@
 -- Two tables whose normal forms are compared, entry by entry.
-use Rattle.dw_normal.proofs.Words.{◌≡◌, ◌↔◌, ℕ, ◌+◌, ◌<◌, ◌++◌, Bool, true, false, not, refl, Decides, IsTrue, IfOk, List, length, take, drop, get_or, Result, Ok, Err, sym, ap, ◌∙◌, fixed_bytes, length-fixed, Target, Rules, Member, contents, entry_bytes}
+use Rattle.dw_normal.proofs.Words.{◌≡◌, ℕ, ◌+◌, ◌<◌, ◌++◌, Bool, true, false, not, refl, Decides, IfOk, List, length, take, drop, get_or, Result, Ok, Err, sym, ap, ◌∙◌, fixed_bytes, length-fixed, Target, Rules, Member, contents, entry_bytes}
 use Rattle.dw_normal.proofs.{Words.{canon, initial_rows, cies_bytes, fdes_bytes, fde_with, Likens}, Entries.{canon_both, fdes_then}}
 use Rattle.std.proofs.{Math.Dec.eqb, lemmas.List.drop_at, lemmas.Bool.{eq-eqb, eqb-true}, lemmas.Slice.Eq.slice_eq-Decides}
 use Rattle.std.specs.Cmp.Lexicographic.{pointwise}
 use Rattle.dw_num.specs.declared.target.Form.TheVariants.{Dwarf32}
 use Rattle.dw_section.specs.Cut.{entry, item_bytes}
-
-pub untrue : {P : Type 0} (b : Bool) → b ≡ false → IsTrue b → P
-untrue b e is = absurd cc
 
 module _ {t u : Target} (same : t ≡ u) (ms ns : List Member) (k : ℕ) (d : Member) where
   -- an FDE of one table, and that of another at its place
@@ -24,25 +21,23 @@ module _ {t u : Target} (same : t ≡ u) (ms ns : List Member) (k : ℕ) (d : Me
       let inner : contents t (fde_with t ms (get_or ms k d)) ≡ contents t (fde_with t xs (get_or xs k d)) = sym own ∙ ap (drop 4) e ∙ other in
       ap (λ (l : List ℕ). item_bytes t.order (entry Dwarf32 l)) inner
 
-  pub fdes_like : (x y : List ℕ) → x ≡ held t ms → y ≡ held u ns → (b : Bool) → IsTrue b ↔ x ≡ y → Likens (ms ≡ ns) (entry_at t ms ≡ entry_at u ns) b
-  fdes_like x y mine other b is = (
-    λ e. is.1 (mine ∙ ap (held t) e ∙ ap (λ (v : Target). held v ns) same ∙ sym other),
-    λ yes. held_entry ns (sym mine ∙ is.0 yes ∙ other ∙ ap (λ (v : Target). held v ns) (sym same)) ∙ ap (λ (v : Target). entry_at v ns) same,
-  )
+  pub fdes_same : (x y : List ℕ) → x ≡ held t ms → y ≡ held u ns → ms ≡ ns → x ≡ y
+  fdes_same x y mine other e = mine ∙ ap (held t) e ∙ ap (λ (v : Target). held v ns) same ∙ sym other
+
+  fdes_alike : (x y : List ℕ) → x ≡ held t ms → y ≡ held u ns → x ≡ y → entry_at t ms ≡ entry_at u ns
+  fdes_alike x y mine other is = held_entry ns (sym mine ∙ is ∙ other ∙ ap (λ (v : Target). held v ns) (sym same)) ∙ ap (λ (v : Target). entry_at v ns) same
 
   -- one FDE more
-  pub fdes_more_like : k < length ms → k < length ns → fdes_bytes t ms (take k ms) ≡ fdes_bytes u ns (take k ns) → entry_at t ms ≡ entry_at u ns → fdes_bytes t ms (take (k + 1) ms) ≡ fdes_bytes u ns (take (k + 1) ns)
-  fdes_more_like lt lt' before own =
+  pub fdes_more_like : k < length ms → k < length ns → fdes_bytes t ms (take k ms) ≡ fdes_bytes u ns (take k ns) → (x y : List ℕ) → x ≡ held t ms → y ≡ held u ns → x ≡ y → fdes_bytes t ms (take (k + 1) ms) ≡ fdes_bytes u ns (take (k + 1) ns)
+  fdes_more_like lt lt' before x y mine other is =
+      let own = fdes_alike x y mine other is in
       fdes_then t ms k d lt ∙ ap (λ (l : List ℕ). l ++ entry_at t ms) before ∙ ap (λ (l : List ℕ). fdes_bytes u ns (take k ns) ++ l) own ∙ sym (fdes_then u ns k d lt')
 
 -- ---- the whole
 
 -- the CIEs are those of the members
-cies_as : {t u : Target} → t ≡ u → (ms ns : List Member) (rows others : List (ℕ × Rules)) → rows ≡ initial_rows ms → others ≡ initial_rows ns → ms ≡ ns → cies_bytes t rows ≡ cies_bytes u others
-cies_as {t = t} {u = u} same ms ns rows others is is' e = ap (cies_bytes t) (is ∙ ap initial_rows e ∙ sym is') ∙ ap (λ (v : Target). cies_bytes v others) same
-
 pub cies_unlike : {t u : Target} → t ≡ u → (ms ns : List Member) (rows others : List (ℕ × Rules)) → rows ≡ initial_rows ms → others ≡ initial_rows ns → (cies_bytes t rows ≡ cies_bytes u others → ⊥) → ms ≡ ns → ⊥
-cies_unlike same ms ns rows others is is' not e = not (cies_as same ms ns rows others is is' e)
+cies_unlike {t = t} same ms ns rows others is is' not e = not (ap (cies_bytes t) (is ∙ ap initial_rows e ∙ sym is') ∙ ap (λ (v : Target). cies_bytes v others) same)
 
 pub canon_like : (t u : Target) (ms ns : List Member) (rows others : List (ℕ × Rules)) → rows ≡ initial_rows ms → others ≡ initial_rows ns → cies_bytes t rows ≡ cies_bytes u others
     → fdes_bytes t ms ms ≡ fdes_bytes u ns ns → canon t ms ≡ canon u ns

@@ -1,10 +1,9 @@
 -- The place of a refusal lies in the section that it names.
-use Rattle.dw_normal.proofs.Words.{◌≡◌, ℕ, Bool, List, Result, Ok, Err, IfErr, sym, ap, subst, inl, inr, arith, AreBytes, Target, Refuses, NormalFault, too_long, put_is, PutError, First, Second, Refusal, ReadError, CheckFault}
+use Rattle.dw_normal.proofs.Words.{◌≡◌, ℕ, Bool, List, Result, Ok, Err, IfErr, sym, ap, subst, inl, inr, arith, AreBytes, Target, Refuses, NormalFault, too_long, First, Second, Refusal, ReadError, CheckFault}
 use Rattle.dw_normal.proofs.Words.{IsWithinEither, RefusesWithin, LengthFault, blamed, unwritten, SameError, WriteError}
 use Rattle.dw_op.specs.Faults.{IsWithin}
 use Rattle.dw_section.specs.Laws.{SectionFaultsWithin}
 use Rattle.dw_num.specs.declared.error.ReadError.TheVariants as read_error
-use Rattle.dw_normal.specs.declared.entry.PutError.TheVariants as put_error
 use Rattle.dw_normal.specs.declared.error.SameError.TheVariants as same_error
 
 long_within : (s : List ℕ) (r : Refusal) → r ≡ too_long → IsWithin s r
@@ -25,15 +24,6 @@ module _ (within : SectionFaultsWithin) (t : Target) (s : List ℕ) (b : AreByte
       by_error : (x : ReadError) → Refuses (NormalFault t cap s) x → RefusesWithin s (unwritten x)
       by_error read_error.OutOfMemory h = tt
       by_error (read_error.Refused r) h = fault_within cap r h
-
--- a call that writes refuses nothing
-pub put_within : (s : List ℕ) (put : Result ℕ PutError) (result : Result ℕ WriteError) → result ≡ put_is put → IfErr result (RefusesWithin s)
-put_within s put result is = subst (λ (x : Result ℕ WriteError). IfErr x (RefusesWithin s)) (sym is) (by_answer put)
-  where
-    by_answer : (x : Result ℕ PutError) → IfErr (put_is x) (RefusesWithin s)
-    by_answer (Ok count) = tt
-    by_answer (Err (put_error.Write written)) = tt
-    by_answer (Err (put_error.Memory written)) = tt
 
 module _ (within : SectionFaultsWithin) (t : Target) (a b : List ℕ) where
   pub first_within : AreBytes a → (e : ReadError) (result : SameError) → Refuses (CheckFault t a) e → result ≡ blamed First e → IsWithinEither a b result

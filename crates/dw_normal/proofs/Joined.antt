@@ -1,69 +1,89 @@
--- Bytes that are put behind others.
-use Rattle.dw_normal.proofs.Words.{◌≡◌, ℕ, ◌+◌, ◌≤◌, true, List, ◌++◌, length, take, Option, Result, Ok, Err, sym, ap, ◌∙◌, subst, arith, append_assoc, OnOk, is_ok, IsErrAnd, take-append-add, take-append_seam, length-append}
-use Rattle.dw_normal.proofs.Words.{take-append-le, Appends, Puts, taken_by, after, PutError, Write, Memory, Appends-trans}
+-- Entries that are built, and bytes that are put behind others.
+use Rattle.dw_normal.proofs.Words.{◌≡◌, ℕ, ◌+◌, ◌<◌, Bool, true, false, List, [], ◌++◌, length, Result, Ok, Err, refl, sym, ap, ◌∙◌, subst, arith, append_assoc, OnOk, IsTrue, is_ok, IsErrAnd, length-append, length-fixed, fixed_bytes}
+use Rattle.dw_normal.proofs.Words.{Appends-nil, Appends-trans, Output, Stop, Full, Failed, Memory, Holds, Fills, Place, Puts, Sends, Takes, Order, Option, Target, Written, contents, entry_bytes, unsized, sink_at}
 
--- an answer takes no more than the bytes
-pub most_taken : (bytes : List ℕ) (r : Result ℕ PutError) (f g : ℕ) (o n : Option (List ℕ)) → Puts bytes r f g o n → taken_by r ≤ length bytes
-most_taken bytes (Ok k) f g o n h = omega (arith, h.1)
-most_taken bytes (Err (Write w)) f g o n h = h.1
-most_taken bytes (Err (Memory w)) f g o n h = h.1
+-- ---- an entry
 
-took_front : (xs ys : List ℕ) (w : ℕ) (o n : Option (List ℕ)) → w ≤ length xs → Appends o n (take w xs) → Appends o n (take w (xs ++ ys))
-took_front xs ys w o n le h = subst (λ (l : List ℕ). Appends o n l) (sym (take-append-le w xs ys le)) h
+-- how long it is by now
+pub held_long : {out : Output} {bytes : List ℕ} → Holds out bytes → length bytes ≡ out.gone + length out.bytes.items
+held_long {out = out} h = ap length h.whole ∙ length-append h.lost out.bytes.items ∙ omega (arith, h.gone)
 
--- a failure among bytes is one among more of them
-pub put_begins : (xs ys : List ℕ) (e : PutError) (f g : ℕ) (o n : Option (List ℕ)) → Puts xs (Err e) f g o n → Puts (xs ++ ys) (Err e) f g o n
-put_begins xs ys (Write w) f g o n h = (h.0, omega (arith, h.1, length-append xs ys), took_front xs ys w o n h.1 h.2)
-put_begins xs ys (Memory w) f g o n h = (h.0, omega (arith, h.1, length-append xs ys), took_front xs ys w o n h.1 h.2)
+-- all of it is there, where none is forgotten
+pub held_kept : {out : Output} {bytes : List ℕ} → Holds out bytes → out.counts ≡ false → out.bytes.items ≡ bytes
+held_kept {out = out} h is = ap (λ (l : List ℕ). l ++ out.bytes.items) (sym (h.kept is)) ∙ sym h.whole
 
-took_behind : (xs ys : List ℕ) (c w : ℕ) (o m n : Option (List ℕ)) → c ≡ length xs → Appends o m xs → Appends m n (take w ys) → Appends o n (take (c + w) (xs ++ ys))
-took_behind xs ys c w o m n is h k =
-    let here : xs ++ take w ys ≡ take (c + w) (xs ++ ys) = sym (take-append-add xs ys w) ∙ ap (λ (k : ℕ). take (k + w) (xs ++ ys)) (sym is) in
-    subst (λ (l : List ℕ). Appends o n l) here (Appends-trans o m n xs (take w ys) h k)
+-- with its length it is as long
+pub sized_long : (order : Order) (n : ℕ) (contents : List ℕ) → length (fixed_bytes order 4 n ++ contents) ≡ length (fixed_bytes order 4 0 ++ contents)
+sized_long order n contents =
+    omega (arith, length-append (fixed_bytes order 4 n) contents, length-append (fixed_bytes order 4 0) contents, length-fixed order 4 n, length-fixed order 4 0)
 
--- bytes behind others that were all taken
-pub puts_both : (xs ys : List ℕ) (c : ℕ) (r : Result ℕ PutError) (f g h : ℕ) (o m n : Option (List ℕ)) → Puts xs (Ok c) f g o m → Puts ys r g h m n → Puts (xs ++ ys) (after c r) f h o n
-puts_both xs ys c (Ok k) f g h o m n p q =
-    let one = p.1 in
-    let two = q.1 in
-    (q.0 ∙ p.0, omega (arith, one, two, length-append xs ys), Appends-trans o m n xs ys p.2 q.2)
-puts_both xs ys c (Err (Write w)) f g h o m n p q = grind (arith, length-append, took_behind)
-puts_both xs ys c (Err (Memory w)) f g h o m n p q = grind (arith, length-append, took_behind)
+-- ---- bytes that go out
 
--- memory runs out behind bytes
-pub put_stops : (xs ys : List ℕ) (c : ℕ) (f g : ℕ) (o n : Option (List ℕ)) → Puts xs (Ok c) f g o n → Puts (xs ++ ys) (Err (Memory c)) f g o n
-put_stops xs ys c f g o n h = grind (arith, take, take-append_seam, length-append)
+-- there is no room for them
+pub full_puts : (counts : Bool) (bytes : List ℕ) (r : Result Unit Stop) (e : Stop) (old new : Place) → IsErrAnd r (λ (x : Stop). x ≡ e) → e ≡ Full → old.room < length bytes → Puts counts bytes r old new
+full_puts counts bytes (Ok x) e old new is full h = absurd is
+full_puts counts bytes (Err x) e old new is full h = subst (λ (y : Stop). Puts counts bytes (Err y) old new) (sym (is ∙ full)) h
 
--- ---- a step of a loop that puts bytes
+-- none did
+pub none_sent : (counts : Bool) (at : Place) → Sends counts [] at at
+none_sent counts at = (refl, omega arith, λ is. Appends-nil at.told)
 
-module _ (done one rest all : List ℕ) (whole : all ≡ done ++ (one ++ rest)) (c : ℕ) (put r : Result ℕ PutError) (is : r ≡ after c put) (f g h : ℕ) (o m n : Option (List ℕ))
-    (before : Puts done (Ok c) f g o m) (now : Puts one put g h m n) where
-  joined : Puts (done ++ one) r f h o n
-  joined = subst (λ (x : Result ℕ PutError). Puts (done ++ one) x f h o n) (sym is) (puts_both done one c put f g h o m n before now)
+-- an entry that could not be built was not put
+pub fill_puts : {S : Type 0} (failures : S → ℕ) (taken : S → Option (List ℕ)) (sink : S) (counts : Bool) (t : Target) (w : Written) (e : Stop) (old out : Output) → out.room ≡ old.room → Fills (unsized t w) (Err e) old out
+    → Puts counts (entry_bytes t w) (Err e) (sink_at failures taken old.room sink) (sink_at failures taken out.room sink)
+fill_puts failures taken sink counts t w Full old out same h = omega (arith, h, sized_long t.order (length (contents t w)) (contents t w))
+fill_puts failures taken sink counts t w Failed old out same h = absurd h
+fill_puts failures taken sink counts t w Memory old out same h = (refl, record { front = []; rest = entry_bytes t w; whole = refl; room = omega (arith, same); took = λ _. Appends-nil (taken sink) })
 
-  pub goes_on : (k : ℕ) → r ≡ Ok k → Puts (done ++ one) (Ok k) f h o n
-  goes_on k e = subst (λ (x : Result ℕ PutError). Puts (done ++ one) x f h o n) e joined
+-- what is put behind what changed nothing
+pub puts_from : {S : Type 0} (failures : S → ℕ) (taken : S → Option (List ℕ)) (sink : S) (bytes : List ℕ) (r : Result Unit Stop) (new : Place) (c d : Bool) (a b : ℕ) → c ≡ d → a ≡ b
+    → Puts c bytes r (sink_at failures taken a sink) new → Puts d bytes r (sink_at failures taken b sink) new
+puts_from failures taken sink bytes r new c d a b same room h =
+    subst (λ (n : ℕ). Puts d bytes r (sink_at failures taken n sink) new) room (subst (λ (x : Bool). Puts x bytes r (sink_at failures taken a sink) new) same h)
 
-  pub ends_there : (e : PutError) → r ≡ Err e → Puts all (Err e) f h o n
-  ends_there e was = grind (arith, joined, append_assoc, put_begins)
+module _ (counts : Bool) (xs ys : List ℕ) (old mid new : Place) where
+  takes_more : Takes counts xs old new → Takes counts (xs ++ ys) old new
+  takes_more h = record { front = h.front; rest = h.rest ++ ys; whole = ap (λ (l : List ℕ). l ++ ys) h.whole ∙ append_assoc h.front h.rest ys; room = h.room; took = h.took }
 
-  -- what is counted is no more than all bytes
-  pub counted : c + taken_by put ≤ length all
-  counted = grind (arith, most_taken, length, length-append)
+  -- what stops among bytes stops among more of them
+  pub put_begins : (e : Stop) → Puts counts xs (Err e) old new → Puts counts (xs ++ ys) (Err e) old new
+  put_begins Full h = omega (arith, h, length-append xs ys)
+  put_begins Failed h = (h.0, takes_more h.1)
+  put_begins Memory h = (h.0, takes_more h.1)
 
--- an error that `?` hands on
-pub same_err : (bytes : List ℕ) (r : Result ℕ PutError) (e : PutError) (f g : ℕ) (o n : Option (List ℕ)) → IsErrAnd r (λ (x : PutError). x ≡ e) → Puts bytes (Err e) f g o n → Puts bytes r f g o n
-same_err bytes (Ok k) e f g o n h p = absurd h
-same_err bytes (Err x) e f g o n h p = subst (λ (y : PutError). Puts bytes (Err y) f g o n) (sym h) p
+  module _ (before : Sends counts xs old mid) where
+    takes_behind : Takes counts ys mid new → Takes counts (xs ++ ys) old new
+    takes_behind h = record {
+      front = xs ++ h.front;
+      rest = h.rest;
+      whole = ap (λ (l : List ℕ). xs ++ l) h.whole ∙ sym (append_assoc xs h.front h.rest);
+      room = omega (arith, before.1, h.room, length-append xs h.front);
+      took = λ is. Appends-trans old.told mid.told new.told xs h.front (before.2 is) (h.took is);
+    }
+
+    pub sends_both : Sends counts ys mid new → Sends counts (xs ++ ys) old new
+    sends_both p = (p.0 ∙ before.0, omega (arith, before.1, p.1, length-append xs ys), λ is. Appends-trans old.told mid.told new.told xs ys (before.2 is) (p.2 is))
+
+    -- bytes behind others that were all taken
+    pub puts_both : (r : Result Unit Stop) → Puts counts ys r mid new → Puts counts (xs ++ ys) r old new
+    puts_both (Ok x) p = sends_both p
+    puts_both (Err Full) p = omega (arith, before.1, p, length-append xs ys)
+    puts_both (Err Failed) p = (omega (arith, before.0, p.0), takes_behind p.1)
+    puts_both (Err Memory) p = (p.0 ∙ before.0, takes_behind p.1)
+
+-- what stops a step stops the whole, where `?` hands it on
+pub ends_there : (counts : Bool) (done one rest all : List ℕ) → all ≡ done ++ (one ++ rest) → (r : Result Unit Stop) (e : Stop) (old mid new : Place) → IsErrAnd r (λ (x : Stop). x ≡ e) → Sends counts done old mid
+    → Puts counts one (Err e) mid new → Puts counts all r old new
+ends_there counts done one rest all whole (Ok x) e old mid new is before now = absurd is
+ends_there counts done one rest all whole (Err x) e old mid new is before now =
+    let here = puts_both counts done (one ++ rest) old mid new before (Err e) (put_begins counts one rest mid mid new e now) in
+    subst (λ (y : Stop). Puts counts all (Err y) old new) (sym is) (subst (λ (l : List ℕ). Puts counts l (Err e) old new) (sym whole) here)
 
 -- ---- what holds of an answer
+
+pub untrue : {P : Type 0} (b : Bool) → b ≡ false → IsTrue b → P
+untrue b e is = absurd cc
 
 pub ok_of : {A E : Type 0} (r : Result A E) (P : Type 0) → OnOk r P → is_ok r ≡ true → P
 ok_of (Ok x) P h e = h
 ok_of (Err x) P h e = absurd cc
-
--- what holds where bytes are put, in the answer behind others too
-pub put_so : (before : ℕ) (put r : Result ℕ PutError) {count : ℕ} (P : Type 0) → OnOk put P → r ≡ after before put → r ≡ Ok count → P
-put_so before (Ok k) r P holds is was = holds
-put_so before (Err (Write w)) r P holds is was = absurd cc
-put_so before (Err (Memory w)) r P holds is was = absurd cc

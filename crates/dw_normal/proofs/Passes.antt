@@ -1,7 +1,7 @@
 -- One step more of the walks over members and changes.
 use Rattle.std.proofs.lemmas.Grind.{flat_map-append}
 use Rattle.dw_canon.proofs.Lent.Programs.{below_end}
-use Rattle.dw_normal.proofs.Words.{rules, ◌≡◌, ℕ, ◌+◌, ◌<◌, List, [], ◌∷◌, ◌++◌, Option, Some, None, refl, ap, subst, nat_eq, AllByRecursion, cases_Bool, append_assoc}
+use Rattle.dw_normal.proofs.Words.{rules, ◌≡◌, ℕ, ◌<◌, List, [], ◌∷◌, ◌++◌, Option, Some, None, refl, ap, subst, nat_eq, AllByRecursion, cases_Bool, append_assoc}
 use Rattle.dw_normal.proofs.Words.{Target, Instr, Rules, move, difference, later_changes, group, shared_by, initial_row, kept_by, agreed, Member, Stand, later_bytes}
 use Rattle.dw_normal.proofs.{Words.{row_or_blank, shown_row, address_limit, Changing, before_then, ChangesStand, InstrFits, difference_fits, instr_bytes, program_bytes}, ChangesToCome.Given}
 

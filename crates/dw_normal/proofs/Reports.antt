@@ -1,36 +1,25 @@
 -- From what is known of a section's members to what the calls over normal forms answer.
-use Rattle.dw_normal.proofs.Words.{◌≡◌, ◌⊎◌, ℕ, ◌≤◌, Bool, List, [], length, take, Option, Some, None, Result, Ok, Err, refl, sym, ap, ◌∙◌, subst, inl, inr, arith, Decides, Appends, Keeps-refl, AreBytes, Target, Refuses, Accepted}
-use Rattle.dw_normal.proofs.Words.{CheckFault, canon, Member, AreMembers, members_exist, normal_form_is_one, same_exactly, IsTooLong, FitsCap, NormalFault, SameFault, WentOut, Writes, too_long, Puts, put_is, PutError, First, Second, IfOk}
-use Rattle.dw_normal.proofs.Words.{IfErr, Likens, Measures, Refusal, ReadError, IsShort, IsMeasured, LengthFault, blamed, unread, unwritten, SameError, WriteError, Section}
+use Rattle.dw_normal.proofs.Words.{◌≡◌, ◌⊎◌, ℕ, ◌-◌, ◌<◌, ◌≤◌, Bool, false, List, [], length, length-append, take, take-append_seam, Option, Some, Result, Ok, Err, refl, sym, ap, ◌∙◌, subst, inl, inr, arith, Decides, Appends, Keeps-refl, AreBytes, Target, Refuses, Accepted}
+use Rattle.dw_normal.proofs.Words.{CheckFault, canon, Member, AreMembers, members_exist, normal_form_is_one, same_exactly, IsTooLong, FitsCap, NormalFault, SameFault, WentOut, Writes, too_long, Puts, Sends, Takes, Place, Stop, Full, Failed, Memory, First, Second, IfOk}
+use Rattle.dw_normal.proofs.Words.{IfErr, Likens, Refusal, ReadError, IsShort, IsMeasured, LengthFault, blamed, unread, unwritten, SameError, WriteError, Section}
 use Rattle.dw_section.specs.Meanings.{SameMeaning}
 use Rattle.dw_section.proofs.Lent.CheckFirst.{fault_or_accepted}
 use Rattle.dw_canon.specs.{Laws.SameNormalForm, Normal.IsNormalForm}
 use Rattle.dw_canon.proofs.Lent.Forms.{is_normal, whole_is}
 use Rattle.dw_normal.specs.declared.error.Which.{Which}
 use Rattle.dw_num.specs.declared.error.ReadError.TheVariants as read_error
-use Rattle.dw_normal.specs.declared.entry.PutError.TheVariants as put_error
 use Rattle.dw_normal.specs.declared.error.SameError.TheVariants as same_error
 use Rattle.dw_normal.specs.declared.error.WriteError.TheVariants as write_error
 
 -- ---- the members of a section
 
--- a length was measured up to a cap
-abbrev AreMeasured : Target → List ℕ → ℕ → Option ℕ → Type 0
-AreMeasured t s cap found = (ms : List Member) → AreMembers t s ms → Measures cap (length (canon t ms)) found
-
-pub is_too_long : (t : Target) (s : List ℕ) (cap : ℕ) (last : Option ℕ) → AreBytes s → Accepted t s → last ≡ None
-    → ((ms : List Member) → AreMembers t s ms → Measures cap (length (canon t ms)) last) → IsTooLong t cap s
-is_too_long t s cap last b ok e measured =
+-- there is no room for the entries
+pub is_too_long : (t : Target) (s : List ℕ) (cap : ℕ) (counts : Bool) (e : Stop) (old new : Place) → AreBytes s → Accepted t s → old.room ≡ cap → e ≡ Full
+    → ((ms : List Member) → AreMembers t s ms → Puts counts (canon t ms) (Err e) old new) → IsTooLong t cap s
+is_too_long t s cap counts e old new b ok room full put =
     let found = members_exist t s b ok in
-    let long = subst (AreMeasured t s cap) e measured in
-    (canon t found.0, is_normal t s found.0 b ok found.1, long found.0 found.1)
-
-pub is_measured : (t : Target) (s : List ℕ) (cap len : ℕ) (some : Option ℕ) → AreBytes s → Accepted t s → some ≡ Some len
-    → ((ms : List Member) → AreMembers t s ms → Measures cap (length (canon t ms)) some) → IsMeasured t cap s len
-is_measured t s cap len some b ok e measured =
-    let long = subst (AreMeasured t s cap) e measured in
-    let within : (ms : List Member) → AreMembers t s ms → length (canon t ms) ≤ cap = λ ms h. omega (arith, (long ms h).0, (long ms h).1) in
-    record { short = record { bytes = b; accepted = ok; within = within }; len_is = λ ms h. (long ms h).0 }
+    let long : old.room < length (canon t found.0) = subst (λ (x : Stop). Puts counts (canon t found.0) (Err x) old new) full (put found.0 found.1) in
+    (canon t found.0, is_normal t s found.0 b ok found.1, omega (arith, long, room))
 
 -- the normal form of a section that is short
 pub record Whole (t : Target) (cap : ℕ) (s : List ℕ) : Type 0 where
@@ -87,33 +76,59 @@ none_written t cap s e result failed old fault is = subst (λ (x : WriteError). 
     by_error read_error.OutOfMemory h = (refl, inl (refl, Keeps-refl old))
     by_error (read_error.Refused r) h = (refl, h, Keeps-refl old)
 
-module _ (t : Target) (cap : ℕ) (s : List ℕ) (h : IsShort t cap s) (failed failed' : ℕ) (old new : Option (List ℕ)) where
-  went_out : (w : Whole t cap s) (written : ℕ) → written ≤ length (canon t w.members) → Appends old new (take written (canon t w.members)) → WentOut t cap s written old new
-  went_out w written le took = record { normal = canon t w.members; is = w.is; within = w.within; front = le; took = took }
+-- entries were put, up to an end
+pub record Ended (t : Target) (cap : ℕ) (s : List ℕ) (end : Result Unit Stop) (old new : Place) : Type 0 where
+  pub normal : List ℕ
+  pub is : IsNormalForm t s normal
+  pub within : length normal ≤ cap
+  pub room : old.room ≡ cap
+  pub puts : Puts false normal end old new
 
-  all_written : (w : Whole t cap s) (put : Result ℕ PutError) → Puts (canon t w.members) put failed failed' old new → Writes t cap s (put_is put) failed failed' old new
-  all_written w (Ok count) p = (p.0, (canon t w.members, w.is, w.within, p.1, p.2))
-  all_written w (Err (put_error.Write written)) p = (p.0, went_out w written p.1 p.2)
-  all_written w (Err (put_error.Memory written)) p = (p.0, inr (went_out w written p.1 p.2))
+pub ended : (t : Target) (cap : ℕ) (s : List ℕ) → IsShort t cap s → (table : Section) → table ≡ record { target = t; bytes = s } → (end : Result Unit Stop) (old new : Place) → old.room ≡ cap
+    → ((ms : List Member) → AreMembers table.target table.bytes ms → Puts false (canon table.target ms) end old new) → Ended t cap s end old new
+ended t cap s h table same end old new room puts =
+    let w = whole_of t cap s h in
+    let here = subst (λ (x : Section). (ms : List Member) → AreMembers x.target x.bytes ms → Puts false (canon x.target ms) end old new) same puts in
+    record { normal = canon t w.members; is = w.is; within = w.within; room = room; puts = here w.members w.are }
 
-  pub entries_written : (table : Section) → table ≡ record { target = t; bytes = s } → (put : Result ℕ PutError) (result : Result ℕ WriteError) → result ≡ put_is put
-      → ((ms : List Member) → AreMembers table.target table.bytes ms → Puts (canon table.target ms) put failed failed' old new) → Writes t cap s result failed failed' old new
-  entries_written table e put result is puts =
-      let w = whole_of t cap s h in
-      let here = subst (λ (x : Section). (ms : List Member) → AreMembers x.target x.bytes ms → Puts (canon x.target ms) put failed failed' old new) e puts in
-      subst (λ (x : Result ℕ WriteError). Writes t cap s x failed failed' old new) (sym is) (all_written w put (here w.members w.are))
+module _ {t : Target} {cap : ℕ} {s : List ℕ} {end : Result Unit Stop} {old new : Place} (h : Ended t cap s end old new) where
+  so : {r : Result Unit Stop} → end ≡ r → Puts false h.normal r old new
+  so is = subst (λ (r : Result Unit Stop). Puts false h.normal r old new) is h.puts
+
+  pub all_written : {u : Unit {0}} → end ≡ Ok u → Writes t cap s (Ok (cap - new.room)) old.failed new.failed old.told new.told
+  all_written is = let put : Sends false h.normal old new = so is in (put.0, (h.normal, h.is, h.within, omega (arith, put.1, h.room), put.2 refl))
+
+  pub never_full : {e : Stop} → end ≡ Err e → e ≡ Full → ⊥
+  never_full is full = let long : old.room < length h.normal = so (is ∙ ap Err full) in omega (arith, long, h.room, h.within)
+
+  went_out : Takes false h.normal old new → WentOut t cap s (cap - new.room) old.told new.told
+  went_out some =
+      let written : cap - new.room ≡ length some.front = omega (arith, some.room, h.room) in
+      let front : take (cap - new.room) h.normal ≡ some.front = ap (λ (n : ℕ). take n h.normal) written ∙ ap (take (length some.front)) some.whole ∙ take-append_seam some.front some.rest in record {
+        normal = h.normal;
+        is = h.is;
+        within = h.within;
+        front = omega (arith, written, ap length some.whole, length-append some.front some.rest);
+        took = subst (λ (l : List ℕ). Appends old.told new.told l) (sym front) (some.took refl);
+      }
+
+  pub some_written : {e : Stop} → end ≡ Err e → e ≡ Failed → Writes t cap s (Err (write_error.Write (cap - new.room))) old.failed new.failed old.told new.told
+  some_written is failed = let put : (old.failed < new.failed) × Takes false h.normal old new = so (is ∙ ap Err failed) in (put.0, went_out put.1)
+
+  pub some_held : {e : Stop} → end ≡ Err e → e ≡ Memory → Writes t cap s (Err (write_error.Memory (cap - new.room))) old.failed new.failed old.told new.told
+  some_held is out = let put : (new.failed ≡ old.failed) × Takes false h.normal old new = so (is ∙ ap Err out) in (put.0, inr (went_out put.1))
 
 -- ---- what a tape took
 
-pub on_tape : (bytes items : List ℕ) (new : Option (List ℕ)) → Appends (Some []) new bytes → new ≡ Some items → items ≡ bytes
-on_tape bytes items new took is = subst (λ (o : Option (List ℕ)). Appends (Some []) o bytes) is took
+pub on_tape : (bytes items : List ℕ) (old new : Option (List ℕ)) → old ≡ Some [] → Appends old new bytes → new ≡ Some items → items ≡ bytes
+on_tape bytes items old new empty took is = subst (λ (o : Option (List ℕ)). Appends (Some []) o bytes) is (subst (λ (o : Option (List ℕ)). Appends o new bytes) empty took)
 
 -- what a call that wrote on an empty tape answered
 module _ (t : Target) (cap : ℕ) (s : List ℕ) (b : AreBytes s) (failed failed' : ℕ) (old new : Option (List ℕ)) (empty : old ≡ Some []) where
   pub tape_only : (count : ℕ) (items : List ℕ) → Writes t cap s (Ok count) failed failed' old new → new ≡ Some items → (n : List ℕ) → IsNormalForm t s n → items ≡ n
   tape_only count items w is n normal =
       let out = w.1 in
-      on_tape out.0 items new (subst (λ (x : Option (List ℕ)). Appends x new out.0) empty out.4) is ∙ normal_form_is_one t s out.0 n b out.1 normal
+      on_tape out.0 items old new empty out.4 is ∙ normal_form_is_one t s out.0 n b out.1 normal
 
 pub tape_fault : (t : Target) (cap : ℕ) (s : List ℕ) (failed failed' : ℕ) (old new : Option (List ℕ)) (e : WriteError) (result : ReadError)
     → Writes t cap s (Err e) failed failed' old new → result ≡ unread e → Refuses (NormalFault t cap s) result

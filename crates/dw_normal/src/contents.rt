@@ -1,64 +1,49 @@
-//! An entry, built in a buffer, with room for its length.
+//! An entry, built with room for its length.
 
-ghost use Rattle.std.specs.{Prelude.{◌≡◌, ◌+◌, ◌++◌, ◌<◌, ◌≤◌, ◌^◌, List, drop, length, replicate, OnOk}, List.AllByRecursion};
+ghost use Rattle.std.specs.{Prelude.{◌≡◌, ℕ, ◌+◌, ◌++◌, ◌<◌, ◌≤◌, ◌^◌, List, drop, length, OnOk}, List.AllByRecursion};
 ghost use Rattle.dw_num.specs.{Fixed.fixed_bytes, Target.{address_limit, byte_count}};
-ghost use Rattle.dw_canon.specs.{Members.Member, Written.{missing, cie_field_bytes, fde_field_bytes}};
+ghost use Rattle.dw_canon.specs.{Members.Member, Written.{cie_field_bytes, fde_field_bytes}};
 ghost use Rattle.dw_canon.specs.Inner.{Canon.cie_instrs, Fits.InstrFits};
-ghost use Rattle.dw_normal.specs.Inner.{Begun.{IsBegun, IsReady, KeepsFde}, Lengths.cie_with, Places.fde_at, Writing.HoldsEntry};
+ghost use Rattle.dw_normal.specs.Inner.{Begun.{IsBegun, IsReady, KeepsFde}, ChangeWalk.{Stand, later_bytes}, Lengths.cie_with, Places.fde_at};
+ghost use Rattle.dw_normal.specs.Inner.{Puts.{Fills, Holds, SameRoom}, Writing.unsized};
 
 use crate::apart::Differences;
 use crate::begun::Begun;
 use crate::instruction::push_uleb;
+use crate::output::{Output, Stop};
 use crate::program::{push_difference, push_first, push_later};
 use byteorder::{BigEndian, ByteOrder, LittleEndian};
 use dw_num::{Order, Size, Target, put_fixed};
 use dw_row::Row;
+use dw_section::Changes;
 use std::alloc::AllocError;
 
-/// How long so many bytes are with their nops. With the width in each case there is no division.
-#[inline(always)]
-#[tactic(auto, using(crate::proofs::NopsLeft::up_to_four, crate::proofs::NopsLeft::up_to_eight))]
-pub(crate) fn filled_len(len: usize, size: Size) -> usize
-    requires { len + 8 < 2 ^ 64 }
-    ensures { result ≡ len + missing size len }
-{
-    match size {
-        Size::Four => (len + 3) / 4 * 4,
-        Size::Eight => (len + 7) / 8 * 8,
-    }
-}
+// Changes that are counted alone are written up to so many bytes at a time.
+const CHUNK: usize = 65_536;
 
-// Appends the nops that fill an entry up to a multiple of the address size: as many as there may be, of which what is not missing goes.
-#[inline(always)]
-#[tactic(auto, using(crate::proofs::NopsLeft::nops_left))]
-fn push_nops(out: &mut Vec<u8>, size: Size) -> Result<(), AllocError>
-    ensures { OnOk result (out.new.items ≡ out.old.items ++ replicate (missing size (length out.old.items)) 0) }
-{
-    let len = out.len();
-    out.extend_from_slice(&[0; 8])?;
-    out.truncate(filled_len(len, size));
-    Ok(())
-}
-
-/// Makes a buffer a CIE with an initial row, with room for its length.
+/// Makes the entry a CIE with an initial row.
 pub(crate) fn fill_cie<'a>(
-    out: &mut Vec<u8>,
+    out: &mut Output,
     register: u16,
     initial: &Row<'a>,
     target: Target,
-) -> Result<(), AllocError>
-    requires { AllByRecursion (InstrFits target) (cie_instrs initial.now) }
-    ensures { OnOk result (HoldsEntry target (cie_with target (register, initial.now)) out.new.items) }
+) -> Result<(), Stop>
+    requires room { out.old.room ≤ 2147483647 }
+    requires fits { AllByRecursion (InstrFits target) (cie_instrs initial.now) }
+    ensures contents { Fills (unsized target (cie_with target (register, initial.now))) result out.old out.new }
+    ensures room { SameRoom out.old out.new }
 {
-    let blank = Row::blank(*out.allocator());
-    out.clear();
-    put_fixed(out, target.order, 4, 0)?;
-    put_fixed(out, target.order, 4, 0xffffffff)?;
+    let bytes = &mut out.bytes;
+    let blank = Row::blank(*bytes.allocator());
+    bytes.clear();
+    put_fixed(bytes, target.order, 4, 0)?;
+    put_fixed(bytes, target.order, 4, 0xffffffff)?;
     // Version 4, no augmentation, the factors 1 and -1.
-    out.extend_from_slice(&[4, 0, target.size.byte_count(), 0, 1, 127])?;
-    push_uleb(out, u64::from(register))?;
-    push_difference(out, &blank, &blank, initial, &Differences::Rows, target)?;
-    push_nops(out, target.size)
+    bytes.extend_from_slice(&[4, 0, target.size.byte_count(), 0, 1, 127])?;
+    push_uleb(bytes, u64::from(register))?;
+    push_difference(bytes, &blank, &blank, initial, &Differences::Rows, target)?;
+    out.gone = 0;
+    out.push_nops(target.size)
 }
 
 /// Writes a number of four or eight bytes at the front of a slice.
@@ -106,31 +91,59 @@ fn begin_fde_entry(
     }
 }
 
-/// Makes a buffer an FDE, where its CIE stands at a place, with room for its length.
+// Appends the changes that are still to come behind an address, whose row is shown. Where they are counted alone, few of them are held.
+fn push_changes<'a>(
+    out: &mut Output,
+    changes: &mut Changes<'a>,
+    shared: &Row<'a>,
+    begin: u64,
+    target: Target,
+) -> Result<(), Stop>
+    requires stand { Stand target shared.now begin changes.old }
+    requires holds { (front : List ℕ) × Holds out.old front }
+    ensures contents { (front : List ℕ) → Holds out.old front → Fills (front ++ later_bytes target shared.now begin changes.old) result out.old out.new }
+    ensures room { SameRoom out.old out.new }
+    ensures section { changes.new.section ≡ changes.old.section }
+{
+    let most = if out.counts { CHUNK } else { usize::MAX };
+    let mut at = begin;
+    'changes: while let Some(next) = push_later(
+        &mut out.bytes,
+        changes,
+        shared,
+        at,
+        target,
+        most,
+    )? {
+        out.let_go()?;
+        at = next;
+    }
+    Ok(())
+}
+
+/// Makes the entry an FDE.
 pub(crate) fn fill_fde(
-    out: &mut Vec<u8>,
-    cie_at: u64,
+    out: &mut Output,
     begun: &mut Begun<'_, '_>,
     target: Target,
-) -> Result<(), AllocError>
+) -> Result<(), Stop>
+    requires room { out.old.room ≤ 2147483647 }
     requires ready { IsReady target begun.old }
-    requires cie_at { cie_at < 2 ^ 32 }
+    requires cie_at { begun.old.cie_at < 2 ^ 32 }
     requires begin { begun.old.fde.begin < address_limit target.size }
     requires rises { begun.old.fde.begin ≤ begun.old.fde.end }
     requires range { begun.old.fde.end < begun.old.fde.begin + address_limit target.size }
-    ensures contents { (ms : List Member) (m : Member) → IsBegun ms m begun.old → OnOk result (HoldsEntry target (fde_at target cie_at ms m) out.new.items) }
+    ensures contents { (ms : List Member) (m : Member) → IsBegun ms m begun.old → Fills (unsized target (fde_at target begun.old.cie_at ms m)) result out.old out.new }
+    ensures room { SameRoom out.old out.new }
     ensures section { begun.new.changes.section ≡ begun.old.changes.section }
     ensures kept { KeepsFde begun.old begun.new }
 {
     let (listed, shared) = (begun.fde, begun.shared);
     let begin = u128::from(listed.begin);
     let range = (listed.end - begin) as u64;
-    begin_fde_entry(out, cie_at, listed.begin, range, target)?;
-    push_first(out, shared, &begun.changes, &begun.apart, target)?;
-    let changes = &mut begun.changes;
-    // No buffer is so long that something is left.
-    let None = push_later(out, changes, shared, listed.begin, target, usize::MAX)? else {
-        return Err(AllocError);
-    };
-    push_nops(out, target.size)
+    begin_fde_entry(&mut out.bytes, begun.cie_at, listed.begin, range, target)?;
+    push_first(&mut out.bytes, shared, &begun.changes, &begun.apart, target)?;
+    out.gone = 0;
+    push_changes(out, &mut begun.changes, shared, listed.begin, target)?;
+    out.push_nops(target.size)
 }

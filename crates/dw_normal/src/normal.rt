@@ -7,12 +7,13 @@ ghost use Rattle.dw_op.specs.Faults.{IsWithin};
 ghost use Rattle.dw_section.specs.{Accepted.Accepted, Meanings.SameMeaning};
 ghost use Rattle.dw_canon.specs.Normal.{IsNormalForm};
 ghost use Rattle.dw_normal.specs.Answers.{FitsCap, IsWithinEither, NormalFault, RefusesWithin, SameFault, Writes, too_long};
-ghost use Rattle.dw_normal.specs.Inner.{Answers.{LengthFault, blamed, unread, unwritten}, Puts.put_is};
+ghost use Rattle.dw_normal.specs.Inner.Answers.{LengthFault, blamed, unread, unwritten};
 ghost use Rattle.dw_normal.specs.declared.error.SameError.TheVariants as TheSameError;
 
-use crate::entry::{PutError, write_entries};
+use crate::entry::write_entries;
 use crate::error::{SameError, Which, WriteError};
 use crate::likeness::same_tables;
+use crate::output::{Output, Stop};
 use crate::preparation::{measured_section, prepared, prepared_section};
 use crate::sink::{Sink, Tape};
 use dw_canon::normal_laws;
@@ -20,8 +21,8 @@ use dw_num::{ReadError, Target, are_bytes};
 use dw_section::{Table, check, section_laws};
 use std::alloc::Global;
 
-// The most bytes that a section has.
-const LIMIT: u64 = 2_147_483_647;
+/// The most bytes that a section has.
+pub(crate) const LIMIT: u64 = 2_147_483_647;
 
 /// The normal form of a section, of at most `cap` bytes, where `cap` is at most 2,147,483,647.
 ///
@@ -96,17 +97,6 @@ fn unread(error: WriteError) -> ReadError
     }
 }
 
-// The answer of a call that writes.
-fn put_is(put: Result<u64, PutError>) -> Result<u64, WriteError>
-    ensures { result ≡ put_is put }
-{
-    match put {
-        Ok(count) => Ok(count),
-        Err(PutError::Write { written }) => Err(WriteError::Write { written }),
-        Err(PutError::Memory { written }) => Err(WriteError::Memory { written }),
-    }
-}
-
 /// Writes the normal form of a section, of at most `cap` bytes, to a sink, and answers how many bytes were written. Each refusal
 /// comes before the first byte. `cap` is at most 2,147,483,647.
 ///
@@ -127,9 +117,20 @@ pub fn normalise_to<S: Sink>(
 {
     are_bytes(bytes);
     section_laws();
-    match prepared_section(alloc, bytes, target, cap) {
-        Ok(ready) => put_is(write_entries(alloc, sink, &ready)),
-        Err(error) => Err(unwritten(error)),
+    let ready = match prepared_section(alloc, bytes, target, cap) {
+        Ok(ready) => ready,
+        Err(error) => return Err(unwritten(error)),
+    };
+    let mut out = Output::new(alloc, cap, false);
+    let end = write_entries(alloc, sink, &mut out, &ready);
+    let written = cap.saturating_sub(out.room);
+    let Err(stop) = end else {
+        return Ok(written);
+    };
+    match stop {
+        Stop::Full => unreachable!(),
+        Stop::Failed => Err(WriteError::Write { written }),
+        Stop::Memory => Err(WriteError::Memory { written }),
     }
 }
 

@@ -4,8 +4,10 @@ ghost use Rattle.std.specs.Prelude.{◌≡◌, ◌≤◌, IfOk, IfErr};
 ghost use Rattle.dw_num.specs.Refusals.{Refuses};
 ghost use Rattle.dw_normal.specs.{Answers.{IsTooLong, NormalFault, too_long}, Inner.Answers.{IsPrepared, IsMeasured}, Inner.Listed.{AreInitial}};
 
+use crate::entry::write_entries;
 use crate::groups::{Ready, make_ready};
-use crate::length::measured;
+use crate::output::{Output, Stop};
+use crate::sink::Tape;
 use dw_num::{Code, ReadError, Refusal, Target};
 use dw_section::{Table, check};
 use std::alloc::Global;
@@ -18,9 +20,10 @@ fn measured_within(alloc: Global, ready: &Ready<'_>, cap: u64) -> Result<u64, Re
     ensures first { IfErr result (Refuses (λ r. IsTooLong ready.now.table.target cap ready.now.table.bytes × (r ≡ too_long))) }
 {
     ready.table.accepted();
-    match measured(alloc, ready, cap) {
-        Ok(Some(len)) => Ok(len),
-        Ok(None) => Err(ReadError::Refused(Refusal {
+    let mut out = Output::new(alloc, cap, true);
+    match write_entries(alloc, &mut Tape::new(alloc), &mut out, ready) {
+        Ok(()) => Ok(cap - out.room),
+        Err(Stop::Full) => Err(ReadError::Refused(Refusal {
             code: Code::NormalTooLong,
             at: 0,
         })),

@@ -1,10 +1,9 @@
--- What is known of a table: of the FDEs that it lists, and of its normal form.
-use Rattle.std.specs.Prelude.{◌≡◌, ℕ, ◌<◌, ◌≤◌, List, length, slice_index_or}
+-- What is known of a table: of the FDEs that it lists, and of the CIEs of its normal form.
+use Rattle.std.specs.Prelude.{◌≡◌, ℕ, ◌<◌, List, length, slice_index_or}
 use Rattle.dw_num.specs.declared.target.Target.{Target}
 use Rattle.dw_row.specs.Rows.{Rules}
 use Rattle.dw_section.specs.{Meaning.AreFdes, Table.Section, declared.lookup.Fde.Fde}
 use Rattle.dw_canon.specs.Members.{Member, AreMembers}
-use Rattle.dw_canon.specs.Inner.Canon.{canon}
 use Rattle.dw_normal.specs.Inner.{Groups.initial_rows, Places.{place_in, cie_place}}
 
 -- it lists an FDE at a place
@@ -38,7 +37,3 @@ AreInitial table rows = (ms : List Member) → AreMembers table.target table.byt
 -- and at these places stand the CIEs with such rows
 abbrev pub ArePlaces : Target → List (ℕ × Rules) → List (ℕ × ℕ) → Type 0
 ArePlaces target rows places = (register : ℕ) → place_in places register ≡ cie_place target 0 rows register
-
--- its normal form is within the limit
-abbrev pub IsSmall : Section → Type 0
-IsSmall table = (ms : List Member) → AreMembers table.target table.bytes ms → length (canon table.target ms) ≤ 2147483647

@@ -1,9 +1,15 @@
 use Rattle.dw_normal.proofs.Words.{◌≡◌, get_or, List, map, sym, ap, ◌∙◌, subst, get_or-map, Rules, Member, AreMembers, fde_of, members_exist, Begun, IsBegun, Walks, IsReady, Known, NotesSame, row_or_blank, shown_row, StandsApart}
-use Rattle.dw_normal.proofs.{Apartness.{known_first, still_same}, Filled.on_ok, Grouped.no_member, Placed.{below, listed_row, listed_some, ready_at, same_row}, begun.begin_fde.Goals.After-list}
+use Rattle.dw_normal.proofs.{Apartness.{known_first, still_same}, Filled.on_ok, Grouped.no_member, Located.has_place, Placed.{below, listed_row, listed_some, ready_at, same_row}, begun.begin_fde.Goals.After-list}
 use Rattle.dw_normal.proofs.begun.begin_fde.Goals as goal
 
 pub shared_row-begun-requires-clause-some : goal.shared_row-begun-requires-clause-some
 shared_row-begun-requires-clause-some c = listed_some c.accepted.ensures.bytes c.accepted.ensures.accepted c.requires.walks.rows c.requires.place c.fde-begun.ensures
+
+pub cie_of-begun-requires-clause-some : goal.cie_of-begun-requires-clause-some
+cie_of-begun-requires-clause-some c =
+    let ready = c.args.begun.now.ready.now in
+    has_place ready.table.target ready.rows.entries c.args.begun.now.places.now.entries c.fde-begun.result.return_register c.requires.walks.places
+    (listed_some c.accepted.ensures.bytes c.accepted.ensures.accepted c.requires.walks.rows c.requires.place c.fde-begun.ensures)
 
 pub list-requires : goal.list-requires
 list-requires c =
@@ -12,7 +18,15 @@ list-requires c =
     c.go_behind_first.new.changed c.args.begun.now.apart.known.cies c.in_ok-behind.ensures.section c.in_ok-behind.ensures.stands c.requires.walks.known
 
 abbrev new : After-list → Begun
-new c = record { ready = c.args.begun.now.ready; fde = c.fde-begun.result; shared = c.shared_row-begun.result; changes = c.go_behind_first.new.changes; apart = c.list.new.self }
+new c = record {
+  ready = c.args.begun.now.ready;
+  places = c.args.begun.now.places;
+  fde = c.fde-begun.result;
+  shared = c.shared_row-begun.result;
+  cie_at = c.cie_of-begun.result;
+  changes = c.go_behind_first.new.changes;
+  apart = c.list.new.self;
+}
 
 begins : (c : After-list) (ms : List Member) → AreMembers c.args.begun.now.ready.now.table.target c.args.begun.now.ready.now.table.bytes ms → (d : Member) → IsBegun ms (get_or ms c.args.fde.place d) (new c)
 begins c ms are d =
@@ -54,8 +68,11 @@ returns-clause-walks c =
     on_ok c.list.result (NotesSame behind register known shared c.in-Some.first.now cies) (Walks (new at))
     (λ notes. record {
       rows = c.requires.walks.rows;
+      places = c.requires.walks.places;
+      low = c.requires.walks.low;
       section = c.in_ok-behind.ensures.section;
       shared = c.shared_row-begun.ensures;
+      stands = c.cie_of-begun.ensures;
       known =
           still_same ready.table ready.rows.entries register shared c.shared_row-begun.ensures c.go_behind_first.new.changes behind known cies
           (λ place x y. c.section_laws.ensures.left ready.table.target ready.table.bytes place x y c.accepted.ensures.bytes) c.in_ok-behind.ensures.section c.in_ok-behind.ensures.stands c.requires.walks.known

@@ -1,37 +1,52 @@
-use Rattle.dw_normal.proofs.Words.{◌∙◌, refl, arith, take_all}
-use Rattle.dw_normal.proofs.{Alike.{fdes_more_like, untrue}, Grouped.no_member, Placed.as_many}
+use Rattle.dw_normal.specs.Inner.Writing.{table_of}
+use Rattle.dw_normal.proofs.Words.{◌≡◌, ◌<◌, ◌∙◌, List, length, get_or, refl, arith, take_all, Member, AreMembers, fde_with, unsized}
+use Rattle.dw_normal.proofs.{Alike.{alike, fdes_more_like, fdes_same, unlike}, Joined.held_kept, Grouped.no_member, Placed.as_many, likeness.same_over.Goals.After-ne}
 use Rattle.dw_normal.proofs.likeness.same_over.Goals as goal
 
 pub fdes-init : goal.fdes-init
-fdes-init c = record { same = λ ms ns are others. refl; writing = (c.requires.writing, c.requires.other_writing); ready = (refl, refl) }
+fdes-init c = record { same = λ ms ns are others. refl; walks = c.requires.walks; ready = (refl, refl); kept = c.requires.kept }
 
-pub same_fdes-requires : goal.same_fdes-requires
-same_fdes-requires c =
-    let inv = c.fdes.invariant in record {
-      target = rw (inv.ready.0, inv.ready.1) c.requires.target;
-      place = rw inv.ready.0 (λ fs are. omega (arith, c.requires.count fs are, c.fdes-test.true));
-      other_place = rw inv.ready.1 (λ fs are. omega (arith, c.requires.other_count fs are, c.fdes-test.true));
-      writing = inv.writing.0;
-      other_writing = inv.writing.1;
-    }
+pub fill_next-requires : goal.fill_next-requires
+fill_next-requires c =
+    let inv = c.fdes.invariant in
+    record { room = inv.kept.0.1; place = rw inv.ready.0 (λ fs are. omega (arith, c.requires.count fs are, c.fdes-test.true)); walks = inv.walks.0 }
 
-pub returns-then-not-branch : goal.returns-then-not-branch
-returns-then-not-branch c = λ ms ns are others.
-    let same = rw (c.fdes.invariant.ready.0, c.fdes.invariant.ready.1) at c.in_ok-same_fdes.ensures.same in
-    let here = same ms ns are others no_member in
-    (λ e. untrue _ c.if-not-branch.true (here.0 e), λ yes. absurd cc)
+pub fill_next-requires-in-fdes : goal.fill_next-requires-in-fdes
+fill_next-requires-in-fdes c =
+    let inv = c.fdes.invariant in
+    record { room = inv.kept.1.1; place = rw inv.ready.1 (λ fs are. omega (arith, c.requires.other_count fs are, c.fdes-test.true)); walks = inv.walks.1 }
+
+-- the FDEs that were built of both
+mine : (c : After-ne) (ms : List Member) → AreMembers (table_of c.args.one.now).target (table_of c.args.one.now).bytes ms
+    → c.fill_next.new.out.bytes.items ≡ unsized (table_of c.args.one.now).target (fde_with (table_of c.args.one.now).target ms (get_or ms c.fdes.place no_member))
+mine c ms are =
+    let built = rw c.fdes.invariant.ready.0 at c.in_ok-fill_next.ensures.contents in
+    held_kept (built ms are no_member) (c.in_ok-fill_next.ensures.room.1 ∙ c.fdes.invariant.kept.0.0)
+
+other : (c : After-ne) (ns : List Member) → AreMembers (table_of c.args.two.now).target (table_of c.args.two.now).bytes ns
+    → c.fill_next-in-fdes.new.out.bytes.items ≡ unsized (table_of c.args.two.now).target (fde_with (table_of c.args.two.now).target ns (get_or ns c.fdes.place no_member))
+other c ns others =
+    let built = rw c.fdes.invariant.ready.1 at c.in_ok-fill_next-2.ensures.contents in
+    held_kept (built ns others no_member) (c.in_ok-fill_next-2.ensures.room.1 ∙ c.fdes.invariant.kept.1.0)
+
+pub returns-then-ne : goal.returns-then-ne
+returns-then-ne c = λ ms ns are others.
+    let at = (goal.at.returns-then-ne c).After-ne in
+    (λ e. absurd (unlike _ _ c.ne.result c.ne.ensures c.if-ne.true (fdes_same c.requires.target ms ns c.fdes.place no_member _ _ (mine at ms are) (other at ns others) e)), λ yes. absurd cc)
 
 pub fdes-preserved : goal.fdes-preserved
 fdes-preserved c =
-    let inv = c.fdes.invariant in record {
+    let at = (goal.at.fdes-preserved c).After-ne in
+    let inv = c.fdes.invariant in
+    let one = c.in_ok-fill_next.ensures in
+    let two = c.in_ok-fill_next-2.ensures in record {
       same = λ ms ns are others.
-          let count = as_many are c.requires.count in
-          let other = as_many others c.requires.other_count in
-          let same = rw (inv.ready.0, inv.ready.1) at c.in_ok-same_fdes.ensures.same in
-          let here = same ms ns are others no_member in
-          fdes_more_like c.requires.target ms ns c.fdes.place no_member (omega (arith, count, c.fdes-test.true)) (omega (arith, other, c.fdes-test.true)) (inv.same ms ns are others) (here.1 c.if-not-branch.false);
-      writing = c.in_ok-same_fdes.ensures.writing;
-      ready = (c.in_ok-same_fdes.ensures.ready.0 ∙ inv.ready.0, c.in_ok-same_fdes.ensures.ready.1 ∙ inv.ready.1);
+          let lt : c.fdes.place < length ms = omega (arith, as_many are c.requires.count, c.fdes-test.true) in
+          let lt' : c.fdes.place < length ns = omega (arith, as_many others c.requires.other_count, c.fdes-test.true) in
+          fdes_more_like c.requires.target ms ns c.fdes.place no_member lt lt' (inv.same ms ns are others) _ _ (mine at ms are) (other at ns others) (alike _ _ c.ne.result c.ne.ensures c.if-ne.false);
+      walks = (one.walks, two.walks);
+      ready = (one.ready ∙ inv.ready.0, two.ready ∙ inv.ready.1);
+      kept = ((one.room.1 ∙ inv.kept.0.0, omega (arith, one.room.0, inv.kept.0.1)), (two.room.1 ∙ inv.kept.1.0, omega (arith, two.room.0, inv.kept.1.1)));
     }
 
 pub returns : goal.returns

@@ -1,4 +1,4 @@
-use Rattle.dw_normal.proofs.{Words.{◌≡◌, ◌∙◌, ap, sym, length, canon, fdes_bytes}, Alike.{alike, canon_like, cies_unlike, if_likens, unlike}, Placed.as_many}
+use Rattle.dw_normal.proofs.{Words.{◌≡◌, ◌∙◌, Some, ap, sym, length, canon, cies_bytes, fdes_bytes}, Alike.{alike, canon_like, cies_unlike, if_likens, unlike}, Placed.as_many, Reports.on_tape, likeness.same_tables.Goals.After-ne}
 use Rattle.dw_normal.proofs.likeness.same_tables.Goals as goal
 
 pub returns-then-fde_count-count : goal.returns-then-fde_count-count
@@ -7,17 +7,27 @@ returns-then-fde_count-count c = λ ms ns are others.
     let other = as_many others c.fde_count.ensures in
     (λ same. absurd (c.if-fde_count-count.true (other ∙ ap length (sym same) ∙ sym mine)), λ yes. absurd cc)
 
+-- the CIEs of both
+ones : (c : After-ne) → c.into_bytes.result.items ≡ cies_bytes c.args.one.now.table.target c.args.one.now.rows.entries
+ones c = on_tape _ _ (Some c.new-cies.result.bytes.items) (Some c.write_cies.new.sink.bytes.items) c.new-cies.ensures.empty (c.in_ok-write_cies.ensures.puts.2 c.new-mine.ensures.counts) c.into_bytes.ensures
+
+others_are : (c : After-ne) → c.into_bytes-2.result.items ≡ cies_bytes c.args.two.now.table.target c.args.two.now.rows.entries
+others_are c =
+    on_tape _ _ (Some c.new-other_cies.result.bytes.items) (Some c.write_cies-2.new.sink.bytes.items) c.new-other_cies.ensures.empty (c.in_ok-write_cies-2.ensures.puts.2 c.new-other.ensures.counts) c.into_bytes-2.ensures
+
 pub returns-then-ne : goal.returns-then-ne
 returns-then-ne c = λ ms ns are others.
-    let not = unlike c.in_ok-cies.cies.items c.in_ok-cies_of.field-0.items c.ne.result c.ne.ensures c.if-ne.true in
-    (λ same. absurd (cies_unlike c.requires.target ms ns c.args.one.now.rows.entries c.args.two.now.rows.entries (c.requires.rows ms are) (c.requires.other_rows ns others) (λ e. not (c.in_ok-cies.ensures.cies ∙ e ∙ sym c.in_ok-cies_of.ensures.cies)) same), λ is. absurd cc)
+    let at = (goal.at.returns-then-ne c).After-ne in
+    let not = unlike c.into_bytes.result.items c.into_bytes-2.result.items c.ne.result c.ne.ensures c.if-ne.true in
+    (λ same. absurd (cies_unlike c.requires.target ms ns c.args.one.now.rows.entries c.args.two.now.rows.entries (c.requires.rows ms are) (c.requires.other_rows ns others) (λ e. not (ones at ∙ e ∙ sym (others_are at))) same), λ is. absurd cc)
 
 pub returns : goal.returns
 returns c = λ ms ns are others.
+    let at = (goal.at.returns c).After-ne in
     let t = c.args.one.now.table.target in
     let u = c.args.two.now.table.target in
-    let same = alike c.in_ok-cies.cies.items c.in_ok-cies_of.field-0.items c.ne.result c.ne.ensures c.if-ne.false in
-    let cies = sym c.in_ok-cies.ensures.cies ∙ same ∙ c.in_ok-cies_of.ensures.cies in
-    let over = rw (c.room_to_write-first.ensures.ready, c.room_to_write-second.ensures.ready) at c.same_over.ensures in
+    let same = alike c.into_bytes.result.items c.into_bytes-2.result.items c.ne.result c.ne.ensures c.if-ne.false in
+    let cies = sym (ones at) ∙ same ∙ others_are at in
+    let over = rw (c.room_for-first.ensures.ready, c.room_for-second.ensures.ready) at c.same_over.ensures in
     if_likens (ms ≡ ns) (fdes_bytes t ms ms ≡ fdes_bytes u ns ns) (canon t ms ≡ canon u ns) c.same_over.result
     (canon_like t u ms ns c.args.one.now.rows.entries c.args.two.now.rows.entries (c.requires.rows ms are) (c.requires.other_rows ns others) cies) (over ms ns are others)

@@ -1,12 +1,13 @@
-use Rattle.dw_normal.proofs.{Words.refl, Reports.{is_measured, is_too_long}}
+use Rattle.dw_normal.proofs.{Words.{refl, arith, members_exist}, Reports.is_too_long}
 use Rattle.dw_normal.proofs.preparation.measured_within.Goals as goal
 
-pub returns-in-Ok-Some-clause-found : goal.returns-in-Ok-Some-clause-found
-returns-in-Ok-Some-clause-found c =
+pub overflow_sub-result : goal.overflow_sub-result
+overflow_sub-result c =
     let table = c.args.ready.now.table in
-    is_measured table.target table.bytes c.args.cap c.in-Ok-Some.len c.in-Ok-Some.field-0 c.accepted.ensures.bytes c.accepted.ensures.accepted c.in-Ok-Some.field-0-is c.in-Ok-Some.ensures
+    let some = members_exist table.target table.bytes c.accepted.ensures.bytes c.accepted.ensures.accepted in
+    omega (arith, (c.in-Ok.ensures some.0 some.1).1, c.new-out.ensures.room)
 
-pub returns-in-Ok-None-clause-first : goal.returns-in-Ok-None-clause-first
-returns-in-Ok-None-clause-first c =
+pub returns-in-Err-Full-clause-first : goal.returns-in-Err-Full-clause-first
+returns-in-Err-Full-clause-first c =
     let table = c.args.ready.now.table in
-    (is_too_long table.target table.bytes c.args.cap c.in-Ok-None.field-0 c.accepted.ensures.bytes c.accepted.ensures.accepted c.in-Ok-None.field-0-is c.in-Ok-None.ensures, refl)
+    (is_too_long table.target table.bytes c.args.cap c.new-out.result.counts c.in-Err-Full.field-0 _ _ c.accepted.ensures.bytes c.accepted.ensures.accepted c.new-out.ensures.room c.in-Err-Full.field-0-is c.in-Err-Full.ensures, refl)
