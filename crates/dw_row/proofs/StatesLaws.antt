@@ -18,6 +18,9 @@ none_before : (registers : List Entry) (items : List Undo) → items ≡ [] → 
 unfolding rows_before
 none_before registers items none = rw none refl
 
+pub none_stacked : (saved : KeptRow) (registers : List Entry) (items : List Undo) → items ≡ [] → saved.watched ≡ false → stacked saved (rows_before registers (reverse items)).0 ≡ []
+none_stacked saved registers items none off = ap (λ (b : Before). stacked saved b.0) (none_before registers items none) ∙ rw off refl
+
 pub begun_held : (tracked : Bool) (saved : KeptRow) (row kept : Rules) (items : List Undo) → items ≡ [] → saved.watched ≡ false
     → held tracked saved row kept items ≡ record { row = row; stack = []; first = first_if tracked row.registers; kept = kept }
 begun_held tracked saved row kept items none off = ap (shown tracked saved row kept) (none_before row.registers items none) ∙ rw off refl
@@ -73,6 +76,10 @@ module _ {tracked is_listed : Bool} {saved : KeptRow} {row kept : Rules} {items 
       → new ≡ record { row = row'; stack = now.stack; first = now.first; kept = kept' } → OnOk result (new ≡ with_row (with_rule r rule now.row) now)
   ruled (Ok x) new row' kept' r rule set stays same = rw (same, set, stays, ← is) refl
   ruled (Err x) new row' kept' r rule set stays same = tt
+
+  -- or is as it was
+  pub same_states : (new : Held) (row' kept' : Rules) → row' ≡ row → kept' ≡ kept → new ≡ record { row = row'; stack = now.stack; first = now.first; kept = kept' } → new ≡ now
+  same_states new row' kept' same stays at = rw (at, same, stays, ← is) refl
 
   module _ (row' kept' : Rules) (items' : List Undo) where
     abbrev before' : Before
@@ -134,6 +141,12 @@ module _ {tracked is_listed : Bool} {saved : KeptRow} {row kept : Rules} {items 
         let new = none_before row.registers items' empty in
         rw (nothing, first, new, off, on, same, ← ap (λ (h : Held). h.row) is, ← ap (λ (h : Held). h.kept) is) refl
 
+    pub unsaved_held : saved'.watched ≡ false → held tracked saved' row kept items' ≡ now
+    unsaved_held unwatched =
+        let nothing = nil_from_length now.stack (omega (arith, none, depth_is)) in
+        let first = sym (ap (λ (h : Held). h.first) is) ∙ ap (λ (t : Bool). first_if t before.1) off in
+        begun_held tracked saved' row kept items' empty unwatched ∙ rw (off, ← nothing, ← first, ← ap (λ (h : Held). h.row) is, ← ap (λ (h : Held). h.kept) is) refl
+
     pub saved_so : (count : ℕ) → count ≡ length (stacked saved' []) → KeptSo saved' row.registers → StatesSo tracked false saved' count (rows_before row.registers (reverse items')) items'
     saved_so count are since = let new = none_before row.registers items' empty in record { count = rw new are; unlisted = λ e. (off, empty); untracked = λ on. off; since = rw new since }
 
@@ -160,7 +173,7 @@ module _ {tracked is_listed : Bool} {saved : KeptRow} {row kept : Rules} {items 
 
     -- none is listed: the one that is saved is the last, or there is none
     module _ (taken : TakenBack None row (reverse items) row' (reverse items')) where
-      none_left : items' ≡ []
+      pub none_left : items' ≡ []
       none_left = reversed_none items' taken.1
 
       taken_all : before ≡ ([], row'.registers)
@@ -184,7 +197,7 @@ module _ {tracked is_listed : Bool} {saved : KeptRow} {row kept : Rules} {items 
             ap (λ (t : Bool). first_if t row''.registers) free ∙ sym (sym (ap (λ (h : Held). h.first) is) ∙ ap (λ (t : Bool). first_if t before.1) free),
           )
 
-pub ruleset changed = (listed_behind, ruled, same_held, same_so)
+pub ruleset changed = (listed_behind, ruled, same_held, same_so, same_states)
 
 -- ---- changes that are taken back
 
@@ -192,13 +205,15 @@ pub no_items : (items items' : List Undo) → (0 < length items → false ≡ tr
 no_items [] items' none same = (refl, sym (append-nil items') ∙ sym same)
 no_items (u ∷ items) items' none same = let e : false ≡ true = none (omega arith) in absurd cc
 
-pub back_none : (registers : List Entry) (items : List Undo) → items ≡ [] → (rows_before registers (reverse items)).1 ≡ registers
+-- one remembered row fewer lies behind, and what all began with is the same
+pub taken_row : (cfa : CfaRule) (row row' : Rules) (changes changes' : List Undo) → TakenBack (Some cfa) row changes row' changes'
+    → ((rows_before row.registers changes).1 ≡ (rows_before row'.registers changes').1) × (length (rows_before row.registers changes).0 ≡ suc (length (rows_before row'.registers changes').0))
 unfolding rows_before
-back_none registers items none = rw none refl
+taken_row cfa row row' changes changes' taken = (ap (λ (b : Before). b.1) taken, ap (λ (b : Before). length b.0) taken)
 
-pub back_mark : (registers : List Entry) (cfa : CfaRule) (items items' : List Undo) → items ≡ items' ++ Remembered cfa ∷ [] → (rows_before registers (reverse items)).1 ≡ (rows_before registers (reverse items')).1
+pub all_taken : (row row' : Rules) (changes changes' : List Undo) → TakenBack None row changes row' changes' → (rows_before row.registers changes).1 ≡ row'.registers
 unfolding rows_before
-back_mark registers cfa items items' more = rw (last_first (Remembered cfa) items' items more) refl
+all_taken row row' changes changes' taken = ap (λ (b : Before). b.1) taken.0
 
 pub rewound : (tracked : Bool) (saved : KeptRow) (initial row kept : Rules) (items : List Undo) → row ≡ initial → items ≡ [] → saved.watched ≡ false
     → ((held tracked saved row kept items).row ≡ initial) × ((held tracked saved row kept items).stack ≡ []) × BeganWith initial (held tracked saved row kept items).first

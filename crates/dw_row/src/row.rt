@@ -1,6 +1,6 @@
 //! Rows of rules (6.4.1).
 
-ghost use Rattle.std.specs.Prelude.{◌≡◌, ◌<◌, ◌≤◌, ℕ, ℤ, [], ◌∷◌, IfOk, OnOk, OnErr, MatchOption, IsTrue, ◌↔◌, false};
+ghost use Rattle.std.specs.Prelude.{◌≡◌, ◌<◌, ◌≤◌, ℕ, ℤ, ◌∷◌, IfOk, OnOk, OnErr, MatchOption, IsTrue, ◌↔◌, false};
 ghost use Rattle.std.specs.{Int.bit_at, Iterator.{YieldsFirst, item_count}};
 ghost use Rattle.dw_row.specs.{Agreement.{kept, without}, Difference.{FirstDifference, place_behind}};
 ghost use Rattle.dw_row.specs.{RegisterSets.SpecifiesIn, Rows.{AreSpecified, BeginsShort, is_specified, rule, rule_in, blank, with_cfa, with_rule}};

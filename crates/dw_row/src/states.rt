@@ -1,6 +1,6 @@
 //! The current row and the remembered ones (6.4.2.4).
 
-ghost use Rattle.std.specs.Prelude.{◌≡◌, ◌<◌, [], length, reverse, None, OnOk, IfOk, IsTrue, ◌↔◌, false};
+ghost use Rattle.std.specs.Prelude.{◌≡◌, ◌<◌, [], length, reverse, None, OnOk, IfOk, OnErr, IsTrue, ◌↔◌, false};
 ghost use Rattle.dw_row.specs.{Difference.{FirstDifference, place_behind}, Rows.{AreSpecified, blank, rule_in, with_cfa, with_rule}};
 ghost use Rattle.dw_row.specs.{Inner.{Kept.KeptSo, States.{TakenBack, rows_before}}, States.{first_if, BeganWith, Restored, remembering, with_row}};
 
@@ -98,30 +98,8 @@ fn take_listed<'a>(
     take_back(row, kept, undo)
 }
 
-// Takes all changes of registers back.
-#[inline(never)]
-#[tactic(auto, using(crate::proofs::StatesLaws::back_mark, crate::proofs::StatesLaws::back_none, crate::proofs::StatesLaws::change_behind, crate::proofs::StatesLaws::no_items))]
-fn take_all_back<'a>(
-    row: &mut Row<'a>,
-    kept: &mut KeptRow<'a>,
-    undo: &mut SmallVec<Undo<'a>, MOST_LISTED>,
-) -> Result<(), AllocError>
-    requires { KeptSo kept.old row.old.registers }
-    ensures registers { OnOk result (row.new.registers ≡ (rows_before row.old.registers (reverse undo.old.items)).1) }
-    ensures kept { kept.new.row ≡ kept.old.row }
-    ensures so { KeptSo kept.new row.new.registers }
-{
-    'changes: while let Some(change) = undo.pop() {
-        match change {
-            Undo::Remembered(_) => {}
-            Undo::Register(register, rule) => kept.set(row, register, rule)?,
-        }
-    }
-    Ok(())
-}
-
 // Brings the initial row back.
-#[tactic(auto, using(crate::proofs::Marked::unwatched))]
+#[tactic(auto, using(crate::proofs::Marked::unwatched, crate::proofs::StatesLaws::taken_row, crate::proofs::StatesLaws::all_taken))]
 fn first_again<'a>(
     tracked: bool,
     row: &mut Row<'a>,
@@ -136,7 +114,7 @@ fn first_again<'a>(
     ensures so { KeptSo kept.new row.new.registers }
 {
     if tracked {
-        take_all_back(row, kept, undo)?;
+        'rows: while let Some(_) = take_back(row, kept, undo)? {}
         row.set_cfa(initial.cfa());
         return Ok(());
     }
@@ -283,6 +261,7 @@ impl<'a> States<'a> {
     fn change(&mut self, register: u16, rule: RegRule<'a>) -> Result<(), AllocError>
         ensures kept { self.new.kept ≡ self.old.kept }
         ensures changed { OnOk result (self.new ≡ with_row (with_rule register rule.entry self.old.row) self.old) }
+        ensures err { OnErr result (self.new ≡ self.old) }
     {
         self.is_listed = true;
         self.row.ascends();
@@ -292,12 +271,13 @@ impl<'a> States<'a> {
         Ok(())
     }
 
-    /// Gives a register a rule, or answers want of memory.
-    #[tactic(auto, using(crate::proofs::StatesLaws::ruled, crate::proofs::StatesLaws::set_held))]
+    /// Gives a register a rule, or answers want of memory, and is as before then.
+    #[tactic(auto, using(crate::proofs::StatesLaws::ruled, crate::proofs::StatesLaws::set_held, crate::proofs::StatesLaws::same_states))]
     #[inline(always)]
     pub fn set(&mut self, register: u16, rule: RegRule<'a>) -> Result<(), AllocError>
         ensures kept { self.new.kept ≡ self.old.kept }
         ensures set { OnOk result (self.new ≡ with_row (with_rule register rule.entry self.old.row) self.old) }
+        ensures err { OnErr result (self.new ≡ self.old) }
     {
         if self.is_listed {
             return self.change(register, rule);
@@ -313,17 +293,19 @@ impl<'a> States<'a> {
     fn set_rule_of(&mut self, row: &Row<'a>, register: u16) -> Result<(), AllocError>
         ensures kept { self.new.kept ≡ self.old.kept }
         ensures set { OnOk result (self.new ≡ with_row (with_rule register (rule_in row.now.registers register) self.old.row) self.old) }
+        ensures err { OnErr result (self.new ≡ self.old) }
     {
         self.set(register, row.rule(register))
     }
 
-    /// Gives a register the rule that a row gives it, or answers want of memory. Out of line, as the loop that runs a program is
-    /// large enough.
-    #[tactic(auto, using(crate::proofs::StatesLaws::ruled, crate::proofs::StatesLaws::set_held))]
+    /// Gives a register the rule that a row gives it, or answers want of memory, and is as before then. Out of line, as the loop
+    /// that runs a program is large enough.
+    #[tactic(auto, using(crate::proofs::StatesLaws::ruled, crate::proofs::StatesLaws::set_held, crate::proofs::StatesLaws::same_states))]
     #[inline(never)]
     pub fn set_as(&mut self, row: &Row<'a>, register: u16) -> Result<(), AllocError>
         ensures kept { self.new.kept ≡ self.old.kept }
         ensures set { OnOk result (self.new ≡ with_row (with_rule register (rule_in row.now.registers register) self.old.row) self.old) }
+        ensures err { OnErr result (self.new ≡ self.old) }
     {
         if register >= NEAR {
             return self.set_rule_of(row, register);
@@ -345,6 +327,7 @@ impl<'a> States<'a> {
         requires { length self.old.stack < 64 }
         ensures kept { self.new.kept ≡ self.old.kept }
         ensures remembered { OnOk result (self.new ≡ remembering self.old) }
+        ensures err { OnErr result (self.new ≡ self.old) }
     {
         let cfa = self.row.cfa();
         self.is_listed = true;
@@ -353,12 +336,13 @@ impl<'a> States<'a> {
         Ok(())
     }
 
-    /// Remembers the current row.
+    /// Remembers the current row, or answers want of memory, and is as before then.
     #[inline(never)]
     pub fn remember(&mut self) -> Result<(), AllocError>
         requires { length self.old.stack < 64 }
         ensures kept { self.new.kept ≡ self.old.kept }
         ensures remembered { OnOk result (self.new ≡ remembering self.old) }
+        ensures err { OnErr result (self.new ≡ self.old) }
     {
         if !saves(self.tracked, self.depth, &self.row) {
             return self.list_row();
@@ -375,6 +359,7 @@ impl<'a> States<'a> {
     pub fn restore(&mut self) -> Result<bool, AllocError>
         ensures kept { self.new.kept ≡ self.old.kept }
         ensures restored { IfOk result (λ found. Restored found self.old self.new) }
+        ensures none { OnErr result (self.new.stack ≡ []) }
     {
         match take_listed(
             self.is_listed,

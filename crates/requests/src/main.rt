@@ -20,6 +20,7 @@ mod lookups;
 mod numbers;
 mod programs;
 mod sections;
+mod states;
 
 use dw_num::{Order, Size, Target};
 use std::test::Fail;
@@ -52,6 +53,7 @@ fn made(rt: &HostRuntime, call: &str, bytes: &[u8], target: Target) -> Result<()
         "none" => Ok(()),
         "numbers" => numbers::all(rt),
         "registers" => numbers::registers(rt),
+        "states" => states::all(rt),
         "dumps" => evaluations::dumps(rt),
         "evaluate" | "locate" => evaluations::all(rt, call),
         "entries" => sections::all_entries(rt, bytes, target),

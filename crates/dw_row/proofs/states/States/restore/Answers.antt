@@ -1,5 +1,5 @@
 use Rattle.dw_row.specs.declared.kept_row.KeptRow.{KeptRow}
-use Rattle.dw_row.proofs.{Words.{false, refl}, StatesLaws.{back_held, back_so, begun_so, found_count, found_held, found_so, none_held, none_since}}
+use Rattle.dw_row.proofs.{Words.{err_from_is_err_and, false, refl}, StatesLaws.{back_held, back_so, begun_so, found_count, found_held, found_so, none_held, none_left, none_since, none_stacked}}
 use Rattle.dw_row.proofs.states.States.restore.Goals as goal
 
 pub overflow_sub-self : goal.overflow_sub-self
@@ -48,3 +48,14 @@ pub invariant_of-self-in-Err : goal.invariant_of-self-in-Err
 invariant_of-self-in-Err c =
     let tracked = c.self.inside.tracked in
     (c.take_listed.ensures.so, begun_so tracked tracked (λ off. off) _ c.take_listed.new.row.registers c.clear.new.self.items c.clear.ensures.items refl)
+
+pub returns-in_err-back-in-Ok-None-clause-none : goal.returns-in_err-back-in-Ok-None-clause-none
+returns-in_err-back-in-Ok-None-clause-none c =
+    let new = c.take_listed.new in let own = c.self.inside.saved in let saved : KeptRow = record { row = own.row; changed = own.changed; watched = false } in
+    let none = none_left c.self.view_is c.self.invariant.1 new.row new.kept.row new.undo.items (rw c.in-Ok-None.field-0-is at c.in-Ok-None.ensures.ok) in
+    rw (err_from_is_err_and c.from_residual.result c.from_residual.ensures.1).1 (none_stacked saved c.go_back-back.new.current.registers new.undo.items none refl)
+
+pub returns-in-Err-clause-none : goal.returns-in-Err-clause-none
+returns-in-Err-clause-none c =
+    let own = c.self.inside.saved in let saved : KeptRow = record { row = own.row; changed = own.changed; watched = false } in
+    none_stacked saved c.take_listed.new.row.registers c.clear.new.self.items c.clear.ensures.items refl
