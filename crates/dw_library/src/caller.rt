@@ -132,12 +132,10 @@ fn told_fault(error: UnwindError) -> (u32, Fault)
             Status::Unreadable as u32,
             fault_in(column, 0, 0, address, len, 0),
         ),
-        UnwindError::NoRegister { column, register } => {
-            (
-                Status::NoRegister as u32,
-                fault_in(column, 0, 0, 0, 0, register),
-            )
-        }
+        UnwindError::NoRegister { column, register } => (
+            Status::NoRegister as u32,
+            fault_in(column, 0, 0, 0, 0, register),
+        ),
         UnwindError::Device { column } => (Status::Device as u32, fault_in(column, 0, 0, 0, 0, 0)),
         UnwindError::NoFde => (Status::NoFde as u32, Fault::default()),
         UnwindError::OutOfMemory => (Status::OutOfMemory as u32, Fault::default()),
