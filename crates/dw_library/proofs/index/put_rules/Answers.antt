@@ -1,4 +1,4 @@
-use Rattle.dw_library.proofs.{Words.{rules, ◌<◌, ◌∙◌, sym, FitsSigned, to_z-of_z, w64}, Overlays.{overlaid_more, overlaid_all}}
+use Rattle.dw_library.proofs.{Words.{rules, ◌∙◌, sym, to_z-of_z, w64}, Overlays.{overlaid_more, overlaid_all}}
 use Rattle.dw_library.proofs.index.put_rules.Goals as goal
 
 pub rules-preserved-in-Some : goal.rules-preserved-in-Some
