@@ -1,6 +1,5 @@
 -- What a terminal is shown: a text before the first order is shown as it is.
-use Rattle.dw_command.proofs.Words.{◌≡◌, ◌≤◌, ◌+◌, ◌∙◌, ap, arith, ℕ, suc, Bool, true, false, List, [], ◌∷◌, refl, sym, length, take, Option, Some, None, nat_lt, cond, not, position, position_or_len, ltb-false}
-use Rattle.std.specs.Prelude.{unwrap_or}
+use Rattle.dw_command.proofs.Words.{◌≡◌, ◌≤◌, ◌+◌, ◌∙◌, ap, arith, ℕ, suc, Bool, true, false, List, [], ◌∷◌, refl, length, take, Option, Some, None, nat_lt, cond, not, position, position_or_len, unwrap_or, ltb-false}
 use Rattle.std.proofs.lemmas.List.Sums.{prefix_len-le-length}
 use Rattle.dw_command.specs.Inner.Terminal.{is_order, shown}
 
@@ -23,7 +22,6 @@ plain_of xs found n is plain = of (nat_lt (position_or_len is_order xs) (length 
     most : position_or_len is_order xs ≤ length xs
     most = prefix_len-le-length (λ x. not (is_order x)) xs
 
-    of : (b : Bool) → nat_lt (position_or_len is_order xs) (length xs) ≡ b → n ≡ unwrap_or (cond b (Some (position_or_len is_order xs)) None) (length xs)
-        → n ≡ position_or_len is_order xs
+    of : (b : Bool) → nat_lt (position_or_len is_order xs) (length xs) ≡ b → n ≡ unwrap_or (cond b (Some (position_or_len is_order xs)) None) (length xs) → n ≡ position_or_len is_order xs
     of true less same = same
     of false least same = let p = ltb-false (position_or_len is_order xs) (length xs) least in omega (arith, same, p, most)

@@ -2,10 +2,10 @@
 unfoldable pub use Rattle.std.specs.Fmt.{digits}
 pub use Rattle.std.specs.{Fmt.{digit_glyph, digits_onto}, Io.KnownBytes.{Appends, Keeps, append_known}, List.{AllByRecursion, AllZip, position_or_len}}
 pub use Rattle.std.proofs.Common.{Bool, Err, IfErr, IfOk, IsOk, List, MatchResult, None, Ok, OnOk, Option, Result, Some, [], add-mul, ap, append-nil, append_assoc, ap₂, arith, bit_and, bit_or, codes, cond, decimal, drop, eq-or-lt_of_le}
-pub use Rattle.std.proofs.Common.{eqb-true, false, get_or, if◌then◌else◌, inl, inr, is_err, length, length-append, length-drop, length-take, length-take-le, ltb-false, ltb-true, map, min, mod-eq_of_lt, mul-lt-mul_of_pos_right}
+pub use Rattle.std.proofs.Common.{eqb-true, false, get_or, if◌then◌else◌, inl, inr, is_err, unwrap_or, length, length-append, length-drop, length-take, length-take-le, ltb-false, ltb-true, map, min, mod-eq_of_lt, mul-lt-mul_of_pos_right}
 pub use Rattle.std.proofs.Common.{mul_assoc, mul_comm, nat_lt, not, option_map, position, pow-add, pow-suc, refl, rules, slice_index, string_bytes, subst, suc, sym, take, take-add, take-append-drop, true, w64, zero, ℕ, ⊎_elim, ◌%◌}
 pub use Rattle.std.proofs.{Common.{◌*◌, ◌++◌, ◌+◌, ◌-◌, ◌/◌, ◌<◌, ◌==◌, ◌^◌, ◌∙◌, ◌∷◌, ◌≡◌, ◌≤◌, ◌⊎◌, ◌&&◌}, KnownBytes.{Appends-kept, Appends-nil, Appends-trans, Keeps-refl, append_known-moved}, Math.Seq.{take-append-add, take-append_seam}}
-pub use Rattle.std.proofs.lemmas.{List.{drop-take, drop_more, length-map, take_min, take_rest}, Nat.{and_block, and_mask, be_bytes_8, leading_top, or_block, or_lt}, Result.err_from_is_err_and}
+pub use Rattle.std.proofs.lemmas.{List.{drop-take, drop_min, drop_more, length-map, take_min, take_rest}, Nat.{and_block, and_mask, be_bytes_8, leading_top, or_block, or_lt}, Result.err_from_is_err_and}
 pub use Rattle.clap.specs.Words.{Text}
 unfoldable pub use Rattle.hex.specs.Hex.{encode_with}
 pub use Rattle.hex.specs.Hex.{encode_lower, lower_digits}

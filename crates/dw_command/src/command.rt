@@ -19,10 +19,7 @@ use std::io::Write;
 fn done<'a>(answer: Result<(), Failure<'a>>) -> Result<u8, Failure<'a>>
     ensures { result ≡ result_map_both (λ _. 0) (λ e. e) answer.entry }
 {
-    match answer {
-        Ok(()) => Ok(0),
-        Err(failure) => Err(failure),
-    }
+    answer.map(|_| 0)
 }
 
 fn run_job<'a, L: Load, W: Write>(
@@ -98,11 +95,8 @@ fn run_over<L: Load, W: Write, E: Write>(
         Ok(status) => status,
         Err(failure) => {
             // A text on the use of the command ends its own lines.
-            let end = if let Failure::Words(_) = failure {
-                ""
-            } else {
-                "\n"
-            };
+            let is_long = matches!(&failure, Failure::Words(_));
+            let end = if is_long { "" } else { "\n" };
             let _ = write!(err, "{failure}{end}");
             failure.status()
         }

@@ -3,8 +3,7 @@
 ghost use Rattle.std.specs.Prelude.{◌≡◌, ◌+◌, ◌++◌, ◌-◌, ◌*◌, ◌/◌, ◌%◌, ◌^◌, ◌<◌, ◌≤◌, ℕ, List, [], ◌∷◌, length, take};
 ghost use Rattle.std.specs.Prelude.{codes, false, true, decimal, MatchResult, unsigned_abs, if◌then◌else◌, IfErr, IfOk, OnErr, OnOk, ◌⊎◌};
 ghost use Rattle.std.specs.{Fmt.{digits, digit_glyph}, Int.{is_negative}, Io.KnownBytes.{Appends, Keeps}};
-ghost use Rattle.dw_command.specs.declared.listing.TheConstants.{PIECE, ROOM};
-ghost use Rattle.dw_command.specs.Inner.Output.{Adds, Breaks, Fills, Finishes, Stays, failures_of, put_in};
+ghost use Rattle.dw_command.specs.{declared.listing.TheConstants.{PIECE, ROOM}, Inner.Output.{Adds, Breaks, Fills, Finishes, Stays, failures_of, put_in}};
 
 use crate::failure::Failure;
 use dw_normal::{Sink, SinkFault};
@@ -53,11 +52,8 @@ fn write_once<W: Write>(out: &mut W, bytes: &[u8]) -> usize
     for _ in 0..u64::MAX {
         match out.write(bytes) {
             Ok(n) => return n,
-            Err(error) => {
-                if error.kind() != ErrorKind::Interrupted {
-                    return 0;
-                }
-            }
+            Err(error) if error.kind() == ErrorKind::Interrupted => {}
+            Err(_) => return 0,
         }
     }
     0

@@ -121,10 +121,7 @@ fn put_each<'a, W: Write>(
 fn lines_in(addresses: &[u64]) -> Option<&'static str>
     ensures { option_map (λ path. path.now) result ≡ lines_in addresses.now }
 {
-    if addresses.is_empty() {
-        return Some(STDIN);
-    }
-    None
+    addresses.is_empty().then_some(STDIN)
 }
 
 /// Prints the FDE that covers each address, and its rules there. Both files are read before the section and then the lines are

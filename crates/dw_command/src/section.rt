@@ -2,9 +2,8 @@
 
 ghost use Rattle.std.specs.Prelude.{◌≡◌, ◌≤◌, ◌-◌, ◌^◌, false, if◌then◌else◌, length, min, Err, IfOk, MatchResult, Ok};
 ghost use Rattle.dw_section.specs.Meaning.{RowStarts};
-ghost use Rattle.dw_command.specs.Answers.{ChangeCount, Costs, Cuts, Normalises, Prints, SameEnds, Tallies, costs_text};
-ghost use Rattle.dw_command.specs.Texts.{cost_text, counts_text, entry_text, form_text, kind_text, lines, sameness_text};
-ghost use Rattle.dw_command.specs.Inner.Output.{Adds, TellsOfFile, output_of};
+ghost use Rattle.dw_command.specs.{Answers.{ChangeCount, Costs, Cuts, Normalises, Prints, SameEnds, Tallies, costs_text}, Inner.Output.TellsOfFile};
+ghost use Rattle.dw_command.specs.{Inner.Output.{Adds, output_of}, Texts.{cost_text, counts_text, entry_text, form_text, kind_text, lines, sameness_text}};
 
 use crate::failure::Failure;
 use crate::files::{LIMIT, Load, load_file};
@@ -124,14 +123,9 @@ fn put_verdict<W: Write>(out: &mut Listing<W>, is_same: bool) -> Result<u8, Fail
     ensures { Prints (output_of W.contents out.old) (output_of W.contents out.new) (sameness_text is_same) (if is_same then 0 else 1) result }
 {
     out.make_room();
-    if is_same {
-        out.text(b"same\n");
-        out.finish()?;
-        return Ok(0);
-    }
-    out.text(b"different\n");
+    out.text(if is_same { b"same\n" } else { b"different\n" });
     out.finish()?;
-    Ok(1)
+    Ok(u8::from(!is_same))
 }
 
 /// Prints whether the sections in two files say the same, and answers the exit status: 0 where they do, 1 where not. Both

@@ -1,9 +1,9 @@
 -- A frame by an index or why there is none, as the functions over an index answer.
-use Rattle.dw_library.proofs.Words.{◌≡◌, ◌⊎◌, ℕ, List, Option, Some, Result, Ok, Err, map, subst, inl, inr, Target, Policy, held, Ranged, Accepted, IsTable, range_in, Stop, not_refused, Machine, Told, IsFrame, IsUnwound}
+use Rattle.dw_library.proofs.Words.{◌≡◌, ◌⊎◌, ℕ, List, Option, Some, Result, Ok, Err, MatchResult, map, subst, inl, inr, Target, Policy, held, Ranged, Accepted, IsTable, range_in, Stop, not_refused, Machine, Told, IsFrame, IsUnwound}
 use Rattle.dw_library.proofs.Words.{no_frame, status_of, told_fault, Register, given_in, byte_among}
 use Rattle.dw_unwind.specs.{Unwound.{Unwound, stopped}, UnwoundAt.UnwoundAt, declared.by_index.UnwindAtError.UnwindAtError, declared.by_index.UnwindAtError.TheVariants.Unwind, declared.frame.Frame.{Frame as CallerFrame}}
 use Rattle.dw_unwind.specs.declared.frame.{UnwindError.UnwindError, UnwindError.TheVariants.OutOfMemory}
-use Rattle.dw_library.specs.Inner.FrameAt.{IsFound, IsFoundOwn, IsOwn, WhyOwn}
+use Rattle.dw_library.specs.{FrameAt.IsFrameAt, Inner.FrameAt.{IsOwn, Why, WhyOwn}}
 
 is_accepted : (target : Target) (s : List ℕ) (index : List Ranged) → IsTable target s index → Accepted target s
 is_accepted target s index t = (map range_in index, (t.indexed.headers, t.indexed.hold, t.indexed.is_index), t.apart)
@@ -11,7 +11,7 @@ is_accepted target s index t = (map range_in index, (t.indexed.headers, t.indexe
 module _ (target : Target) (policy : Policy) (s : List ℕ) (index : List Ranged) (stop : Stop) (m : Machine) (values : List (Option ℕ)) (are : (r : ℕ) → held values r ≡ given_in m.registers r) where
   pub any_told : (r : Result CallerFrame UnwindAtError)
       → ((r ≡ Err (Unwind OutOfMemory)) ⊎ UnwoundAt target s index stop.pc (stopped target values (byte_among m.memory m.windows)) policy stop.steps r)
-      → IsFound target policy s stop m index r
+      → MatchResult r (λ f. IsFrameAt target policy s index stop m (Ok f)) (Why target policy s stop m index)
   any_told (Ok f) (inl same) = absurd cc
   any_told (Ok f) (inr is) = record { values = values; are = are; is = is }
   any_told (Err e) (inl same) = inl cc
@@ -20,7 +20,8 @@ module _ (target : Target) (policy : Policy) (s : List ℕ) (index : List Ranged
   abbrev Is : Result CallerFrame UnwindError → Type 0
   Is r = Unwound target s stop.pc (stopped target values (byte_among m.memory m.windows)) policy stop.steps r
 
-  pub own_told : IsTable target s index → (r : Result CallerFrame UnwindAtError) → IsOwn Is r → IsFoundOwn target policy s stop m r
+  pub own_told : IsTable target s index → (r : Result CallerFrame UnwindAtError) → IsOwn Is r
+      → MatchResult r (λ f. IsFrame target policy s stop m (Ok f)) (WhyOwn target policy s stop m)
   own_told t (Ok f) (Ok g, same, inl short) = absurd cc
   own_told t (Ok f) (Ok g, same, inr is) = let one : g ≡ f = cc in record { accepted = is_accepted target s index t; values = values; are = are; is = subst (λ (h : CallerFrame). Is (Ok h)) one is }
   own_told t (Ok f) (Err u, same, h) = absurd cc

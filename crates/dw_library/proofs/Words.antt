@@ -2,7 +2,7 @@
 pub use Rattle.std.specs.List.{AllByRecursion, AllZip}
 pub use Rattle.std.proofs.Common.{Bool, Err, FitsSigned, IfSome, List, MatchResult, None, Ok, Option, Result, Some, [], ap, append-nil, append_assoc, arith, drop, drop-cons, false, get_or, inl, inr, length, length-append}
 pub use Rattle.std.proofs.Common.{length-drop, length-set, length-take-le, map, min, refl, rules, slice_set, subst, suc, sym, take, take-suc, take_all, true, w64, zero, ℕ, ◌++◌, ◌+◌, ◌-◌, ◌<◌, ◌^◌, ◌∙◌, ◌∷◌, ◌≡◌, ◌≤◌, ◌⊎◌}
-pub use Rattle.std.proofs.{Math.Seq.{append_snoc, set-append_seam, take-length}, lemmas.Bool.Decides.leb_tells, lemmas.Int.to_z-of_z, lemmas.List.{drop_all, flat_map_more, get_or-map, length-map, map_push}, lemmas.Option.same_Some}
+pub use Rattle.std.proofs.{Math.Seq.{append_snoc, set-append_seam, take-length}, lemmas.Bool.Decides.leb_tells, lemmas.Int.to_z-of_z, lemmas.List.{drop_all, flat_map_more, get_or-map, length-map, map_push}, lemmas.Option.same_Some, lemmas.Result.err_from_is_err_and}
 pub use Rattle.dw_num.specs.declared.target.Target.{Target}
 pub use Rattle.dw_eval.specs.{Registers.held, declared.policy.Policy.Policy}
 pub use Rattle.dw_eval.proofs.Lent.MemoryBytes.{bytes_all, bytes_missing}

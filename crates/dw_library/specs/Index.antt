@@ -1,5 +1,5 @@
 -- What a caller in C is told of an index, and of a look-up by it.
-use Rattle.std.specs.Prelude.{◌≡◌, ◌⊎◌, ◌+◌, ◌-◌, ◌<◌, ◌≤◌, ℕ, ℤ, pos, List, [], ◌∷◌, ◌++◌, length, drop, map, nat_le, if◌then◌else◌, Option, Some, None}
+use Rattle.std.specs.Prelude.{◌≡◌, ◌⊎◌, ◌+◌, ◌-◌, ℕ, ℤ, pos, List, [], ◌∷◌, length, map, nat_le, if◌then◌else◌, Option, Some, None}
 use Rattle.dw_num.specs.declared.{refusal.Refusal.Refusal, target.Target.Target}
 use Rattle.dw_op.specs.Faults.{IsWithin}
 use Rattle.dw_row.specs.declared.rule.RegRule.{RegRule}

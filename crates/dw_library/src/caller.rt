@@ -2,9 +2,8 @@
 
 ghost use Rattle.std.specs.Prelude.{◌≡◌, map, OnErr};
 ghost use Rattle.dw_section.specs.Ranges.{IsTable};
-ghost use Rattle.dw_library.specs.{Answers.target_of, CallerFrame.{IsUnwound, Told, column_of, fault_of_kind, held_in, policy_of, status_of}};
-ghost use Rattle.dw_library.specs.{CallerFrame.told_fault, FrameAt.{IsAnyUnwound, IsOwnUnwound}, Registers.{told_register, AreTold}};
-ghost use Rattle.dw_library.specs.Inner.FrameAt.{FoundIsTold, IsFound, IsFoundOwn, OwnIsTold};
+ghost use Rattle.dw_library.specs.{Answers.target_of, CallerFrame.{IsUnwound, Told, column_of, fault_of_kind, held_in, policy_of, status_of, told_fault}};
+ghost use Rattle.dw_library.specs.{FrameAt.{IsAnyUnwound, IsOwnUnwound}, Inner.FrameAt.{FoundIsTold, OwnIsTold}, Registers.{told_register, AreTold}};
 
 use crate::answer::{Refused, Section, refuse, target_of};
 use crate::held::{Held, Register, give_all};
@@ -13,7 +12,7 @@ use dw_cfa::RowRoom;
 use dw_eval::{Kind, Policy, Registers};
 use dw_num::{ReadError, Target};
 use dw_section::{Ranged, check};
-use dw_unwind::{Column, Frame as CallerFrame, FrameRoom, UnwindAtError, UnwindError, unwind_at};
+use dw_unwind::{Column, FrameRoom, UnwindAtError, UnwindError, unwind_at};
 use std::alloc::Global;
 
 /// The column of the CFA, beside those of registers.
@@ -133,12 +132,10 @@ fn told_fault(error: UnwindError) -> (u32, Fault)
             Status::Unreadable as u32,
             fault_in(column, 0, 0, address, len, 0),
         ),
-        UnwindError::NoRegister { column, register } => {
-            (
-                Status::NoRegister as u32,
-                fault_in(column, 0, 0, 0, 0, register),
-            )
-        }
+        UnwindError::NoRegister { column, register } => (
+            Status::NoRegister as u32,
+            fault_in(column, 0, 0, 0, 0, register),
+        ),
         UnwindError::Device { column } => (Status::Device as u32, fault_in(column, 0, 0, 0, 0, 0)),
         UnwindError::NoFde => (Status::NoFde as u32, Fault::default()),
         UnwindError::OutOfMemory => (Status::OutOfMemory as u32, Fault::default()),
@@ -170,32 +167,7 @@ fn put_registers(entries: &[(u16, Option<u64>)], out: &mut [Register]) -> u32
     Status::Ok as u32
 }
 
-// The frame of what a machine held, or why there is none. The room for the row is made first: it is moved else.
-fn frame_at<'r>(
-    alloc: Global,
-    bytes: &[u8],
-    target: Target,
-    index: &[Ranged],
-    stop: &Stop,
-    default: Policy,
-    held: &Held<'_>,
-    frame_room: &'r mut FrameRoom,
-) -> Result<CallerFrame<'r>, UnwindAtError>
-    ensures any { IsFound target default bytes.now stop.now (held_in held.now) index.now result }
-    ensures own { IsTable target bytes.now index.now → IsFoundOwn target default bytes.now stop.now (held_in held.now) result }
-{
-    let mut room = RowRoom::new(alloc);
-    let mut given = Registers::new(alloc);
-    let Ok(()) = give_all(&mut given, held.registers) else {
-        return Err(UnwindAtError::Unwind(UnwindError::OutOfMemory));
-    };
-    let (pc, steps, mut lent) = (stop.pc, stop.steps, *held);
-    unwind_at(
-        alloc, bytes, target, index, pc, &mut room, frame_room, &given, &mut lent, default, steps,
-    )
-}
-
-// Writes the frame, or answers why there is none. The room is made first here too.
+// Writes the frame of what a machine held, or answers why there is none. The rooms are made first: they are moved else.
 fn unwound_at(
     alloc: Global,
     bytes: &[u8],
@@ -212,7 +184,15 @@ fn unwound_at(
     ensures kept { OnErr result ((frame.new ≡ frame.old) × (out.new ≡ out.old)) }
 {
     let mut room = FrameRoom::new(alloc);
-    let found = frame_at(alloc, bytes, target, index, stop, default, held, &mut room)?;
+    let mut row = RowRoom::new(alloc);
+    let mut given = Registers::new(alloc);
+    let Ok(()) = give_all(&mut given, held.registers) else {
+        return Err(UnwindAtError::Unwind(UnwindError::OutOfMemory));
+    };
+    let (pc, steps, mut lent) = (stop.pc, stop.steps, *held);
+    let found = unwind_at(
+        alloc, bytes, target, index, pc, &mut row, &mut room, &given, &mut lent, default, steps,
+    )?;
     let registers = found.registers.values();
     *frame = Frame {
         cfa: found.cfa,

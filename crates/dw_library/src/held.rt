@@ -1,7 +1,6 @@
 //! What a machine held: registers, and memory as windows of addresses over one buffer.
 
-ghost use Rattle.std.specs.Prelude.{◌≡◌, ℕ, ◌+◌, ◌<◌, ◌≤◌, true, false, IfSome, OnOk, Some, None, [], ⊤, length};
-ghost use Rattle.std.specs.Bool.{MatchBool};
+ghost use Rattle.std.specs.{Prelude.{◌≡◌, ℕ, ◌+◌, ◌<◌, ◌≤◌, true, false, IfSome, OnOk, Some, None, [], ⊤, length}, Bool.MatchBool};
 ghost use Rattle.dw_num.specs.Fixed.{fixed_number};
 ghost use Rattle.dw_eval.specs.{Bytes.bytes_from, Registers.held};
 ghost use Rattle.dw_library.specs.{Registers.given_in, Windows.{covers, byte_of, byte_among}, Inner.Windows.Spells};

@@ -2,8 +2,7 @@
 
 ghost use Rattle.std.specs.Prelude.{◌≡◌, ◌+◌, ◌^◌, ◌<◌, ℕ, IfErr, OnErr, length, map};
 ghost use Rattle.dw_op.specs.Faults.{IsWithin};
-ghost use Rattle.dw_section.specs.{Ranges.IsTable, StandingFde.{LookUpFault, Misleads, RefusesAs}};
-ghost use Rattle.dw_section.specs.declared.standing_fde.LookUpError.TheVariants as TheLookUpError;
+ghost use Rattle.dw_section.specs.{Ranges.IsTable, StandingFde.{LookUpFault, Misleads, RefusesAs}, declared.standing_fde.LookUpError.TheVariants.BadIndex};
 ghost use Rattle.dw_library.specs.{Answers.target_of, Index.{HasSize, IsAnyRow, IsIndexed, IsRow, IsTold}};
 ghost use Rattle.dw_library.specs.{Index.{Told, no_row, over, row_of, rule_of}, Inner.Index.{TellsAny, TellsOwn}};
 
@@ -189,7 +188,7 @@ fn put_row(
 ) -> Result<u32, LookUpError>
     ensures own { IsTable target bytes.now index.now → row.old ≡ no_row → TellsOwn target bytes.now address out.old row.new out.new result }
     ensures any { row.old ≡ no_row → TellsAny target bytes.now index.now address out.old row.new out.new result }
-    ensures bad { IfErr result (λ e. e ≡ TheLookUpError.BadIndex → Misleads target bytes.now index.now address) }
+    ensures bad { IfErr result (λ e. e ≡ BadIndex → Misleads target bytes.now index.now address) }
     ensures within { IfErr result (RefusesAs (IsWithin bytes.now)) }
     ensures refused { IfErr result (RefusesAs (LookUpFault target bytes.now index.now address)) }
     ensures kept { OnErr result ((out.new ≡ out.old) × (row.new ≡ row.old)) }

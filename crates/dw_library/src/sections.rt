@@ -1,7 +1,7 @@
 //! What sections are: accepted or refused, in which normal form, and whether two say the same.
 
 ghost use Rattle.std.specs.Prelude.{◌≡◌};
-ghost use Rattle.dw_library.specs.{Answers.target_of, Checked.IsChecked, Forms.{IsCompared, IsNormalised, section_of, target_of_both}};
+ghost use Rattle.dw_library.specs.{Answers.target_of, Checked.IsChecked, Forms.{IsCompared, IsNormalised, target_of_both}};
 
 use crate::answer::{Counts, Refused, Section, put_front, refuse, target_of};
 use crate::names::Status;
@@ -66,15 +66,6 @@ pub extern "C" fn dwframe_normalise(
     }
 }
 
-fn section_of(which: Which) -> u32
-    ensures { result ≡ section_of which }
-{
-    match which {
-        Which::First => 1,
-        Which::Second => 2,
-    }
-}
-
 // The machine of two sections, where it is one.
 fn target_of_both(first: &Section<'_>, second: &Section<'_>) -> Option<Target>
     ensures { result ≡ target_of_both first.now.address_size first.now.byte_order second.now.address_size second.now.byte_order }
@@ -107,7 +98,8 @@ pub extern "C" fn dwframe_same(
             *alike = u32::from(same);
             Status::Ok as u32
         }
-        Err(SameError::Refused(which, refusal)) => refuse(refused, section_of(which), refusal),
+        Err(SameError::Refused(Which::First, refusal)) => refuse(refused, 1, refusal),
+        Err(SameError::Refused(Which::Second, refusal)) => refuse(refused, 2, refusal),
         Err(SameError::OutOfMemory) => Status::OutOfMemory as u32,
     }
 }

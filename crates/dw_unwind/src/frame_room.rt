@@ -6,9 +6,6 @@ ghost use Rattle.dw_unwind.specs.Inner.Room.{registers_in};
 use std::alloc::{AllocError, Global};
 use std::marker::Model;
 
-// So many registers take no memory.
-const IN_PLACE: usize = 64;
-
 /// Registers of the caller, ascending, each with its value, or None where it has none that can be recovered.
 #[derive(Debug, Drop)]
 pub struct FrameRegisters<'r> {
@@ -96,7 +93,7 @@ impl FrameRoom {
     pub(crate) fn push(&mut self, register: u16, value: Option<u64>) -> Result<(), AllocError>
         ensures { OnOk result (self.new ≡ self.old ++ (register, value) ∷ []) }
     {
-        if self.len == IN_PLACE {
+        if self.len == self.near.len() {
             return push_far(&self.near, &mut self.more, (register, value));
         }
         self.near[self.len] = (register, value);

@@ -2,11 +2,10 @@
 
 ghost use Rattle.std.specs.Prelude.{◌≡◌, ◌≤◌, [], IfOk, IfSome, None, Some, map, option_and_then, option_map, string_bytes};
 ghost use Rattle.clap.specs.Words.{all_of, first_of, found_of, rows_of};
-ghost use Rattle.dw_words.specs.{Plan.Planned, Inner.Values.{IsValue, either}};
+ghost use Rattle.dw_words.specs.{Plan.Planned, Inner.{Plan.{cap_in, file_in, name_of, own, start_in, steps_in}, Values.{IsValue, either}}};
 ghost use Rattle.dw_num.specs.declared.target.Size.{Size as TheSize};
 ghost use Rattle.dw_words.specs.declared.request.{Name.TheVariants.{At, Check, Eval, Expr, Normal, Same, Unwind}, PlanError.TheVariants.BadValue};
 ghost use Rattle.dw_words.specs.Inner.Plan.{Answers, FromFault, Given, GivenAt, Jobs, Targets, Tasks, addresses_in, asked_by, block_in};
-ghost use Rattle.dw_words.specs.Inner.Plan.{cap_in, file_in, name_of, own, start_in, steps_in};
 
 use crate::command_line::command_line;
 use crate::request::{Evaluation, Job, Lookup, Name, PlanError, Request, Task, Unwinding, Writing};

@@ -22,22 +22,13 @@ module _ (target : Target) (policy : Policy) (s : List ℕ) (stop : Stop) (m : M
   abbrev pub WhyOwn : UnwindAtError → Type 0
   WhyOwn e = (e ≡ Unwind OutOfMemory) ⊎ ((u : UnwindError) × (e ≡ Unwind u) × IsFrame target policy s stop m (Err u))
 
-  -- the frame by any index, or why there is none
-  abbrev pub IsFound : List Ranged → Result CallerFrame UnwindAtError → Type 0
-  IsFound index (Ok f) = IsFrameAt target policy s index stop m (Ok f)
-  IsFound index (Err e) = Why index e
-
-  -- and by that of an accepted section
-  abbrev pub IsFoundOwn : Result CallerFrame UnwindAtError → Type 0
-  IsFoundOwn (Ok f) = IsFrame target policy s stop m (Ok f)
-  IsFoundOwn (Err e) = WhyOwn e
-
-  -- the same of a frame that is told, its registers at the front of a buffer that held `old`
+  -- the frame by any index is told, its registers at the front of a buffer that held `old`; or why there is none
   abbrev pub FoundIsTold : List Ranged → List Register → Result ℕ UnwindAtError → Frame → List Register → Type 0
   FoundIsTold index old (Ok status) frame out =
       (f : CallerFrame) × IsFrameAt target policy s index stop m (Ok f) × (frame ≡ told_frame f) × AreTold (map told_register f.registers) old status out
   FoundIsTold index old (Err e) frame out = Why index e
 
+  -- and by that of an accepted section
   abbrev pub OwnIsTold : List Register → Result ℕ UnwindAtError → Frame → List Register → Type 0
   OwnIsTold old (Ok status) frame out =
       (f : CallerFrame) × IsFrame target policy s stop m (Ok f) × (frame ≡ told_frame f) × AreTold (map told_register f.registers) old status out

@@ -1,5 +1,4 @@
-use Rattle.dw_command.proofs.{Words.{◌∙◌, ◌+◌, ℕ, ap, drop, length, refl, sym, take_rest}, AddressLines.{none_left, read_all, read_bad, read_more, read_none, some_left}}
-use Rattle.std.proofs.lemmas.List.{drop_min}
+use Rattle.dw_command.proofs.{Words.{◌∙◌, ◌+◌, ℕ, ap, drop, drop_min, length, refl, sym, take_rest}, AddressLines.{none_left, read_all, read_bad, read_more, read_none, some_left}}
 use Rattle.dw_command.proofs.address_lines.add_lines.Goals as goal
 
 pub loop-rest-init : goal.loop-rest-init

@@ -1,4 +1,4 @@
-use Rattle.dw_library.proofs.Words.{◌≡◌, ℕ, suc, ◌+◌, ◌<◌, List, ◌∷◌, length, drop, get_or, Option, Some, None, IfSome, true, false, refl, sym, ap, subst, ◌∙◌, arith, drop-cons, bytes_all, covers, byte_of, byte_among}
+use Rattle.dw_library.proofs.Words.{◌≡◌, ℕ, suc, ◌+◌, ◌<◌, List, length, drop, get_or, Option, Some, None, IfSome, true, false, refl, sym, subst, ◌∙◌, arith, drop-cons, bytes_all, covers, byte_of, byte_among}
 use Rattle.dw_eval.specs.Bytes.{bytes_from}
 use Rattle.dw_library.specs.declared.held.Window.{Window}
 use Rattle.dw_library.proofs.held.whole.Goals as goal
@@ -7,21 +7,15 @@ both : {R : Type 0} {P Q S : R → Type 0} (o : Option R) → ((r : R) → P r �
 both None f p q = p
 both (Some r) f p q = f r p q
 
-passed : (bytes : List ℕ) (ws : List Window) (w : Window) (a : ℕ) → covers a w ≡ false → byte_among bytes (w ∷ ws) a ≡ byte_among bytes ws a
-passed bytes ws w a lacks = rw lacks refl
-
-found : (bytes : List ℕ) (ws : List Window) (w : Window) (a : ℕ) → covers a w ≡ true → byte_among bytes (w ∷ ws) a ≡ byte_of bytes a w
-found bytes ws w a has = rw has refl
-
 -- a window that lacks an address is passed over
 behind : (bytes : List ℕ) (ws : List Window) (i a : ℕ) (d : Window) → i < length ws → covers a (get_or ws i d) ≡ false → byte_among bytes (drop (i + 1) ws) a ≡ byte_among bytes (drop i ws) a
 behind bytes ws i a d lt lacks =
     let next : i + 1 ≡ suc i = omega arith in
-    ap (λ (n : ℕ). byte_among bytes (drop n ws) a) next ∙ sym (passed bytes (drop (suc i) ws) (get_or ws i d) a lacks) ∙ sym (ap (λ (l : List Window). byte_among bytes l a) (drop-cons ws i d lt))
+    rw (next, drop-cons ws i d lt, lacks) refl
 
 -- and one that has it tells its byte
 first : (bytes : List ℕ) (ws : List Window) (i a : ℕ) (d : Window) → i < length ws → covers a (get_or ws i d) ≡ true → byte_among bytes (drop i ws) a ≡ byte_of bytes a (get_or ws i d)
-first bytes ws i a d lt has = ap (λ (l : List Window). byte_among bytes l a) (drop-cons ws i d lt) ∙ found bytes (drop (suc i) ws) (get_or ws i d) a has
+first bytes ws i a d lt has = rw (drop-cons ws i d lt, has) refl
 
 pub windows-preserved : goal.windows-preserved
 windows-preserved c = λ k lt. behind c.args.bytes.now c.args.windows.now c.windows.i (c.args.address + k) _ c.windows-test.true (c.if-not-is_apart.ensures k lt) ∙ c.windows.invariant k lt

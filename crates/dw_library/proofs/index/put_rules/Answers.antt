@@ -1,11 +1,9 @@
-use Rattle.dw_library.proofs.{Words.{rules, ◌<◌, ◌∙◌, sym, FitsSigned, to_z-of_z, w64}, Overlays.{overlaid_more, overlaid_all}}
+use Rattle.dw_library.proofs.{Words.{rules, ◌∙◌, sym, to_z-of_z, w64}, Overlays.{overlaid_more, overlaid_all}}
 use Rattle.dw_library.proofs.index.put_rules.Goals as goal
 
 pub rules-preserved-in-Some : goal.rules-preserved-in-Some
 rules-preserved-in-Some c =
-    let low : c.in-Some.number < 65536 = search rules in
-    let fits : FitsSigned w64 c.in-Some.offset = search rules in
-    overlaid_more c.rules.invariant c.in-Some.ensures (rw (to_z-of_z w64 c.in-Some.offset fits) at c.told_rule.ensures) low c.put_at.ensures.inside c.put_at.ensures.outside
+    overlaid_more c.rules.invariant c.in-Some.ensures (rw (to_z-of_z w64 c.in-Some.offset (search rules)) at c.told_rule.ensures) (search rules) c.put_at.ensures.inside c.put_at.ensures.outside
 
 pub rules-preserved : goal.rules-preserved
 rules-preserved c =

@@ -1,4 +1,4 @@
-use Rattle.dw_library.proofs.{Words.{refl, arith, length, rules, rules_in}, Written.{wrote_more, written_left}}
+use Rattle.dw_library.proofs.{Words.{refl, arith, rules, rules_in}, Written.{wrote_more, written_left}}
 use Rattle.dw_library.proofs.rows.put_looks.Goals as goal
 
 pub addresses-preserved : goal.addresses-preserved
