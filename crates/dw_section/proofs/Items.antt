@@ -6,9 +6,6 @@ use Rattle.dw_section.proofs.Stages.{all_push}
 use Rattle.dw_section.specs.declared.entry.Entry.{Entry}
 use Rattle.dw_num.specs.declared.target.Order.TheVariants.{Little, Big}
 
-err_one : {A : Type 0} (x : Result A Refusal) (r q : Refusal) → x ≡ Err r → x ≡ Err q → r ≡ q
-err_one x r q v w = let e = sym v ∙ w in cc
-
 pub gap_bytes : (order : Order) → length_bytes order Dwarf32 0 ≡ 0 ∷ 0 ∷ 0 ∷ 0 ∷ []
 gap_bytes Little = refl
 gap_bytes Big = refl
@@ -145,7 +142,7 @@ one_cut order s xs ys p q =
 pub one_stuck : (target : Target) (s : List ℕ) (r q : Refusal) → IsStuck target s r → IsStuck target s q → r ≡ q
 one_stuck target s r q v w =
     let same = one_walk target.order v.items w.items v.rest w.rest v.each w.each (stuck_stops target s r v) (stuck_stops target s q w) (sym v.whole ∙ w.whole) in
-    err_one _ r q (rw (same.0, same.1) at v.stuck) w.stuck
+    let e = sym (rw (same.0, same.1) at v.stuck) ∙ w.stuck in cc
 
 -- a section has one list of pieces
 pub one_pieces : (target : Target) (s : List ℕ) (ps qs : List Piece) → Pieces target s ps → Pieces target s qs → ps ≡ qs
