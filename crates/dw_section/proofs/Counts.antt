@@ -32,7 +32,7 @@ total_push (m ∷ ns) n = let rest = total_push ns n in omega arith
 
 -- ---- a section has few entries
 
-pieces_few : (order : Order) (at : ℕ) (items : List Item) → length (pieces order at items) ≤ length (all_bytes order items)
+pub pieces_few : (order : Order) (at : ℕ) (items : List Item) → length (pieces order at items) ≤ length (all_bytes order items)
 pieces_few order at [] = omega arith
 pieces_few order at (gap ∷ items) = let rest = pieces_few order (at + 4) items in let all = length-append (item_bytes order gap) (all_bytes order items) in omega arith
 pieces_few order at (entry form body ∷ items) =

@@ -93,16 +93,15 @@ fn checked<'a>(alloc: Global, bytes: &'a [u8], target: Target) -> Result<Table<'
     if let Some(at) = judged.lacking {
         return Err(ReadError::Refused(refusal(Code::NoCfaRule, at)));
     }
-    let mut index = judged.list;
-    put_in_order(&mut index)?;
-    match first_overlap(&index) {
+    put_in_order(&mut judged.list)?;
+    match first_overlap(&judged.list) {
         Some(at) => Err(ReadError::Refused(refusal(Code::Overlap, at))),
         None => Ok(Table {
             bytes,
             target,
             counts: cies.counts,
             initials: cies.initials,
-            index,
+            index: judged.list,
         }),
     }
 }
