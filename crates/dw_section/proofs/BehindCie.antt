@@ -2,7 +2,7 @@
 use Rattle.dw_row.specs.RegisterSets.{Registers, has}
 use Rattle.dw_row.proofs.Lent.RowLists.{Entry}
 use Rattle.dw_section.specs.declared.change.Behind.{Behind}
-use Rattle.dw_section.proofs.Words.{◌≡◌, ℕ, suc, ◌<◌, Bool, true, false, List, [], ◌∷◌, Option, Some, None, Ok, refl, sym, ap, subst, arith, inl, inr, filter, nat_tests, cases_Bool, cases_lt, IfSome, IsTrue, MatchOption, AreBytes}
+use Rattle.dw_section.proofs.Words.{◌≡◌, ℕ, suc, ◌<◌, Bool, true, false, List, [], ◌∷◌, Option, Some, None, Ok, refl, sym, ap, subst, ◌∙◌, arith, inl, inr, filter, nat_tests, cases_Bool, cases_lt, IfSome, IsTrue, MatchOption, AreBytes}
 use Rattle.dw_section.proofs.Words.{LocatedRow, RegRule, Rules, Led, Walking, AllKeep, AreSpecified, Head, Headers, LedTo, Section, changes_among, is_kept, is_specified, kept, kept_by, leaves_one, rule, rule_in, shown_if, unlisted}
 use Rattle.dw_section.proofs.{Words.{LeavesTo, FirstDifference, CieKeeps, StandsOn, finished, ShownBehind, shown_of, AreChanged, CieLeaves, first_left}, ChangesAmong.none_dropped}
 
@@ -44,9 +44,6 @@ stands_kept walk bytes stands left same = stands_by walk.initial stands where
       let one = leaves_one walk.led.factors walk.led.program left.0 stands.1.0 walk.kept row bytes left.1 stands.1.1 in
       subst (λ (r : Rules). kept walk.steps.current r ≡ walk.steps.current) one same
 
-cie_leaves : (s : Section) (hs : List Head) (place : ℕ) (led : Led) → Headers s.target s.bytes hs → LedTo s.target hs (Some place) led → (row : Rules) → LeavesTo led.factors led.program (Ok row) → CieLeaves s.target s.bytes place row
-cie_leaves s hs place led are by row left = record { headers = hs; are = are; head = by.0; among = by.1; stands = by.2; leaves = subst (λ (l : Led). LeavesTo l.factors l.program (Ok row)) by.3 left }
-
 -- ---- the row that is shown
 
 module _ (lent kept : Bool) (current before : Rules) (none : kept ≡ false) where
@@ -70,7 +67,8 @@ module _ (s : Section) (hs : List Head) (place : ℕ) (walk : Walking) (lent kep
       → IfSome answer (λ behind. (row : Rules) × CieLeaves s.target s.bytes behind.cie_at row × IfSome shown (AreChanged changed row))
   cie_shown changed None at is = tt
   cie_shown changed (Some behind) at is =
-      (walk.kept, subst (λ (n : ℕ). CieLeaves s.target s.bytes n walk.kept) (sym at) (cie_leaves s hs place walk.led are by walk.kept is.0), shows_lent lent kept walk.steps.current walk.kept none (AreChanged changed walk.kept) is.1)
+      let left = subst (λ (l : Led). LeavesTo l.factors l.program (Ok walk.kept)) by.3 is.0 in
+      (walk.kept, record { headers = hs; are = are; head = by.0; among = by.1; stands = by.2 ∙ sym at; leaves = left }, shows_lent lent kept walk.steps.current walk.kept none (AreChanged changed walk.kept) is.1)
 
   -- and of the changes still to come
   pub all_shown : (end : ℕ) (answer : Option Behind) → IfSome answer (λ behind. IsTrue behind.keeps → AreBytes walk.led.program.bytes → AllKeep walk.steps.current walk.steps.outcome.rows)

@@ -33,12 +33,9 @@ pub between_among : {X : Type 0} {Left Front : List X → Type 0} (xs : List X) 
 between_among xs w x more e = subst (IsAmong x) (sym (w.whole ∙ ap (λ ys. w.front ++ ys) e)) (among_here w.front x more)
 
 -- what holds of those seen and of those left, and where one of those left is stuck
-both : {X : Type 0} (Holds : X → Type 0) (xs ys : List X) → AllByRecursion Holds xs → AllByRecursion Holds ys → AllByRecursion Holds (xs ++ ys)
+pub both : {X : Type 0} (Holds : X → Type 0) (xs ys : List X) → AllByRecursion Holds xs → AllByRecursion Holds ys → AllByRecursion Holds (xs ++ ys)
 both Holds [] ys front rest = rest
 both Holds (x ∷ xs) ys front rest = (front.0, both Holds xs ys front.1 rest)
-
-pub between_rest : {X : Type 0} {Left Front : List X → Type 0} (Holds : X → Type 0) (xs : List X) (w : Between Left Front xs) → AllByRecursion Holds w.front → AllByRecursion Holds w.rest → AllByRecursion Holds xs
-between_rest Holds xs w front rest = subst (AllByRecursion Holds) (sym w.whole) (both Holds w.front w.rest front rest)
 
 pub between_later : {X : Type 0} {Left Front : List X → Type 0} (Holds : X → Type 0) (Stuck : X → Refusal → Type 0) (xs : List X) (w : Between Left Front xs) (r : Refusal) → AllByRecursion Holds w.front → FirstStuck Holds Stuck w.rest r → FirstStuck Holds Stuck xs r
 between_later Holds Stuck xs w r front s = record {

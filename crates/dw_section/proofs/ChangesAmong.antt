@@ -18,10 +18,6 @@ module _ (end : ℕ) (shown : Option Rules) (row : LocatedRow) (rows : List Loca
   tells : Decides shows (Shows end shown row rows)
   tells = Decides-and (is_before end row.location rows) (not (repeats shown row.row)) (before_tells end row.location rows) (Decides-not (repeats shown row.row) (repeats_tells shown row.row))
 
-  -- a row that no address shows, or that repeats the one that was shown, is none
-  no_more : (Shows end shown row rows → ⊥) → changes_among end shown (row ∷ rows) ≡ changes_among end shown rows
-  no_more not = elim (cases_Bool shows) [ inl e ↦ absurd (not (tells.0 e)) | inr e ↦ rw e refl ]
-
   passed : shows ≡ false → (Before end row.location rows → ⊥) ⊎ (shown ≡ Some row.row)
   passed e = elim (cases_Bool (repeats shown row.row)) [
     | inl same ↦ inr ((repeats_tells shown row.row).0 same)
@@ -62,4 +58,4 @@ module _ (start : ℕ) (old new : Stepping) (o : Option ℕ) (advances : Advance
 
     -- and one that is not
     pub passes : (Shows end shown row new.outcome.rows → ⊥) → changes_among end shown old.outcome.rows ≡ changes_among end shown new.outcome.rows
-    passes not = ap (λ (o : Outcome). changes_among end shown o.rows) moved ∙ no_more end shown row new.outcome.rows not
+    passes not = ap (λ (o : Outcome). changes_among end shown o.rows) moved ∙ elim (cases_Bool (shows end shown row new.outcome.rows)) [ inl e ↦ absurd (not ((tells end shown row new.outcome.rows).0 e)) | inr e ↦ rw e refl ]

@@ -1,6 +1,6 @@
 -- The rows that programs start.
 use Rattle.dw_section.proofs.Words.{◌≡◌, ℕ, suc, ◌+◌, ◌≤◌, cond, List, [], ◌∷◌, ◌++◌, length, refl, sym, ap, ◌∙◌, arith, count_by, length-append, sum_by-cons, Order, Target, Factors, Instr, ProgramSpells, answers, moves_location}
-use Rattle.dw_section.proofs.Words.{row_starts, moves_in, Item, gap, entry, Piece, pieces, item_bytes, all_bytes, Head, cie, fde, Has, Headers, total, nonempty, Range, range_of, Pieces, cie_places, Listing, complete, AllZip-long}
+use Rattle.dw_section.proofs.Words.{row_starts, moves_in, Item, gap, entry, Piece, pieces, item_bytes, all_bytes, Head, cie, fde, total, nonempty, Range, range_of, Pieces, Listing, complete}
 use Rattle.dw_cfa.proofs.Lent.Listings.{some_spelled}
 use Rattle.dw_section.proofs.{Items.item_some, Lent.Index.with_range_so}
 
@@ -32,20 +32,17 @@ total_push (m ∷ ns) n = let rest = total_push ns n in omega arith
 
 -- ---- a section has few entries
 
-pieces_few : (order : Order) (at : ℕ) (items : List Item) → length (pieces order at items) ≤ length (all_bytes order items)
+pub pieces_few : (order : Order) (at : ℕ) (items : List Item) → length (pieces order at items) ≤ length (all_bytes order items)
 pieces_few order at [] = omega arith
 pieces_few order at (gap ∷ items) = let rest = pieces_few order (at + 4) items in let all = length-append (item_bytes order gap) (all_bytes order items) in omega arith
 pieces_few order at (entry form body ∷ items) =
     let item = entry form body in
     omega (arith, pieces_few order (at + length (item_bytes order item)) items, length-append (item_bytes order item) (all_bytes order items), item_some order item)
 
-nonempty_few : (hs : List Head) → length (nonempty hs) ≤ length hs
+pub nonempty_few : (hs : List Head) → length (nonempty hs) ≤ length hs
 nonempty_few [] = omega arith
 nonempty_few (cie c ∷ hs) = let p = nonempty_few hs in omega arith
 nonempty_few (fde f ∷ hs) = let p = nonempty_few hs in with_range_so (λ (rs : List Range). length rs ≤ suc (length hs)) (range_of f) (nonempty hs) (λ none. omega (arith, p)) (λ some. omega (arith, p))
 
 pub few_pieces : (target : Target) (s : List ℕ) (ps : List Piece) → Pieces target s ps → length ps ≤ 2147483647
 few_pieces target s ps p = omega (arith, pieces_few target.order 0 p.items, ap length p.are, ap length p.cut.whole, p.small)
-
-pub few_ranges : (target : Target) (s : List ℕ) (hs : List Head) → Headers target s hs → length (nonempty hs) ≤ 2147483647
-few_ranges target s hs p = omega (arith, nonempty_few hs, AllZip-long (Has target (cie_places p.entries)) p.entries hs p.each, few_pieces target s p.entries p.cut)

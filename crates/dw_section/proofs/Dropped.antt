@@ -25,9 +25,6 @@ module _ (shared before row : Rules) (up : AreSpecified 0 shared.registers) (nar
       ap (λ (x : RegRule). if is_specified x then rule shared r else Unspecified) (sym same)
       ∙ sym (filter_rule (is_kept before.registers) 0 shared.registers r up) ∙ ap (λ (x : Rules). rule x r) narrowed
 
-  pub none_dropped_yet : DropsBelow row 0 shared shared
-  none_dropped_yet = record { cfa = refl; ascends = up; rules = λ r. grind (arith, nat_tests) }
-
   module _ (from : ℕ) (mid : Rules) (h : DropsBelow row from shared mid) where
     -- up to the first register that is altered
     up_to : (q : ℕ) → DiffersFirst from before.registers row.registers q → LeavesBelow (is_kept row.registers) q shared.registers mid.registers

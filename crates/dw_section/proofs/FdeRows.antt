@@ -1,12 +1,7 @@
 -- The programs of an FDE of a section whose rules hold give rows.
-use Rattle.dw_section.proofs.Words.{◌≡◌, ℕ, ◌≤◌, List, None, inr, sym, ap, subst, ◌∙◌, arith, Target, Input, AreBytes, input_of, address_limit, Factors, Instr, CfaRule, ProgramSpells, CieKept, FdeKept, initial_cfa, RulesHold, IsAmong, Head}
-use Rattle.dw_section.proofs.Words.{CieHead, FdeHead, fde, HasBytes, FdeFits, cie_ats, CieRuns, FdeRuns, InitialInstrs, factors_of, Gives, LocatedRow, Outcome, RunsTo, gives_where_kept, leaves_where_kept, one_run, Some, Led, Headers, cie}
-use Rattle.dw_section.proofs.{Words.{LedTo, led_by}, Lent.{Heads.{one_program, all_in, heads_rise, heads_bytes, heads_fit, cie_or, one_among}, ChangeLaws.Given, CheckFirst.one_instrs}}
-
--- programs that give rows run to these alone
-pub one_outcome : (f : Factors) (initial own : Input) (begin : ℕ) (o : Outcome) (rows : List LocatedRow) → AreBytes initial.bytes → AreBytes own.bytes → begin ≤ address_limit own.target.size → RunsTo f initial own begin o → Gives f initial own begin rows
-    → o ≡ record { rows = rows; fault = None }
-one_outcome f initial own begin o rows ib ob le runs gives = let one = one_run f initial own begin ib ob le in one.2 o runs ∙ sym (one.2 (record { rows = rows; fault = None }) (inr gives))
+use Rattle.dw_section.proofs.Words.{ℕ, List, sym, ap, subst, ◌∙◌, arith, Target, AreBytes, input_of, address_limit, Instr, CfaRule, ProgramSpells, CieKept, FdeKept, initial_cfa, RulesHold, IsAmong, Head}
+use Rattle.dw_section.proofs.Words.{CieHead, FdeHead, fde, HasBytes, FdeFits, cie_ats, CieRuns, FdeRuns, InitialInstrs, factors_of, gives_where_kept, leaves_where_kept}
+use Rattle.dw_section.proofs.{Lent.{Heads.{one_program, all_in, heads_rise, heads_bytes, heads_fit}, ChangeLaws.Given, CheckFirst.one_instrs}}
 
 pub given : (target : Target) (s : List ℕ) → AreBytes s → (hs : List Head) → RulesHold target s hs → (c : CieHead) (h : FdeHead) (i j : List Instr)
     → IsAmong (fde h) hs → InitialInstrs target hs h.cie_at c i → ProgramSpells target (factors_of c) j h.program.bytes → Given target c h i j
@@ -25,10 +20,3 @@ given target s b hs hold c h i j among begins spelled =
     let kept = subst (λ (x : CfaRule). FdeKept (address_limit target.size) h.begin x j) (ap initial_cfa one.0 ∙ sym left.1.cfa) (subst (FdeKept (address_limit target.size) h.begin (initial_cfa fde_runs.0)) one.1 fde_runs.3) in
     let gave = gives_where_kept f left.0 (input_of target h.program) h.begin fde_bytes left.1.listed (omega (arith, fits.0)) j spelled kept in
     record { first = left.0; rows = gave.0; run = (i, left.0, left.1, gave.1); leaves = left.1; gives = gave.2 }
-
--- ---- the CIE at a place
-
--- so a walk that was led to the one at a CIE's place was led to this
-pub led_one : (target : Target) (s : List ℕ) (hs : List Head) → Headers target s hs → (c : CieHead) → IsAmong (cie c) hs → (led : Led) → LedTo target hs (Some c.at) led → led ≡ led_by target c
-led_one target s hs are c among led is =
-    is.3 ∙ ap (λ (h : Head). led_by target (cie_or c h)) (one_among 0 hs (cie is.0) (cie c) (heads_rise target s hs are) is.1 among is.2)

@@ -1,6 +1,6 @@
 -- The walk that reads the fields of FDEs and runs their programs.
-use Rattle.dw_section.proofs.Words.{◌≡◌, ◌<◌, ◌≤◌, ℕ, List, Option, Some, None, sym, ap, subst, ◌∙◌, inl, inr, IfSome, AllByRecursion, Target, address_limit, Refusal, Piece, Pieces, cie_places, FirstStuck, Head, Has, Headers, HeadersFault}
-use Rattle.dw_section.proofs.{Words.{FdeHolds, FdeStuck, IsAt, FdeEntry, SaysFde, Tells, entry_in, Initial, AreCies}, Items.one_pieces, Left.headers_so, Lent.HeaderLaws.{has_fde, has_one, heads_of}, Lent.Heads.{has_at, has_fits}}
+use Rattle.dw_section.proofs.Words.{◌<◌, ◌≤◌, ℕ, List, Option, Some, None, sym, subst, inl, inr, IfSome, AllByRecursion, Target, address_limit, Refusal, Piece, Pieces, FirstStuck, Head, Has, Headers, HeadersFault}
+use Rattle.dw_section.proofs.{Words.{FdeHolds, FdeStuck, IsAt, FdeEntry, SaysFde, Tells, entry_in, Initial, AreCies}, Left.headers_so, Lent.HeaderLaws.{has_fde, has_one, heads_of}, Lent.Heads.{has_at, has_fits}}
 
 -- ---- a piece
 
@@ -22,9 +22,6 @@ module _ (target : Target) (places : List ℕ) (p : Piece) where
 -- ---- a section whose CIEs hold
 
 module _ (target : Target) (s : List ℕ) (ps : List Piece) (at : List ℕ) (cs : List Initial) (cut : Pieces target s ps) (w : AreCies target ps at cs) where
-  pub places_at : (hs : List Head) (headers : Headers target s hs) → at ≡ cie_places headers.entries
-  places_at hs headers = w.are ∙ ap cie_places (one_pieces target s ps headers.entries cut headers.cut)
-
   pub headers_exist : AllByRecursion (FdeHolds target at) ps → (hs : List Head) × Headers target s hs
   headers_exist fdes = let heads = heads_of target at ps w.hold fdes in (heads.0, headers_so target s ps at heads.0 cut w.are heads.1)
 

@@ -1,13 +1,9 @@
 -- An item at the front, and items in a row.
-use Rattle.dw_section.proofs.Words.{Placed, IsPlaced, item_of, piece_in, eqb, false, inl, inr, ◌≡◌, ℕ, ◌+◌, add-zero, zero-add, ◌<◌, ◌≤◌, Result, Ok, Err, List, [], ◌∷◌, ◌++◌, length, map, Option, Some, None, refl, sym, ap, subst, ◌∙◌}
-use Rattle.dw_section.proofs.Words.{append_assoc, arith, le-ltb, AllByRecursion, cons_option, length-append, append-nil, map-append, take_at, drop_at, ne_eqb, length-fixed, unit_length_only, length_bytes, Form, Target, Refusal, Pieces}
-use Rattle.dw_section.proofs.Words.{CutFault, Order, Dwarf32, Dwarf64, Input, Takes, Item, gap, entry, IsItem, item_bytes, id_width, all_bytes, Piece, piece_of, pieces, fixed_bytes, ok_is, entry_of, item_at, IsStuck, Four, Cut}
+use Rattle.dw_section.proofs.Words.{Placed, IsPlaced, item_of, piece_in, eqb, false, inl, inr, ◌≡◌, ℕ, ◌+◌, add-zero, zero-add, ◌<◌, ◌≤◌, Result, Ok, Err, List, [], ◌∷◌, ◌++◌, length, Option, Some, None, refl, sym, ap, subst, ◌∙◌}
+use Rattle.dw_section.proofs.Words.{append_assoc, arith, le-ltb, AllByRecursion, cons_option, length-append, append-nil, take_at, drop_at, ne_eqb, length-fixed, unit_length_only, length_bytes, Form, Target, Refusal, Pieces}
+use Rattle.dw_section.proofs.Words.{CutFault, Order, Dwarf32, Dwarf64, Input, Takes, Item, gap, entry, IsItem, item_bytes, id_width, all_bytes, Piece, piece_of, pieces, fixed_bytes, ok_is, item_at, IsStuck, Four, Cut}
 use Rattle.dw_section.proofs.Stages.{all_push}
-use Rattle.dw_section.specs.declared.entry.Entry.{Entry}
 use Rattle.dw_num.specs.declared.target.Order.TheVariants.{Little, Big}
-
-err_one : {A : Type 0} (x : Result A Refusal) (r q : Refusal) → x ≡ Err r → x ≡ Err q → r ≡ q
-err_one x r q v w = let e = sym v ∙ w in cc
 
 pub gap_bytes : (order : Order) → length_bytes order Dwarf32 0 ≡ 0 ∷ 0 ∷ 0 ∷ 0 ∷ []
 gap_bytes Little = refl
@@ -53,9 +49,19 @@ walked_more target s old new found item w is t =
       are = ap (λ (g : Target). found ++ cons_option (piece_of g.order old.at item) []) w.same ∙ ap (λ (es : List Piece). es ++ cons_option (piece_of order old.at item) []) w.are ∙ ap (λ (n : ℕ). pieces order 0 w.items ++ cons_option (piece_of order n item) []) (w.place ∙ sym (zero-add _)) ∙ sym (pieces-push order 0 w.items item);
     }
 
-pub walked_entry : (target : Target) (s : List ℕ) (old new : Input) (found : List Piece) (p : Placed) → IsWalked target s old found → IsItem (item_of (Some p)) → Takes old (item_bytes old.target.order (item_of (Some p))) new → IsPlaced old (Some p)
-    → IsWalked target s new (found ++ piece_in p ∷ [])
-walked_entry target s old new found p w is t placed = rw (placed.0, placed.1, placed.2) (walked_more target s old new found (item_of (Some p)) w is t)
+-- a walk that keeps something of the pieces so far
+pub record Keeps (Kept : List Piece → Type 0) (target : Target) (s : List ℕ) (now : Input) : Type 0 where
+  pub parts : List Piece
+  pub walked : IsWalked target s now parts
+  pub kept : Kept parts
+
+pub kept_entry : (Kept Next : List Piece → Type 0) (target : Target) (s : List ℕ) (old new : Input) (p : Placed) → Keeps Kept target s old → IsItem (item_of (Some p)) → Takes old (item_bytes old.target.order (item_of (Some p))) new → IsPlaced old (Some p)
+    → ((ps : List Piece) → Kept ps → Next (ps ++ piece_in p ∷ [])) → Keeps Next target s new
+kept_entry Kept Next target s old new p w is t placed next =
+    record { parts = w.parts ++ piece_in p ∷ []; walked = rw (placed.0, placed.1, placed.2) (walked_more target s old new w.parts (item_of (Some p)) w.walked is t); kept = next w.parts w.kept }
+
+pub kept_gap : (Kept : List Piece → Type 0) (target : Target) (s : List ℕ) (old new : Input) → Keeps Kept target s old → Takes old (item_bytes old.target.order gap) new → Keeps Kept target s new
+kept_gap Kept target s old new w t = record { parts = w.parts; walked = rw append-nil at (walked_more target s old new w.parts gap w.walked tt t); kept = w.kept }
 
 -- an item has bytes
 pub item_some : (order : Order) (item : Item) → 4 ≤ length (item_bytes order item)
@@ -145,7 +151,7 @@ one_cut order s xs ys p q =
 pub one_stuck : (target : Target) (s : List ℕ) (r q : Refusal) → IsStuck target s r → IsStuck target s q → r ≡ q
 one_stuck target s r q v w =
     let same = one_walk target.order v.items w.items v.rest w.rest v.each w.each (stuck_stops target s r v) (stuck_stops target s q w) (sym v.whole ∙ w.whole) in
-    err_one _ r q (rw (same.0, same.1) at v.stuck) w.stuck
+    let e = sym (rw (same.0, same.1) at v.stuck) ∙ w.stuck in cc
 
 -- a section has one list of pieces
 pub one_pieces : (target : Target) (s : List ℕ) (ps qs : List Piece) → Pieces target s ps → Pieces target s qs → ps ≡ qs
@@ -157,22 +163,3 @@ cut_or_pieces target s r ps (inl large) p = omega (arith, large.0, p.small)
 cut_or_pieces target s r ps (inr (small, w)) p =
     let e = (one_walk target.order p.items w.items [] w.rest p.cut.each w.each (none_stops target.order) (stuck_stops target s r w) (append-nil (all_bytes target.order p.items) ∙ sym p.cut.whole ∙ w.whole)).1 in
     omega (arith, ap length e, w.some)
-
--- ---- entries
-
--- a walk that lists entries
-pub record IsListed (target : Target) (s : List ℕ) (now : Input) (found : List Entry) : Type 0 where
-  pub parts : List Piece
-  pub walked : IsWalked target s now parts
-  pub are : found ≡ map entry_of parts
-
-pub listed_entry : (target : Target) (s : List ℕ) (old new : Input) (found : List Entry) (p : Placed) → IsListed target s old found → IsItem (item_of (Some p)) → Takes old (item_bytes old.target.order (item_of (Some p))) new → IsPlaced old (Some p)
-    → IsListed target s new (found ++ record { at = p.at; kind = p.kind; form = p.form; length = length p.contents.bytes.now } ∷ [])
-listed_entry target s old new found p w is t placed = record {
-  parts = w.parts ++ piece_in p ∷ [];
-  walked = walked_entry target s old new w.parts p w.walked is t placed;
-  are = ap (λ (es : List Entry). es ++ entry_of (piece_in p) ∷ []) w.are ∙ sym (map-append entry_of w.parts (piece_in p ∷ []));
-}
-
-pub listed_gap : (target : Target) (s : List ℕ) (old new : Input) (found : List Entry) → IsListed target s old found → Takes old (item_bytes old.target.order gap) new → IsListed target s new found
-listed_gap target s old new found w t = record { parts = w.parts; walked = rw append-nil at (walked_more target s old new w.parts gap w.walked tt t); are = w.are }

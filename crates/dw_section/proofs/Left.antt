@@ -1,7 +1,7 @@
 -- A walk over a section that has a cut gives its pieces, and one over a section that has headers gives these.
 use Rattle.dw_section.specs.Inner.Left.{Stays}
-use Rattle.dw_section.proofs.Words.{Some, Placed, IsPlaced, item_of, piece_in, ◌≡◌, ℕ, ◌<◌, ◌≤◌, List, [], ◌∷◌, length, Err, refl, sym, ap, subst, ◌∙◌, arith, length-append, AllZip, cons_option, Order, Target, Refusal, Input, Takes, Item}
-use Rattle.dw_section.proofs.{Words.{gap, IsItem, item_bytes, Piece, piece_of, pieces, item_at, Pieces, cie_places, Head, Has, Headers, PiecesLeft, HeadsLeft}, Items.{item_some, stuck_before, left_by, none_by}}
+use Rattle.dw_section.proofs.Words.{◌≡◌, ℕ, ◌<◌, ◌≤◌, List, [], ◌∷◌, length, refl, sym, ap, subst, ◌∙◌, arith, length-append, AllZip, cons_option, Order, Target, Input, Takes, Item}
+use Rattle.dw_section.proofs.{Words.{gap, IsItem, item_bytes, Piece, piece_of, pieces, Pieces, cie_places, Head, Has, Headers, PiecesLeft, HeadsLeft}, Items.{item_some, left_by, none_by}}
 
 pub left_item : (old new : Input) (item : Item) (ps : List Piece) → IsItem item → Takes old (item_bytes old.target.order item) new → PiecesLeft old ps
     → (rest : List Piece) × (ps ≡ cons_option (piece_of old.target.order old.at item) rest) × PiecesLeft new rest
@@ -16,15 +16,8 @@ left_item old new item ps is t w =
 pub left_gap : (old new : Input) (ps : List Piece) → Takes old (item_bytes old.target.order gap) new → PiecesLeft old ps → PiecesLeft new ps
 left_gap old new ps t w = let q = left_item old new gap ps tt t w in subst (PiecesLeft new) (sym q.1) q.2
 
-pub left_entry : (old new : Input) (p : Placed) (ps : List Piece) → IsItem (item_of (Some p)) → Takes old (item_bytes old.target.order (item_of (Some p))) new → IsPlaced old (Some p) → PiecesLeft old ps
-    → (rest : List Piece) × (ps ≡ piece_in p ∷ rest) × PiecesLeft new rest
-left_entry old new p ps is t placed w = rw (placed.0, placed.1, placed.2) (left_item old new (item_of (Some p)) ps is t w)
-
 pub left_none : (i : Input) (ps : List Piece) → length i.bytes ≤ 0 → PiecesLeft i ps → ps ≡ []
 left_none i ps none w = w.are ∙ ap (pieces i.target.order i.at) (none_by i.target.order w.items i.bytes w.cut.whole none)
-
-pub left_stuck : (i : Input) (ps : List Piece) (r : Refusal) → 0 < length i.bytes → item_at i ≡ Err r → PiecesLeft i ps → ⊥
-left_stuck i ps r some e w = stuck_before i.target i.at w.items i.bytes r w.cut.each w.cut.whole some e
 
 -- ---- a step stays in the section
 
@@ -59,9 +52,6 @@ pub heads_next : (target : Target) (places : List ℕ) (old new : Input) (p : Pi
 heads_next target places old new p hs is w q on =
     let s = heads_some old.target places p w.parts q.0 hs q.1 w.each in
     (s.0, s.1, s.2, subst (λ (t : Target). Has t places p s.0) is s.3, record { parts = q.0; left = q.2; each = subst (λ (t : Target). AllZip (Has t places) q.0 s.1) (sym on.target) s.4 })
-
-pub heads_all : (target : Target) (s places : List ℕ) (hs : List Head) (p : Headers target s hs) → places ≡ cie_places p.entries → HeadsLeft places (record { at = 0; bytes = s; target = target }) hs
-heads_all target s places hs p e = record { parts = p.entries; left = left_all target s p.entries p.cut; each = subst (λ (l : List ℕ). AllZip (Has target l) p.entries hs) (sym e) p.each }
 
 pub headers_so : (target : Target) (s : List ℕ) (ps : List Piece) (places : List ℕ) (hs : List Head) → Pieces target s ps → places ≡ cie_places ps → AllZip (Has target places) ps hs → Headers target s hs
 headers_so target s ps places hs cut e z = record { entries = ps; cut = cut; each = subst (λ (l : List ℕ). AllZip (Has target l) ps hs) e z }

@@ -18,26 +18,16 @@ pub use Rattle.dw_num.proofs.Lent.{FixedLaws.{fixed_at_again, fixed_found, fixed
 pub use Rattle.dw_num.proofs.Lent.{Refusals.refuses_by, Stays.{either_stays, fixed_stays, inside_all, sleb_stays, stays-then, stays_in, uleb_stays, unit_length_stays}, Steps.{Again, Takes-then, bind_ok}}
 pub use Rattle.dw_op.specs.Faults.{IsWithin}
 pub use Rattle.dw_op.proofs.Lent.ReadingLaws.{some_is}
-pub use Rattle.dw_row.specs.{Agreement.{is_kept, kept, without}, Difference.{DiffersFirst, FirstDifference, place_behind}}
-pub use Rattle.dw_row.specs.Rows.{AreSpecified, Rules, is_specified, rule, rule_in}
-pub use Rattle.dw_row.specs.declared.rule.{CfaRule.{CfaRule, TheVariants.Unset}, RegRule.{RegRule, TheVariants.Unspecified}}
+pub use Rattle.dw_row.specs.{Agreement.{is_kept, kept, without}, Difference.{DiffersFirst, FirstDifference, place_behind}, Rows.{AreSpecified, Rules, is_specified, rule, rule_in}, declared.rule.CfaRule.{CfaRule, TheVariants.Unset}}
+pub use Rattle.dw_row.specs.declared.rule.RegRule.{RegRule, TheVariants.Unspecified}
 pub use Rattle.dw_row.proofs.Lent.{Narrowed.{filter_keeps, filter_rule, first_left}, RowLists.unlisted, SameRows.same_rows}
-pub use Rattle.dw_cfa.specs.Behind.{GivesUpTo, HoldsBehind, IsRowAfter, Leaves, LeavesTo, RunsBehind, ends}
-pub use Rattle.dw_cfa.specs.{Column.{cfa_after, cfa_change, look_back, rule_after, rule_change}, Faults.FdeFault, Gives.{Gives, RunsTo}}
-pub use Rattle.dw_cfa.specs.{InitialRules.{HoldsAfter, initial_cfa, initial_rule}, InstrSpells.{BlockSpells, IsOffset, ProgramSpells}}
-pub use Rattle.dw_cfa.specs.{Kept.{CieKept, FdeKept, KeepsHalves, in_cie, is_remember, is_restore, keeps_half}, Listing.{Listing, answers, complete}}
-pub use Rattle.dw_cfa.specs.{Location.{Counts, back_from, location, location_back, moves_location, onto, row_starts}, Opening.{cfa_with, first_row, row_with}}
-pub use Rattle.dw_cfa.specs.{RowSteps.{Advances, Stepping, program_input, stepping}, RowWalk.{AllKeep, CieKeeps, Led, StandsOn, Walking, unled}}
-pub use Rattle.dw_cfa.specs.declared.instr.Instr.TheVariants.{DefCfa, DefCfaExpression, DefCfaOffset, DefCfaRegister, Nop, RememberState, Restore}
-pub use Rattle.dw_cfa.specs.declared.instr.Instr.TheVariants.{RestoreState, Set}
-pub use Rattle.dw_cfa.specs.declared.instr.Instr.{Instr}
-pub use Rattle.dw_cfa.specs.declared.instr.Factors.{Factors}
-pub use Rattle.dw_cfa.specs.declared.execution.LocatedRow.{LocatedRow}
-pub use Rattle.dw_cfa.specs.{RuleAt.{NeverFalls, last_at, or_here}, RulesBehind.RulesBehind, Runs.{Outcome, finished, row_then}}
-pub use Rattle.dw_cfa.proofs.Lent.Given.{behind_where_fault, gives_where_kept, leaves_one, leaves_where_kept, one_behind, one_initial, one_run}
-pub use Rattle.dw_cfa.proofs.Lent.Given.{refused_where_fault, rules_behind}
-pub use Rattle.dw_cfa.proofs.Lent.{FaultPlaces.{cie_within, fde_within, run_within}, InstrCounts.{counts_exists, one_count}}
-pub use Rattle.dw_cfa.proofs.Lent.Spellings.{IsSpelled, RuleSpells, by_table, in_table}
+pub use Rattle.dw_cfa.specs.{Behind.{GivesUpTo, HoldsBehind, IsRowAfter, Leaves, LeavesTo, RunsBehind, ends}, Column.{cfa_after, cfa_change, look_back, rule_after, rule_change}, Faults.FdeFault, Gives.{Gives, RunsTo}}
+pub use Rattle.dw_cfa.specs.{InitialRules.{HoldsAfter, initial_cfa, initial_rule}, InstrSpells.{BlockSpells, IsOffset, ProgramSpells}, Kept.{CieKept, FdeKept, KeepsHalves, in_cie, is_remember, is_restore, keeps_half}, Listing.Listing}
+pub use Rattle.dw_cfa.specs.{Listing.{answers, complete}, Location.{Counts, back_from, location, location_back, moves_location, onto, row_starts}, Opening.{cfa_with, first_row, row_with}, RowSteps.{Advances, Stepping, program_input}}
+pub use Rattle.dw_cfa.specs.{RowSteps.stepping, RowWalk.{AllKeep, CieKeeps, Led, StandsOn, Walking, unled}, RuleAt.{NeverFalls, last_at, or_here}, RulesBehind.RulesBehind, Runs.{Outcome, finished, row_then}}
+pub use Rattle.dw_cfa.specs.declared.{execution.LocatedRow.LocatedRow, instr.{Factors.Factors, Instr.{Instr, TheVariants.{DefCfa, DefCfaExpression, DefCfaOffset, DefCfaRegister, Nop, RememberState, Restore, RestoreState, Set}}}}
+pub use Rattle.dw_cfa.proofs.Lent.{FaultPlaces.{cie_within, fde_within, run_within}, Given.{behind_where_fault, gives_where_kept, leaves_one, leaves_where_kept, one_behind, one_initial, one_run, refused_where_fault, rules_behind}}
+pub use Rattle.dw_cfa.proofs.Lent.{InstrCounts.{counts_exists, one_count}, Spellings.{IsSpelled, RuleSpells, by_table, in_table}}
 unfoldable pub use Rattle.dw_section.specs.{Faults.item_at, Inner.PieceHeader.{cie_at, fde_at}}
 pub use Rattle.dw_section.specs.{Accepted.{Accepted, CheckFault, CieProgramsFault, CiesRun, FdeProgramsFault, FdesRun, Indexed, RulesFault, RulesHold}, Among.IsAmong, Changes.{AreChanges, ChangesBehind, Changing, GivesAddress, HoldsAt}}
 pub use Rattle.dw_section.specs.{Changes.{StayFrom, before_then, kept_by, last_shown}, Cut.{Cut, IsItem, Item, Piece, all_bytes, entry, gap, id_width, is_cie, item_bytes, piece_of, pieces}, Faults.{CutFault, IsStuck, body_at, is_32}}

@@ -171,7 +171,6 @@ fn keep_entry(places: &mut EntryPlaces, piece: &Placed<'_>) -> Result<(), AllocE
 }
 
 /// Cuts a section, and keeps where its CIEs stand.
-#[tactic(auto, using(crate::proofs::Tally::tallied_gap))]
 pub(crate) fn cut(alloc: Global, bytes: &[u8], target: Target) -> Result<EntryPlaces, ReadError>
     ensures found { IfOk result (λ n. (ps : List Piece) × Pieces target bytes.now ps × ArePlaced ps n) }
     ensures first { IfErr result (Refuses (CutFault target bytes.now)) }
@@ -190,7 +189,6 @@ pub(crate) fn cut(alloc: Global, bytes: &[u8], target: Target) -> Result<EntryPl
     Ok(places)
 }
 
-#[tactic(auto, using(crate::proofs::Items::listed_gap))]
 fn all_entries(alloc: Global, bytes: &[u8], target: Target) -> Result<Vec<Entry>, ReadError>
     ensures found { IfOk result (λ v. Entries target bytes.now v.items) }
     ensures first { IfErr result (Refuses (CutFault target bytes.now)) }

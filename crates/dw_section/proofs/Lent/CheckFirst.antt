@@ -171,9 +171,6 @@ apart_at : (before : List Range) (it : Range) (after : List Range) (other : Rang
 apart_at [] it after other h i = absurd i
 apart_at (b ∷ before) it after other h i = grind (arith, i, holds_at (λ (x : Range). end_of b ≤ x.begin) before it after h.0, apart_at before it after other h.1)
 
-overlap_apart : (index : List Range) (r : Refusal) → AreApart index → FirstOverlap index r → ⊥
-overlap_apart index r h w = let p = apart_at w.before w.it w.after w.other (subst AreApart w.whole h) w.other_in in omega (arith, p, w.meets)
-
 overlap_one : (index : List Range) (r q : Refusal) → FirstOverlap index r → FirstOverlap index q → r ≡ q
 overlap_one index r q v w = elim (splits v.before w.before v.it w.it v.after w.after (sym v.whole ∙ w.whole)) [
   | inl same ↦ v.is ∙ ap (λ (x : Range). let y : Refusal = record { code = Overlap; at = x.at } in y) same ∙ sym w.is
@@ -222,11 +219,8 @@ module _ (target : Target) (s : List ℕ) (b : AreBytes s) where
 
   pub check_stage : Stage (AreBytes s) (λ index. Indexed target s index × AreApart index) (CheckFault target s)
   check_stage = next_stage (RulesFault target s) (Indexed target s) indexed AreApart FirstOverlap
-      (λ index is. record { apart = overlap_apart index; one = overlap_one index; some = λ given. apart_or_overlap index [] index refl tt })
+      (λ index is. record { apart = λ r h w. let p = apart_at w.before w.it w.after w.other (subst AreApart w.whole h) w.other_in in omega (arith, p, w.meets); one = overlap_one index; some = λ given. apart_or_overlap index [] index refl tt })
 
   -- a section that is accepted has no first fault
   pub fault_or_accepted : (r : Refusal) → CheckFault target s r → Accepted target s → ⊥
   fault_or_accepted r fault v = check_stage.apart r v.0 fault (v.1, v.2)
-
-pub some_check : (target : Target) (s : List ℕ) → AreBytes s → Accepted target s ⊎ ((r : Refusal) × CheckFault target s r)
-some_check target s b = elim ((check_stage target s b).some b) [ inl found ↦ inl (found.0, found.1.0, found.1.1) | inr fault ↦ inr fault ]

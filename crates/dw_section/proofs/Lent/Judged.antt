@@ -38,9 +38,6 @@ module _ (target : Target) (hs : List Head) (c : CieHead) (among : IsAmong (cie 
   begins_so : InitialInstrs target hs f.cie_at c initial
   begins_so = record { among = among; stands = place; spelled = left.program }
 
-  fde_broken : (r : Refusal) → FdeFault (factors_of c) row.cfa (input_of target f.program) f.begin r → FdeBroken target hs (fde f) r
-  fde_broken r fault = (c, initial, begins_so, subst (λ (x : CfaRule). FdeFault (factors_of c) x (input_of target f.program) f.begin r) left.cfa fault)
-
   module _ (instrs : List Instr) (rows : List LocatedRow) (given : RulesBehind (factors_of c) row (input_of target f.program) f.begin instrs rows) where
     instrs_so : Instrs target hs f.cie_at f.program initial instrs
     instrs_so = record { head = c; begins = begins_so; spelled = given.program }
@@ -95,7 +92,7 @@ module _ (target : Target) (hs : List Head) (led : Led) (f : FdeHead) (is : LedT
 
   pub behind_broken : (o : Outcome) → LedRuns o → (r : Refusal) → o.fault ≡ Some r → FdeBroken target hs (fde f) r
   behind_broken o runs_to r fault =
-      fde_broken target hs c is.1 runs.0 left.0 left.1 f is.2 r ((behind_where_fault (factors_of c) left.0 (input_of target f.program) f.begin fb left.1.listed (omega (arith, lt)) o (ran o runs_to) r).0 fault)
+      (c, runs.0, begins_so target hs c is.1 runs.0 left.0 left.1 f is.2, subst (λ (x : CfaRule). FdeFault (factors_of c) x (input_of target f.program) f.begin r) left.1.cfa ((behind_where_fault (factors_of c) left.0 (input_of target f.program) f.begin fb left.1.listed (omega (arith, lt)) o (ran o runs_to) r).0 fault))
 
 -- ---- the first that lacks one
 

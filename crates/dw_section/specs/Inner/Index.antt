@@ -1,12 +1,10 @@
 -- What the code keeps of nonempty FDEs.
 use Rattle.std.specs.{Prelude.{◌≡◌, ℕ, ◌+◌, ◌<◌, ◌≤◌, ◌⊎◌, List, [], ◌∷◌, ◌++◌, map, slice_index_or, Option, Result, IfErr, OnOk}, List.AllByRecursion}
-use Rattle.dw_num.specs.{Refusals.Refuses, declared.error.ReadError.ReadError}
-use Rattle.dw_num.specs.declared.target.Target.{Target}
-use Rattle.dw_section.specs.{Accepted.RulesHold, Among.IsAmong, Counts.AreCounts, Cut.Piece, Headers.{Head, Headers}}
-use Rattle.dw_section.specs.{Overlap.{Range, end_of, nonempty}, Pieces.Pieces, Programs.{CieRuns, FdeBroken, FdeRuns}, Ranges.{IsRanged, range_in}}
-use Rattle.dw_section.specs.declared.{entry.EntryCounts.EntryCounts, fde_range.Ranged.Ranged, header.Initial.Initial, listed_fde.FoundFde.FoundFde}
-use Rattle.dw_section.specs.declared.{fde_range.Judged.Judged, walks.Walks.Walks}
-use Rattle.dw_section.specs.Inner.{Initials.{AreAmong, AreOf, FirstLacking}, PieceHeader.{entry_in, initial_in}, Places.RiseBy, Walks.AreLed}
+use Rattle.dw_num.specs.{Refusals.Refuses, declared.{error.ReadError.ReadError, target.Target.Target}}
+use Rattle.dw_section.specs.{Accepted.RulesHold, Among.IsAmong, Counts.AreCounts, Cut.Piece, Headers.{Head, Headers}, Inner.Initials.{AreAmong, AreOf}}
+use Rattle.dw_section.specs.{Inner.{Initials.FirstLacking, PieceHeader.{entry_in, initial_in}, Places.RiseBy, Walks.AreLed}, Overlap.{Range, end_of, nonempty}}
+use Rattle.dw_section.specs.{Pieces.Pieces, Programs.{CieRuns, FdeBroken, FdeRuns}, Ranges.{IsRanged, range_in}, declared.entry.EntryCounts.EntryCounts}
+use Rattle.dw_section.specs.declared.{fde_range.{Judged.Judged, Ranged.Ranged}, header.Initial.Initial, listed_fde.FoundFde.FoundFde, walks.Walks.Walks}
 
 -- an FDE and the CIE that it names are among the headers
 pub record IsFound (hs : List Head) (e : FoundFde) : Type 0 where

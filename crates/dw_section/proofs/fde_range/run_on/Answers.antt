@@ -1,6 +1,6 @@
-use Rattle.dw_section.proofs.Words.{◌≡◌, List, ◌∷◌, Some, None, map, refl, subst, inl, inr, IsAmong, entry_in, AllByRecursion, piece_in, initial_in, Has, Head, HeadsLeft, FdeHolds, FdeStuck, FdeRuns, FdeBroken, Pieces, PiecesLeft}
-use Rattle.dw_section.proofs.{Words.refuses_by, Between.{between_next, between_stuck, between_among, between_later, between_rest, Walk, walk_start, walk_next, walk_end, walk_stuck}, FdeWalk.{says_holds, says_tells, says_fits, places_at}}
-use Rattle.dw_section.proofs.{FdeWalk.{headers_exist, fields_fault}, KeptCies.{all_among, of_headers, some_headers, places_are}, Left.{left_all, heads_all, heads_next, heads_none, stays_then}, Stages.{all_push, handed_on}}
+use Rattle.dw_section.proofs.Words.{◌≡◌, List, ◌∷◌, Some, None, map, refl, ap, subst, sym, ◌∙◌, ℕ, inl, inr, cie_places, AllZip, IsAmong, entry_in, AllByRecursion, piece_in, initial_in, Has, Head, HeadsLeft, FdeHolds, FdeStuck, FdeRuns, FdeBroken, Pieces, PiecesLeft}
+use Rattle.dw_section.proofs.{Words.refuses_by, Between.{between_next, between_stuck, between_among, between_later, both, Walk, walk_start, walk_next, walk_end, walk_stuck}, FdeWalk.{says_holds, says_tells, says_fits}}
+use Rattle.dw_section.proofs.{FdeWalk.{headers_exist, fields_fault}, KeptCies.{all_among, of_headers, some_headers, places_are}, Items.one_pieces, Left.{left_all, heads_next, heads_none, stays_then}, Stages.{all_push, handed_on}}
 use Rattle.dw_section.proofs.{Tables.judged_cie, fde_range.run_on.Goals.{In-Some, In-Some-2, In_ok-fde}}
 use Rattle.dw_section.proofs.fde_range.run_on.Goals as goal
 
@@ -22,7 +22,7 @@ pieces-init c =
     let places = c.args.places.now in
     rw (c.new-cursor.ensures, c.requires.none.0, c.requires.none.1) (
       walk_start (left_all t s) (λ ps p. tt),
-      walk_start (λ hs p. heads_all t s places hs p (places_at t s q.0 places c.args.initials.now q.1 q.2 hs p)) (λ hs p. record { run = tt; first = tt; are = refl; each = tt }),
+      walk_start (λ hs p. record { parts = p.entries; left = left_all t s p.entries p.cut; each = subst (λ (l : List ℕ). AllZip (Has t l) p.entries hs) (sym (q.2.are ∙ ap cie_places (one_pieces t s q.0 p.entries q.1 p.cut))) p.each }) (λ hs p. record { run = tt; first = tt; are = refl; each = tt }),
       λ hs all. c.requires.led hs,
     )
 
@@ -98,7 +98,7 @@ returns-in-Err-clause-first c =
     elim (c.or_fields_fault.ensures w.rest w.left) [
       | inl fields ↦ refuses_by c.or_fields_fault.result _ _ (λ r h. inl (inl (inl (fields_fault t s q.0 places c.args.initials.now q.1 q.2 r (between_later (FdeHolds t places) (FdeStuck t places) q.0 w r w.so h))))) fields
       | inr broken ↦
-          let hs = headers_exist t s q.0 places c.args.initials.now q.1 q.2 (between_rest (FdeHolds t places) q.0 w w.so broken.1) in
+          let hs = headers_exist t s q.0 places c.args.initials.now q.1 q.2 (subst (AllByRecursion (FdeHolds t places)) (sym w.whole) (both (FdeHolds t places) w.front w.rest w.so broken.1)) in
           let v = c.pieces.invariant.1.at hs.0 hs.1 in
           let h = next (goal.at.returns-in-Err-clause-first c).In-Some v.rest v.left in
           let of = of_headers t s q.0 places c.args.initials.now q.1 q.2 hs.0 hs.1 in

@@ -1,5 +1,5 @@
 use Rattle.dw_section.proofs.Words.{◌≡◌, ◌∙◌, ◌<◌, ℕ, List, length, get_or, map, refl, rules, sym, ap, subst, arith, nat_lt, IsPartitionPoint-from_clause, IsPartitionedBy-ltb, Form, Span, span_of, FdeHead, Head, Headers, Has, fde, FdeFits, place_of, piece_in}
-use Rattle.dw_section.proofs.{Words.{Range, cie_places, is_among, true, Initial, IsAmong, Piece, Returns, StandsIn, Target, initial_in}, KeptCies.all_among, Lent.{Heads.all_in, Judged.{all_get, found_initial, initials_ascend}}, StandLaws.{fde_from, own_stands}, Tables.places_so}
+use Rattle.dw_section.proofs.{Words.{AllByRecursion, Range, Rises, cie_places, is_among, true, Initial, IsAmong, Piece, Returns, StandsIn, Target, initial_in}, KeptCies.{all_among, places_among}, Lent.{Heads.{all_in, ats_rise, heads_fit}, Judged.{all_get, found_initial, initials_ascend}}, StandLaws.{fde_from, own_stands}}
 use Rattle.dw_section.proofs.listed_fde.found_fde.Goals.{After-partition_point-named}
 use Rattle.dw_section.proofs.listed_fde.found_fde.Goals as goal
 
@@ -19,7 +19,8 @@ found c =
     let xs = c.args.initials.now in
     let place = c.pointer_of-cie_at.result in
     let i = c.partition_point-named.result in
-    let so = places_so c.args.target c.args.bytes.now q.0 xs q.1 q.2 in
+    let so : Rises 0 (map place_of xs) × AllByRecursion (FdeFits c.args.target (map place_of xs)) q.0 =
+    rw (places_among q.0 xs q.2) (ats_rise c.args.target c.args.bytes.now q.0 q.1, heads_fit c.args.target c.args.bytes.now q.0 q.1) in
     let pointer = c.pointer_of-cie_at.ensures.only (cie_places q.1.entries) q.3.own (own_here c.args.target c.args.bytes.now q.0 _ _ q.1 q.3 c.from-at.result c.from-at.ensures (piece_in c.in-Some.own) (λ x w e. rw c.in-Some.is at (c.in-Ok.ensures.only x w e))) in
     let among : is_among place (map place_of xs) ≡ true = rw pointer (all_in (FdeFits c.args.target (map place_of xs)) q.0 (fde q.3.own) so.1 q.3.own_among).2 in
     let point = IsPartitionPoint-from_clause (λ (x : Initial). nat_lt x.at place) xs i c.partition_point-named.ensures.partitioned (IsPartitionedBy-ltb place_of xs place (initials_ascend 0 xs so.0)) (λ a r f' k. search rules) in

@@ -1,5 +1,5 @@
 use Rattle.dw_section.proofs.Words.{◌≡◌, ◌+◌, ◌∙◌, ap, arith, subst, sym, AreBytes, Changing, ChangesOf, IsAmong, IsFoundIn, List, LocatedRow, Section, changes_among, fde_of, initial_in, initial_head, led_by, Led, LedTo, None, Option}
-use Rattle.dw_section.proofs.{Words.{Outcome, RunsTo, program_input, span_of, input_of, ℕ}, FdeRows.{led_one, one_outcome}, Lent.HeaderLaws.one_headers, RowLookup.{Runs, runs_found}, table.Table.go_on.Goals.After-are_bytes-2}
+use Rattle.dw_section.proofs.{Words.{Head, Outcome, RunsTo, cie, inr, one_run, program_input, span_of, input_of, ℕ}, Lent.{HeaderLaws.one_headers, Heads.{cie_or, heads_rise, one_among}}, RowLookup.{Runs, runs_so}, table.Table.go_on.Goals.After-are_bytes-2}
 use Rattle.dw_section.proofs.table.Table.go_on.Goals as goal
 
 module _ (c : After-are_bytes-2) where
@@ -13,7 +13,7 @@ module _ (c : After-are_bytes-2) where
   is_found = subst (λ (s : Section). IsFoundIn s.target s.bytes c.found-found.result) (sym same) c.found-found.ensures.found
 
   runs : Runs here.target here.bytes c.found-found.result
-  runs = runs_found here.target here.bytes (subst (λ (s : Section). AreBytes s.bytes) (sym same) c.accepted.ensures.bytes) c.found-found.result is_found
+  runs = runs_so here.target here.bytes is_found.headers is_found.hold c.found-found.result is_found.is (subst (λ (s : Section). AreBytes s.bytes) (sym same) c.accepted.ensures.bytes)
 
   among : IsAmong (initial_in c.found-found.result.cie) c.changes.invariant.headers
   among =
@@ -27,14 +27,16 @@ module _ (c : After-are_bytes-2) where
   led : c.lead.new.self.walk.led ≡ led_by here.target (initial_head c.found-found.result.cie)
   led =
       let hs = c.changes.invariant.headers in
-      led_one here.target here.bytes hs c.changes.invariant.are (initial_head c.found-found.result.cie) among c.lead.new.self.walk.led
-      (subst (λ (at : Option ℕ). LedTo here.target hs at c.lead.new.self.walk.led) c.lead.ensures.at (c.lead.ensures.led hs among c.changes.invariant.led).0)
+      let named = initial_head c.found-found.result.cie in
+      let by = subst (λ (at : Option ℕ). LedTo here.target hs at c.lead.new.self.walk.led) c.lead.ensures.at (c.lead.ensures.led hs among c.changes.invariant.led).0 in
+      by.3 ∙ ap (λ (h : Head). led_by here.target (cie_or named h)) (one_among 0 hs (cie by.0) (cie named) (heads_rise here.target here.bytes hs c.changes.invariant.are) by.1 among by.2)
 
   -- so its rows are those of the FDE
   ran : (o : Outcome) → RunsBy c.lead.new.self.walk.led o → o ≡ record { rows = runs.rows; fault = None }
   ran o to =
       let e = c.found-found.result in
-      one_outcome e.cie.factors (input_of here.target (span_of e.cie.program)) (input_of here.target (span_of e.own.program)) e.own.begin o runs.rows c.are_bytes.ensures c.are_bytes-2.ensures (omega (arith, runs.in_space)) (subst (λ (l : Led). RunsBy l o) led to) runs.give
+      let one = one_run e.cie.factors (input_of here.target (span_of e.cie.program)) (input_of here.target (span_of e.own.program)) e.own.begin c.are_bytes.ensures c.are_bytes-2.ensures (omega (arith, runs.in_space)) in
+      one.2 o (subst (λ (l : Led). RunsBy l o) led to) ∙ sym (one.2 (record { rows = runs.rows; fault = None }) (inr runs.give))
 
 pub go_to-requires : goal.go_to-requires
 go_to-requires c = let w = (goal.at.go_to-requires c).After-are_bytes-2 in rw (led w) (runs w).in_space

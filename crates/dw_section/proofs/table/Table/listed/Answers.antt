@@ -1,5 +1,5 @@
-use Rattle.dw_section.proofs.{Words.{◌<◌, map, fde_in, length-map, List, length, get_or, ap, subst, ◌∙◌, arith, get_or_default, Head, IsRanged}, Lent.FdeLookup.{none, are_fdes, listed_are, listed_fde, ranged_of}}
-use Rattle.dw_section.proofs.{Lent.HeaderLaws.one_headers, RowLookup.table_some, table.Table.listed.Goals.After-index}
+use Rattle.dw_section.proofs.{Words.{◌<◌, map, fde_in, length-map, List, length, get_or, ap, subst, ◌∙◌, arith, get_or_default, Head, IsAmong, IsRanged, Range, nonempty, range_in}, Lent.FdeLookup.{none, are_fdes, listed_are, listed_fde, ranged_of}}
+use Rattle.dw_section.proofs.{Lent.HeaderLaws.one_headers, Lent.{Judged.all_get_map, Sections.range_head}, table.Table.listed.Goals.After-index}
 use Rattle.dw_section.proofs.table.Table.listed.Goals as goal
 
 inside : (c : After-index) → c.args.fde.place < length c.index.result.now
@@ -23,6 +23,6 @@ returns c =
     let lt = inside (goal.at.returns c).After-index in
     let is = get_or_default list place none e lt in record {
       ranged = λ hs headers. subst (λ (l : List Head). IsRanged l e) (one_headers s.target s.bytes t.indexed.headers hs t.indexed.hold.0.0.0 headers) (ranged_of s.target s.bytes list t place none lt);
-      some = table_some s.target s.bytes list t place e lt is;
+      some = (range_head t.indexed.headers (range_in e) (all_get_map (λ (a : Range). IsAmong a (nonempty t.indexed.headers)) range_in list place none t.indexed.is_index.from lt)).some;
       is = λ fs are d. listed_fde list place e d lt is ∙ ap (λ l. get_or l place d) (listed_are s.target s.bytes list t fs are);
     }
