@@ -16,9 +16,6 @@ pub record CiesPut {S : Type 0} (failures : S → ℕ) (taken : S → Option (Li
   pub fits : AllByRecursion (λ (row : ℕ × Rules). AllByRecursion (InstrFits t) (cie_instrs row.1)) rest
   pub placing : Placing t all rest places (out.room - out'.room)
 
-zero_left : (n : ℕ) → n - n ≡ 0
-zero_left n = omega arith
-
 from_none : (o p : Option ℕ) → o ≡ p → either_of o None ≡ p
 from_none None p e = e
 from_none (Some n) p e = e
@@ -31,7 +28,7 @@ cies_start failures taken t {all} {rest} {places} out old is rise none fits = re
   counts = refl;
   whole = ap (cies_bytes t) (sym is);
   fits = subst (λ (l : List (ℕ × Rules)). AllByRecursion (λ (row : ℕ × Rules). AllByRecursion (InstrFits t) (cie_instrs row.1)) l) (sym is) fits;
-  placing = rw (none, is) (record { low = 0; rise = rise; same = λ r. from_none _ _ (ap (λ (n : ℕ). cie_place t n all r) (zero_left out.room)) });
+  placing = rw (none, is) (record { low = 0; rise = rise; same = λ r. let none : out.room - out.room ≡ 0 = omega arith in from_none _ _ (ap (λ (n : ℕ). cie_place t n all r) none) });
 }
 
 module _ {S : Type 0} {failures : S → ℕ} {taken : S → Option (List ℕ)} {t : Target} {all left rest : List (ℕ × Rules)} {row : ℕ × Rules} {places : List (ℕ × ℕ)} {out mid : Output} {old now : S}

@@ -2,7 +2,7 @@
 
 ghost use Rattle.std.specs.{Prelude.{◌≡◌, ℕ, false, None, IfSome, OnOk}, BTreeMap.get, Ordering.nat_cmp};
 ghost use Rattle.dw_row.specs.{Difference.{FirstDifference, place_behind}, RegisterSets.SameBeside, Rows.{AreSpecified, Rules}};
-ghost use Rattle.dw_normal.specs.Inner.{Apart.{NotesSame, StandsApart}, Differences.Tells, Known.{HoldsAt, Notes}};
+ghost use Rattle.dw_normal.specs.Inner.{Apart.{KnownBeside, NotesSame, NotesSameAt, StandsApart}, Differences.Tells};
 
 use crate::known::Known;
 use dw_row::{RegisterSet, Row};
@@ -99,9 +99,9 @@ impl<'a> Apart<'a> {
         cie_at: u64,
         register: u16,
     ) -> Result<(), AllocError>
-        requires { (row : Rules) × HoldsAt (λ set. SameBeside set shared.now row) cie_at register self.old.known.cies × SameBeside self.old.known.changed row first.now }
+        requires { KnownBeside cie_at register self.old.known shared.now first.now }
         ensures lists { OnOk result (SameBeside self.new.registers shared.now first.now) }
-        ensures known { OnOk result (Notes (λ set. (row : Rules) → SameBeside self.old.known.changed row first.now → SameBeside set shared.now row) cie_at register self.old.known.cies self.new.known.cies) }
+        ensures known { OnOk result (NotesSameAt cie_at register self.old.known shared.now first.now self.new.known.cies) }
     {
         match self.known.take(cie_at, register) {
             Some(before) => {
@@ -128,7 +128,7 @@ impl<'a> Apart<'a> {
         behind: Option<Behind>,
         register: u16,
     ) -> Result<(), AllocError>
-        requires { IfSome behind (λ b. (row : Rules) × HoldsAt (λ set. SameBeside set shared.now row) b.cie_at register self.old.known.cies × SameBeside self.old.known.changed row first.now) }
+        requires { IfSome behind (λ b. KnownBeside b.cie_at register self.old.known shared.now first.now) }
         ensures stands { OnOk result (StandsApart self.new shared.now first.now) }
         ensures known { OnOk result (NotesSame behind register self.old.known shared.now first.now self.new.known.cies) }
     {

@@ -2,10 +2,10 @@
 
 ghost use Rattle.std.specs.{Prelude.{◌≡◌, ℕ, ◌+◌, ◌++◌, ◌<◌, ◌≤◌, ◌^◌, List, drop, length, OnOk}, List.AllByRecursion};
 ghost use Rattle.dw_num.specs.{Fixed.fixed_bytes, Target.{address_limit, byte_count}};
-ghost use Rattle.dw_canon.specs.{Members.Member, Written.{cie_field_bytes, fde_field_bytes}};
+ghost use Rattle.dw_canon.specs.Written.{fde_field_bytes};
 ghost use Rattle.dw_canon.specs.Inner.{Canon.cie_instrs, Fits.InstrFits};
-ghost use Rattle.dw_normal.specs.Inner.{Begun.{IsBegun, IsReady, KeepsFde}, ChangeWalk.{Stand, later_bytes}, Lengths.cie_with, Places.fde_at};
-ghost use Rattle.dw_normal.specs.Inner.{Puts.{Fills, Holds, SameRoom}, Writing.unsized};
+ghost use Rattle.dw_normal.specs.Inner.{Begun.{IsReady, KeepsFde}, ChangeWalk.{Stand, later_bytes}, Lengths.cie_with};
+ghost use Rattle.dw_normal.specs.Inner.{Puts.{Fills, Holds, SameRoom}, Writing.{FillsBegun, unsized}};
 
 use crate::apart::Differences;
 use crate::begun::Begun;
@@ -133,7 +133,7 @@ pub(crate) fn fill_fde(
     requires begin { begun.old.fde.begin < address_limit target.size }
     requires rises { begun.old.fde.begin ≤ begun.old.fde.end }
     requires range { begun.old.fde.end < begun.old.fde.begin + address_limit target.size }
-    ensures contents { (ms : List Member) (m : Member) → IsBegun ms m begun.old → Fills (unsized target (fde_at target begun.old.cie_at ms m)) result out.old out.new }
+    ensures contents { FillsBegun target begun.old result out.old out.new }
     ensures room { SameRoom out.old out.new }
     ensures section { begun.new.changes.section ≡ begun.old.changes.section }
     ensures kept { KeepsFde begun.old begun.new }

@@ -1,9 +1,9 @@
 //! The entries of a normal form, put one after another. One entry is held at a time.
 
-ghost use Rattle.std.specs.Prelude.{◌≡◌, ℕ, ◌-◌, ◌<◌, ◌≤◌, ◌^◌, [], List, length, slice_index_or, true, OnOk};
-ghost use Rattle.dw_canon.specs.{Members.Member, Inner.Canon.canon};
+ghost use Rattle.std.specs.Prelude.{◌≡◌, ◌-◌, ◌<◌, ◌≤◌, ◌^◌, [], OnOk};
+ghost use Rattle.dw_canon.specs.Inner.Canon.{canon};
 ghost use Rattle.dw_normal.specs.Inner.{Begun.Walks, Lengths.cies_bytes, Listed.{AreInitial, AreListed, ArePlaces, IsListed, OfMembers}};
-ghost use Rattle.dw_normal.specs.Inner.{Places.fde_with, Puts.{Fills, SameRoom, Sinks}, Writing.{all_fdes, table_of, unsized}};
+ghost use Rattle.dw_normal.specs.Inner.{Puts.{SameRoom, Sinks}, Writing.{FillsListed, all_fdes, table_of}};
 
 use crate::begun::{Begun, begin_fde, room_for};
 use crate::contents::{fill_cie, fill_fde};
@@ -51,7 +51,7 @@ pub(crate) fn fill_next<'r, 'a>(
     requires room { out.old.room ≤ 2147483647 }
     requires place { IsListed (table_of begun.old) fde.place }
     requires walks { Walks begun.old }
-    ensures contents { OfMembers (table_of begun.old) (λ ms. (d : Member) → Fills (unsized (table_of begun.old).target (fde_with (table_of begun.old).target ms (slice_index_or ms fde.place d))) result out.old out.new) }
+    ensures contents { FillsListed (table_of begun.old) fde.place result out.old out.new }
     ensures walks { OnOk result (Walks begun.new) }
     ensures ready { begun.new.ready ≡ begun.old.ready }
     ensures room { SameRoom out.old out.new }

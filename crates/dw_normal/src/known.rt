@@ -3,7 +3,7 @@
 
 ghost use Rattle.std.specs.{Prelude.{◌≡◌, ℕ, None, Some, IfSome, OnOk}, BTreeMap.get, Ordering.nat_cmp};
 ghost use Rattle.dw_row.specs.{RegisterSets.{AgreesBeside, SameBeside}, Rows.Rules, Inner.Agreement.agreed};
-ghost use Rattle.dw_normal.specs.Inner.Known.{AreLess, HoldsAt, Notes, Puts};
+ghost use Rattle.dw_normal.specs.Inner.Known.{AreLess, HoldsAt, NotesAgreeAt, Puts};
 
 use dw_row::{RegisterSet, Row};
 use std::alloc::{AllocError, Global};
@@ -70,7 +70,7 @@ impl<'a> Known<'a> {
     ) -> Result<(), AllocError>
         requires { (row : Rules) × HoldsAt (λ set. AgreesBeside set shared.old row) cie_at register self.old.cies × SameBeside self.old.changed row first.now }
         ensures row { OnOk result (shared.new ≡ agreed shared.old first.now) }
-        ensures known { OnOk result (Notes (λ set. (row : Rules) → SameBeside self.old.changed row first.now → AgreesBeside set shared.new row) cie_at register self.old.cies self.new.cies) }
+        ensures known { OnOk result (NotesAgreeAt cie_at register self.old first.now shared.new self.new.cies) }
     {
         shared.ascends();
         match self.take(cie_at, register) {

@@ -1,9 +1,8 @@
 //! Whether two tables say the same: whether the entries of their normal forms are the same, one after another.
 
-ghost use Rattle.std.specs.Prelude.{◌≡◌, ◌≤◌, [], length, IfOk, OnOk};
-ghost use Rattle.dw_canon.specs.{Members.Member, Inner.Canon.canon};
-ghost use Rattle.dw_normal.specs.Inner.{Begun.Walks, Lengths.cies_bytes, Listed.{AreInitial, AreListed, ArePlaces, IsListed, OfBoth}};
-ghost use Rattle.dw_normal.specs.Inner.{Puts.{IsKept, SameRoom}, Writing.{Likens, all_fdes, fde_bytes, table_of}};
+ghost use Rattle.std.specs.Prelude.{◌≡◌};
+ghost use Rattle.dw_canon.specs.Inner.Canon.{canon};
+ghost use Rattle.dw_normal.specs.Inner.{Begun.Walks, Listed.{AreInitial, AreListed}, Puts.IsKept, Writing.{Compares, all_fdes, table_of}};
 
 use crate::begun::{Begun, room_for};
 use crate::entry::{fill_next, write_cies};
@@ -28,7 +27,7 @@ fn same_over<'r, 'a, 'q, 'b>(
     requires other_count { AreListed (table_of two.old) count }
     requires walks { Walks one.old × Walks two.old }
     requires kept { IsKept mine.old × IsKept other.old }
-    ensures { OfBoth (table_of one.old) (table_of two.old) (λ ms ns. IfOk result (Likens (ms ≡ ns) (all_fdes (table_of one.old) ms ≡ all_fdes (table_of two.old) ns))) }
+    ensures { Compares (table_of one.old) (table_of two.old) all_fdes result }
 {
     'fdes: for place in 0..count {
         fill_next(mine, one, FdeRef { place })?;
@@ -46,7 +45,7 @@ pub(crate) fn same_tables(alloc: Global, one: &Ready<'_>, two: &Ready<'_>) -> Re
     requires target { one.now.table.target ≡ two.now.table.target }
     requires rows { AreInitial one.now.table one.now.rows.entries }
     requires other_rows { AreInitial two.now.table two.now.rows.entries }
-    ensures { OfBoth one.now.table two.now.table (λ ms ns. IfOk result (Likens (ms ≡ ns) (canon one.now.table.target ms ≡ canon two.now.table.target ns))) }
+    ensures { Compares one.now.table two.now.table (λ table ms. canon table.target ms) result }
 {
     let count = one.table.fde_count();
     if two.table.fde_count() != count {

@@ -1,10 +1,9 @@
 //! Bytes on their way to a sink: an entry is built, and put with its length. Or its bytes are counted alone, and forgotten piece by piece.
 
 ghost use Rattle.std.specs.Prelude.{◌≡◌, ℕ, ◌+◌, ◌-◌, ◌<◌, ◌≤◌, ◌^◌, ◌++◌, List, false, length, replicate, IfOk, IfErr};
-ghost use Rattle.dw_num.specs.{Fixed.fixed_bytes, declared.target.Form.TheVariants.Dwarf32};
-ghost use Rattle.dw_section.specs.Cut.{entry, item_bytes};
+ghost use Rattle.dw_num.specs.Fixed.{fixed_bytes};
 ghost use Rattle.dw_canon.specs.Written.{missing};
-ghost use Rattle.dw_normal.specs.{declared.output.Stop.TheVariants.{Full, Memory}, Inner.Puts.{Fills, Holds, Puts, SameRoom, Sinks, sink_at}};
+ghost use Rattle.dw_normal.specs.{declared.output.Stop.TheVariants.{Full, Memory}, Inner.Puts.{Fills, Holds, Puts, SameRoom, SinksHeld, sink_at}};
 
 use crate::contents::write_number;
 use crate::sink::Sink;
@@ -130,7 +129,7 @@ pub(crate) fn put_entry<S: Sink>(sink: &mut S, out: &mut Output, order: Order) -
     requires failures { S.failures sink.old < 2 ^ 64 - 1 }
     requires room { out.old.room ≤ 2147483647 }
     requires holds { (contents : List ℕ) × Holds out.old (fixed_bytes order 4 0 ++ contents) }
-    ensures puts { (contents : List ℕ) → Holds out.old (fixed_bytes order 4 0 ++ contents) → Sinks S.failures S.taken (item_bytes order (entry Dwarf32 contents)) result out.old out.new sink.old sink.new }
+    ensures puts { SinksHeld S.failures S.taken order result out.old out.new sink.old sink.new }
     ensures counts { out.new.counts ≡ out.old.counts }
 {
     let len = out.len()?;

@@ -23,9 +23,12 @@ Notes holds place register old new =
     ⊎ ((at ≡ place) × ((set : Registers) × (get nat_cmp new at ≡ Some (record { register = register; set = set })) × holds set))
 
 -- behind an FDE whose row at its begin is first: what was known, or of its CIE a set outside which the group's row agrees with the CIE's
+abbrev pub NotesAgreeAt : ℕ → ℕ → Known → Rules → Rules → BTreeMap ℕ CieSet → Type 0
+NotesAgreeAt place register old first shared new = Notes (λ set. (row : Rules) → SameBeside old.changed row first → AgreesBeside set shared row) place register old.cies new
+
 abbrev pub NotesAgree : Option Behind → ℕ → Known → Rules → Rules → BTreeMap ℕ CieSet → Type 0
 NotesAgree None register old first shared new = new ≡ old.cies
-NotesAgree (Some b) register old first shared new = Notes (λ set. (row : Rules) → SameBeside old.changed row first → AgreesBeside set shared row) b.cie_at register old.cies new
+NotesAgree (Some b) register old first shared new = NotesAgreeAt b.cie_at register old first shared new
 
 -- ---- where these are the rows of the groups
 

@@ -1,5 +1,7 @@
 -- Bytes that go out one after another, into a sink or to be counted alone.
 use Rattle.std.specs.{Prelude.{◌≡◌, ℕ, ◌+◌, ◌++◌, ◌<◌, ◌≤◌, Bool, false, List, [], length, Option, Result, Ok, Err}, Io.KnownBytes.Appends}
+use Rattle.dw_num.specs.{Fixed.fixed_bytes, declared.target.{Form.TheVariants.Dwarf32, Order.Order}}
+use Rattle.dw_section.specs.Cut.{entry, item_bytes}
 use Rattle.dw_normal.specs.declared.output.{Output.Output, Stop.Stop, Stop.TheVariants.{Full, Failed, Memory}}
 
 -- ---- an entry that is built
@@ -60,3 +62,8 @@ sink_at failures taken room sink = record { room = room; failed = failures sink;
 
 abbrev pub Sinks : {S : Type 0} (failures : S → ℕ) (taken : S → Option (List ℕ)) → List ℕ → Result Unit Stop → Output → Output → S → S → Type 0
 Sinks failures taken bytes result out out' old new = Puts out.counts bytes result (sink_at failures taken out.room old) (sink_at failures taken out'.room new)
+
+-- the entry that is built, with its length
+abbrev pub SinksHeld : {S : Type 0} (failures : S → ℕ) (taken : S → Option (List ℕ)) → Order → Result Unit Stop → Output → Output → S → S → Type 0
+SinksHeld failures taken order result out out' old new =
+    (contents : List ℕ) → Holds out (fixed_bytes order 4 0 ++ contents) → Sinks failures taken (item_bytes order (entry Dwarf32 contents)) result out out' old new
