@@ -26,8 +26,7 @@ impl<'a, W: Write> Lent<'a, W> {
     pub fn into_inner(self) -> &'a mut W
         ensures { result ≡ self.entry.out }
     {
-        let Lent { out, .. } = self;
-        out
+        self.out
     }
 }
 

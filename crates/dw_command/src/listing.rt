@@ -114,8 +114,7 @@ impl<W: Write> Listing<W> {
     pub fn into_inner(self) -> W
         ensures { result ≡ self.out }
     {
-        let Listing { out, .. } = self;
-        out
+        self.out
     }
 
     // Gives the output what is left, and keeps of it what the output does not take.

@@ -5,17 +5,13 @@ ghost use Rattle.dw_command.specs.Inner.Terminal.{is_order, shown};
 
 use std::io::{self, Write};
 
-fn is_order(byte: u8) -> bool
-    ensures { result ≡ is_order byte }
-{
-    byte.is_ascii_control() && byte != b'\n'
-}
-
-// The first byte that a terminal takes for an order.
+// The first byte that a terminal takes for an order: a control character that is no line feed.
 fn first_order(bytes: &[u8]) -> Option<usize>
     ensures { result ≡ position is_order bytes.now }
 {
-    bytes.iter().position(|byte| is_order(*byte))
+    bytes
+        .iter()
+        .position(|byte| byte.is_ascii_control() && *byte != b'\n')
 }
 
 // How many bytes come before it.

@@ -112,10 +112,7 @@ fn bytes_of<'a>(window: &Window, bytes: &'a [u8], address: u64, len: usize) -> O
     ensures len { IfSome result (λ found. length found.now ≡ len) }
     ensures spelled { IfSome result (λ found. Spells window.now bytes.now address found.now) }
 {
-    if address < window.address {
-        return None;
-    }
-    let offset = address - window.address;
+    let offset = address.checked_sub(window.address)?;
     let left = window.len as u64;
     if offset >= left || left - offset < len as u64 {
         return None;

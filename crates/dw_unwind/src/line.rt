@@ -124,9 +124,7 @@ fn register_line(line: &[u8]) -> Option<(u16, u64)>
 {
     let (name, text) = word_behind(line, b"r")?;
     let digits = behind(text, b"0x")?;
-    let register = register_name(name)?;
-    let value = hexadecimal(digits)?;
-    Some((register, value))
+    Some((register_name(name)?, hexadecimal(digits)?))
 }
 
 fn memory_line(alloc: Global, line: &[u8]) -> Result<Option<(u64, Vec<u8>)>, AllocError>

@@ -9,12 +9,12 @@ returns-in_err-digits c = rw c.from_residual-in_err-digits.ensures (λ r v said.
     let parts = register_parts c.args.line.now c.in_ok-name.name.now c.in_ok-name.text.now c.in_ok-name.ensures.0 c.in_ok-name.ensures.1 r v said in
     c.in_err-digits.ensures parts.digits parts.behind)
 
-pub returns-in_err-register : goal.returns-in_err-register
-returns-in_err-register c = rw c.from_residual-in_err-register.ensures (λ r v said.
+pub returns-in_err-register_name : goal.returns-in_err-register_name
+returns-in_err-register_name c = rw c.from_residual-in_err-register_name.ensures (λ r v said.
     let parts = register_parts c.args.line.now c.in_ok-name.name.now c.in_ok-name.text.now c.in_ok-name.ensures.0 c.in_ok-name.ensures.1 r v said in
-    c.in_err-register.ensures r parts.is_name)
+    c.in_err-register_name.ensures r parts.is_name)
 
-pub returns-in_err-value : goal.returns-in_err-value
-returns-in_err-value c = rw c.from_residual-in_err-value.ensures (λ r v said.
+pub returns-in_err-hexadecimal : goal.returns-in_err-hexadecimal
+returns-in_err-hexadecimal c = rw c.from_residual-in_err-hexadecimal.ensures (λ r v said.
     let parts = register_parts c.args.line.now c.in_ok-name.name.now c.in_ok-name.text.now c.in_ok-name.ensures.0 c.in_ok-name.ensures.1 r v said in
-    c.in_err-value.ensures v (subst (Hexadecimal v) (append_cancel_left (codes "0x") _ _ (sym parts.behind ∙ c.in_ok-digits.ensures)) parts.is_value))
+    c.in_err-hexadecimal.ensures v (subst (Hexadecimal v) (append_cancel_left (codes "0x") _ _ (sym parts.behind ∙ c.in_ok-digits.ensures)) parts.is_value))
