@@ -88,8 +88,11 @@ fn checked<'a>(alloc: Global, bytes: &'a [u8], target: Target) -> Result<Table<'
         list: Vec::with_capacity(alloc, cies.counts.fdes)?,
         lacking: None,
     };
-    let (walks, places, initials) = (&mut Walks::new(alloc, target), &cies.places, &cies.initials);
-    run_fdes(walks, &mut judged, bytes, target, places, initials)?;
+    {
+        let walks = &mut Walks::new(alloc, target);
+        let (places, initials) = (&cies.places, &cies.initials);
+        run_fdes(walks, &mut judged, bytes, target, places, initials)?;
+    }
     if let Some(at) = judged.lacking {
         return Err(ReadError::Refused(refusal(Code::NoCfaRule, at)));
     }
