@@ -1,6 +1,6 @@
 -- FDEs in order, and the first that begins below the end of one before it.
-use Rattle.dw_section.proofs.Words.{◌≡◌, ℕ, suc, ◌+◌, ◌<◌, ◌≤◌, Bool, false, List, [], ◌∷◌, ◌++◌, map, length, get_or, take, drop, refl, ap, ◌∙◌, arith, inl, inr, add-one, Equal, Greater, sym, ◌==◌, nat_cmp, is_lt, AllByRecursion}
-use Rattle.dw_section.proofs.Words.{IsDistinct, IsPermutation, IsNonDecreasingBy, IsSortedByKey, IsStableByKey, cases_lt, ne_eqb, drop_more, map-append, take-append-drop, All-permutation, IsPermutation-map, IsPermutation-sym}
+use Rattle.dw_section.proofs.Words.{◌≡◌, ℕ, suc, ◌+◌, ◌<◌, ◌≤◌, Bool, List, [], ◌∷◌, ◌++◌, map, length, get_or, take, drop, refl, ap, ◌∙◌, arith, inl, inr, add-one, Greater, sym, ◌==◌, nat_cmp, is_lt, AllByRecursion}
+use Rattle.dw_section.proofs.Words.{IsDistinct, IsPermutation, IsNonDecreasingBy, IsSortedByKey, IsStableByKey, ne_eqb, drop_more, map-append, take-append-drop, All-permutation, IsPermutation-map, IsPermutation-sym}
 use Rattle.dw_section.proofs.{Words.{ties_still_rise, All-from_recursion, recursion_from_All, Overlap, Ranged, PlacesRise, EndsAt, range_in, Range, Precedes, Ascends, AreApart, FirstOverlap, end_of, IsAmong, nat_tests}, Lent.Index.all_from}
 use Rattle.dw_section.proofs.{Words.RiseBy, Places.rise_at, Stages.{all_push, among_here, all_weaker}}
 use Rattle.std.specs.Cmp.{nat_cmp_is}
@@ -67,9 +67,6 @@ same_place e f = e.at == f.at
 
 -- ---- a stable sort by begin
 
-not_less : (x y : ℕ) → y ≤ x → is_lt (nat_cmp x y) ≡ false
-not_less x y le = elim (cases_lt y x) [ inl lt ↦ ap is_lt (sym (nat_cmp_is x y Greater lt)) | inr ge ↦ ap is_lt (sym (nat_cmp_is x y Equal (omega arith))) ]
-
 own_places : (low : ℕ) (xs : List Ranged) → PlacesRise low (map range_in xs) → RiseBy (λ (e : Ranged). e.at) low xs
 own_places low [] up = tt
 own_places low (e ∷ xs) up = (up.0, own_places (suc e.at) xs up.1)
@@ -81,7 +78,7 @@ places_apart : (xs : List Ranged) → PlacesRise 0 (map range_in xs) → IsDisti
 places_apart xs up = IsDistinct-from_apart same_place xs (λ i j d less lt. ne_eqb (get_or xs i d).at (get_or xs j d).at (λ same. omega (arith, later_place xs i j d up less lt, same)))
 
 places_sorted : (xs : List Ranged) → PlacesRise 0 (map range_in xs) → IsSortedByKey (λ (e : Ranged). e.at) nat_cmp xs
-places_sorted xs up = λ k d le lt. rw add-one (let p = later_place xs k (suc k) d up (omega arith) (omega arith) in not_less (get_or xs (suc k) d).at (get_or xs k d).at (omega arith))
+places_sorted xs up = λ k d le lt. rw add-one (ap is_lt (sym (nat_cmp_is (get_or xs (suc k) d).at (get_or xs k d).at Greater (later_place xs k (suc k) d up (omega arith) (omega arith)))))
 
 pub sorted_ascends : (xs ys : List Ranged) → PlacesRise 0 (map range_in xs) → IsPermutation xs ys → IsNonDecreasingBy (λ (e : Ranged). e.begin) ys → IsStableByKey (λ (e : Ranged). e.begin) nat_cmp xs ys → Ascends (map range_in ys)
 sorted_ascends xs ys up p sorted stable = ascends_from ys next

@@ -45,8 +45,7 @@ fn row_behind(cie_at: u64, first: FirstRow) -> Option<CieRow>
 }
 
 impl<'a> Table<'a> {
-    /// How long the program of an FDE and that of its CIE are, and how its own begins: its fields are read
-    /// once. Takes no memory.
+    /// How long the program of an FDE and that of its CIE are, and how its own begins: its fields are read once. Takes no memory.
     #[inline(always)]
     pub fn opening(&self, fde: FdeRef) -> Opening
         requires { (fs : List TheFde) → AreFdes self.now.target self.now.bytes fs → fde.place < length fs }
