@@ -274,6 +274,11 @@ EXPRESSION_CALLS = ["decode", "encode", "ops", "put_least"]
 CIE_PROGRAMS = ["0c07089001", "0c070880018101820183018401850186018701880189018a019001"]
 FDE_PROGRAM = "4180018101820183018401850186018701880189018a01440a0703420b43"
 WORKED_BLOCKS = [*list(BLOCKS)[:1], "0e050000000000000092070806", "92070806", "770806"]
+FULL_ROW = ["0 expression 3", "  r6 at -16", "  r16 at 3", "  r128 is 1099511627776", "  r65535 is 3"]
+NEXT_ROW = ["0 expression 3", "  r6 at 3", "  r16 at 3", "  r128 at 3", "  r300 undefined", "  r65535 is 3"]
+# Back from a third row to the second, to the first, and to none that is remembered.
+GONE_BACK = [*NEXT_ROW[:3], *NEXT_ROW[4:], "true", *NEXT_ROW, "true", *FULL_ROW, "false", *FULL_ROW]
+NEXT_OF_BLANK = ["0 unset", "  r6 at 3", "  r300 undefined", "true", "0 unset", "  r6 at 3", "  r128 at 3", "  r300 undefined"]
 WORKED = {
     "none": [],
     "numbers": [
@@ -292,6 +297,7 @@ WORKED = {
         "DumpFault { code: Repeated, line: 4 }",
     ],
     "registers": [f"{register} Some(5)" for register in (1, 2, 40, 300, 65535)],
+    "states": [*NEXT_OF_BLANK, "true", "0 unset", "false", "0 unset", "6", "16", "128", "65535", *FULL_ROW, *GONE_BACK, *GONE_BACK],
     "evaluate": ["42", "Ok(42)", "0", "Ok(42)", "StepLimit at 0", "Ok(42)"],
     "locate": [
         "[Piece { place: Register(3), part: Bytes(8) }, Piece { place: Memory(4104), part: Bytes(4) }]",

@@ -10,7 +10,7 @@ returns g c =
     let cfa = subst (λ (r : CfaRule). Adds g.W.Write.contents c.address.new.self begun (codes " cfa=" ++ cfa_text r)) c.cfa_rule.ensures c.put_cfa.ensures in
     let joined = append_assoc (codes " 0x" ++ digits 16 false c.args.address) (codes " cfa=") (cfa_text row.cfa) in
     let rule = subst (λ (t : List ℕ). Adds g.W.Write.contents c.args.listing.now begun t) (sym joined) (on g.W.Write.contents _ _ _ _ _ start cfa) in
-    let none = sym c.in_default.ensures ∙ c.in_default-next.ensures.steps.0 in
+    let none = sym c.in_default.ensures.next ∙ c.in_default-next.ensures.steps.0 in
     let left = subst (λ (l : List (ℕ × RegRule)). Leads g.W.Write.contents begun (lines column_text row.registers) c.columns.listing (lines column_text l)) none c.columns.invariant in
     let all = on g.W.Write.contents _ _ _ _ _ rule (leads_to g.W.Write.contents begun (lines column_text row.registers) c.columns.listing left) in
     on g.W.Write.contents _ _ _ _ _ (on_kept g.W.Write.contents _ _ _ _ all c.make_room-2.ensures.stays) c.text-2.ensures.adds
