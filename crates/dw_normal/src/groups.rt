@@ -1,13 +1,13 @@
 //! The initial row of each return address register, found in one pass over the FDEs; and a bound on the normal form's length, by the
 //! lengths of the section's programs: no program is run for it.
 
-ghost use Rattle.std.specs.{Prelude.{◌≡◌, ℕ, ◌+◌, ◌*◌, [], ◌≤◌, ◌^◌, length, take, None, Some, is_some, IfOk, IfSome, IsTrue, OnOk}, BTreeMap.{get, insert_entry}};
-ghost use Rattle.std.specs.Ordering.{nat_cmp};
-ghost use Rattle.dw_row.specs.{RegisterSets.AgreesBeside, Rows.Rules, Inner.Agreement.agreed};
-ghost use Rattle.dw_section.specs.{Changes.kept_by, Opening.{CieLeaves, OpensBehind}, declared.opening.CieRow.{CieRow as TheRow}};
+ghost use Rattle.std.specs.Prelude.{◌≡◌, ℕ, ◌+◌, ◌*◌, [], ◌≤◌, ◌^◌, length, take, None, Some, is_some, IfOk, IfSome, IsTrue, OnOk};
+ghost use Rattle.std.specs.{BTreeMap.{get, insert_entry}, Ordering.nat_cmp};
+ghost use Rattle.dw_row.specs.{Rows.Rules, Inner.Agreement.agreed};
+ghost use Rattle.dw_section.specs.{Changes.kept_by, Opening.OpensBehind, declared.opening.CieRow.{CieRow as TheRow}};
 ghost use Rattle.dw_canon.specs.{Bound.share, Inner.Canon.canon};
 ghost use Rattle.dw_normal.specs.Inner.{ChangeWalk.{BehindFirst, IsShown, ShownBehind, shown_row}, Groups.{HasJoined, joined_by, with_member, initial_rows}};
-ghost use Rattle.dw_normal.specs.Inner.{Known.{Agree, HoldsAt, NotesAgree}, Listed.{AreInitial, IsListed, OfFde, OfMember, OfMembers}};
+ghost use Rattle.dw_normal.specs.Inner.{Known.{Agree, KnownAgrees, NotesAgree}, Listed.{AreInitial, IsListed, OfFde, OfMember, OfMembers}};
 
 use crate::known::Known;
 use dw_row::{RegisterSet, Row};
@@ -49,7 +49,7 @@ fn share_with<'a>(
 ) -> Result<(), AllocError>
     requires shown { IsShown changes.old }
     requires stands { IfSome behind (ShownBehind changes.old known.old.changed) }
-    requires known { IfSome behind (λ b. (row : Rules) → CieLeaves changes.old.section.target changes.old.section.bytes b.cie_at row → HoldsAt (λ set. AgreesBeside set shared.old row) b.cie_at register known.old.cies) }
+    requires known { IfSome behind (λ b. KnownAgrees changes.old.section b.cie_at register known.old shared.old) }
     ensures row { (first : Rules) → changes.old.shown ≡ Some first → OnOk result (shared.new ≡ kept_by (agreed shared.old first) changes.old.to_come) }
     ensures known { OnOk result (NotesAgree behind register known.old (shown_row changes.old) shared.new known.new.cies) }
     ensures section { changes.new.section ≡ changes.old.section }
@@ -79,7 +79,8 @@ fn begin_group<'a>(
     register: u16,
 ) -> Result<(), AllocError>
     requires shown { IsShown changes.old }
-    ensures rows { (first : Rules) → changes.old.shown ≡ Some first → OnOk result (rows.new.entries ≡ insert_entry nat_cmp rows.old.entries register (kept_by first changes.old.to_come)) }
+    ensures rows { (first : Rules) → changes.old.shown ≡ Some first
+        → OnOk result (rows.new.entries ≡ insert_entry nat_cmp rows.old.entries register (kept_by first changes.old.to_come)) }
     ensures section { changes.new.section ≡ changes.old.section }
 {
     let Some(first) = changes.row() else {

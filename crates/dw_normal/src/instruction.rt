@@ -141,7 +141,9 @@ fn push_expression(
 #[inline(always)]
 pub(crate) fn push_offset(out: &mut Vec<u8>, register: u16, offset: i64) -> Result<(), AllocError>
     requires { IsOffset offset }
-    ensures { OnOk result (out.new.items ≡ out.old.items ++ (if is_positive offset then 0x11 ∷ (shortest_uleb register ++ shortest_sleb (neg_ℤ offset)) else packed 0x80 0x05 register ++ shortest_uleb (unsigned_abs offset))) }
+    ensures { OnOk result (out.new.items ≡ out.old.items ++ (if is_positive offset
+        then 0x11 ∷ (shortest_uleb register ++ shortest_sleb (neg_ℤ offset))
+        else packed 0x80 0x05 register ++ shortest_uleb (unsigned_abs offset))) }
 {
     if offset > 0 {
         push_with(out, 0x11, u64::from(register))?;

@@ -40,7 +40,8 @@ pub fn normalise(
     // A normal form within the cap is answered.
     ensures only { (n : List ℕ) → IsNormalForm target bytes.now n → length n ≤ cap → MatchResult result (λ v. v.items ≡ n) (λ e. e ≡ TheError.OutOfMemory) }
     // One that is longer is refused.
-    ensures longer { (n : List ℕ) → IsNormalForm target bytes.now n → cap < length n → IfErr result (λ e. (e ≡ TheError.Refused too_long) ⊎ (e ≡ TheError.OutOfMemory)) }
+    ensures longer { (n : List ℕ) → IsNormalForm target bytes.now n → cap < length n → IfErr result (λ e. (e ≡ TheError.Refused too_long)
+        ⊎ (e ≡ TheError.OutOfMemory)) }
     // A refusal is the first fault, or that the normal form is longer.
     ensures first { IfErr result (Refuses (NormalFault target cap bytes.now)) }
     // Its place lies in the section.
@@ -65,7 +66,8 @@ pub fn normal_length(
 ) -> Result<u64, ReadError>
     requires cap { cap ≤ 2147483647 }
     ensures found { IfOk result (λ count. (n : List ℕ) × IsNormalForm target bytes.now n × (length n ≤ cap) × (count ≡ length n)) }
-    ensures only { (n : List ℕ) → IsNormalForm target bytes.now n → length n ≤ cap → MatchResult result (λ count. count ≡ length n) (λ e. e ≡ TheError.OutOfMemory) }
+    ensures only { (n : List ℕ) → IsNormalForm target bytes.now n → length n ≤ cap → MatchResult result (λ count. count ≡ length n)
+        (λ e. e ≡ TheError.OutOfMemory) }
     ensures first { IfErr result (Refuses (NormalFault target cap bytes.now)) }
     ensures within { IfErr result (Refuses (IsWithin bytes.now)) }
 {

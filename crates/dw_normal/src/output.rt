@@ -63,6 +63,7 @@ impl Output {
     }
 
     // How long the entry is by now, where there is room for it.
+    #[inline(always)]
     fn len(&self) -> Result<u64, Stop>
         requires { self.now.gone ≤ self.now.room }
         ensures fits { IfOk result (λ n. (n ≡ self.now.gone + length self.now.bytes.items) × (n ≤ self.now.room)) }
@@ -92,6 +93,7 @@ impl Output {
 
     /// Appends the nops that fill the entry up to a multiple of the address size: as many as there may be, of which what is not missing
     /// goes.
+    #[inline(always)]
     pub(crate) fn push_nops(&mut self, size: Size) -> Result<(), Stop>
         requires within { self.old.gone ≤ self.old.room }
         requires room { self.old.room ≤ 2147483647 }

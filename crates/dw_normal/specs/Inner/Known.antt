@@ -16,6 +16,10 @@ Puts place cie old new = (at : ℕ) → (get nat_cmp new at ≡ get nat_cmp old 
 abbrev pub HoldsAt : (Registers → Type 0) → ℕ → ℕ → BTreeMap ℕ CieSet → Type 0
 HoldsAt holds place register cies = (set : Registers) → get nat_cmp cies place ≡ Some (record { register = register; set = set }) → holds set
 
+-- what is known of a CIE holds of each row that it leaves: outside the set the group's row agrees with it
+abbrev pub KnownAgrees : Section → ℕ → ℕ → Known → Rules → Type 0
+KnownAgrees s place register known shared = (row : Rules) → CieLeaves s.target s.bytes place row → HoldsAt (λ set. AgreesBeside set shared row) place register known.cies
+
 -- behind an FDE of a CIE: what was known, or nothing, or of the CIE a set of which this holds
 abbrev pub Notes : (Registers → Type 0) → ℕ → ℕ → BTreeMap ℕ CieSet → BTreeMap ℕ CieSet → Type 0
 Notes holds place register old new =

@@ -30,6 +30,7 @@ returns-in_err-put_entry-clause-puts g c =
     let one = more g (goal.at.returns-in_err-put_entry-clause-puts g c).In-Some in
     let same = c.in_ok-fill_cie.ensures.room in
     let w = cie_with c.target-target.result (c.in-Some.register.now, c.in-Some.initial.now) in
+    let new = sink_at g.S.Sink.failures g.S.Sink.taken c.put_entry.new.out.room c.put_entry.new.sink in
     rw (← c.target-target.ensures)
     (cies_fail c.rows.invariant one c.from_residual-in_err-put_entry.result _ _ c.from_residual-in_err-put_entry.ensures.1
-    (puts_from g.S.Sink.failures g.S.Sink.taken c.rows.sink (entry_bytes c.target-target.result w) (Err c.in_err-put_entry.field-0.0) (sink_at g.S.Sink.failures g.S.Sink.taken c.put_entry.new.out.room c.put_entry.new.sink) _ _ _ _ (same.1 ∙ c.rows.invariant.counts) same.0 (c.in_err-put_entry.ensures.puts _ c.in_ok-fill_cie.ensures.contents)))
+    (puts_from g.S.Sink.failures g.S.Sink.taken c.rows.sink (entry_bytes c.target-target.result w) (Err c.in_err-put_entry.field-0.0) new _ _ _ _ (same.1 ∙ c.rows.invariant.counts) same.0 (c.in_err-put_entry.ensures.puts _ c.in_ok-fill_cie.ensures.contents)))
