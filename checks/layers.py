@@ -26,7 +26,7 @@ BUDGETS = {
     "dw_cfa": (8, 49),
     "dw_section": (0, 64),
     "dw_canon": (44, 97),
-    "dw_normal": (43, 46),
+    "dw_normal": (43, 45),
     "dw_unwind": (0, 5),
     "dw_command": (3, 6),
     "dw_library": (0, 4),
