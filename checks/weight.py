@@ -5,7 +5,8 @@ specs/Inner) and of its proofs, and its longest line.
     checks/weight.py [--than COMMIT] [--root FOLDER]
 
 It fails where a crate has more lines of sources or of proofs than its budget allows. A budget is what the crate weighed when it
-was last made lighter: lower it with each step that takes something away. --than prints the sums of another commit beside.
+was last made lighter: lower it with each step that takes something away. It also fails where a line of sources has more than 160
+characters, unless that is an attribute, which rt fmt keeps on one line. --than prints the sums of another commit beside.
 """
 import argparse
 import collections
@@ -30,6 +31,8 @@ BUDGET = {
     "dwframe": (263, 0),
     "dw_library": (1612, 744),
 }
+# How many characters a line of sources may have.
+LONGEST = 160
 COLUMNS = ["sources", "functions", "public", "specs", "inner", "proofs", "longest"]
 FUNCTION = re.compile(r'^\s*(pub(?:\([a-z]+\))? )?(?:extern "C" )?fn ', re.M)
 
@@ -89,6 +92,13 @@ def too_heavy(table):
                 yield f"{crate}: {table[crate][kind]} lines of {kind}, and its budget has {budget}"
 
 
+def too_long(files):
+    for name, text in files:
+        for number, line in enumerate(text.split("\n"), 1):
+            if name.endswith(".rt") and len(line) > LONGEST and not line.lstrip().startswith("#["):
+                yield f"{name}:{number}: a line of {len(line)} characters"
+
+
 def main():
     words = argparse.ArgumentParser(description=__doc__, formatter_class=argparse.RawDescriptionHelpFormatter)
     words.add_argument("--than")
@@ -101,7 +111,7 @@ def main():
     print_row("sum", total(table))
     if asked.than:
         print_row(asked.than[:11], total(weigh(files_then(asked.root, asked.than))))
-    wrong = list(too_heavy(table))
+    wrong = [*too_heavy(table), *too_long(files_now(asked.root))]
     for line in wrong:
         print(f"weight: {line}", file=sys.stderr)
     return bool(wrong)
