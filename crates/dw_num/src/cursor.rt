@@ -1,6 +1,6 @@
 //! Reading numbers from a slice, from its front on.
 
-ghost use Rattle.std.specs.Prelude.{◌≡◌, ℕ, ℤ, ◌+◌, ◌<◌, ◌≤◌, ◌^◌, List, [], ◌∷◌, ◌++◌, length, take, IfErr, IfOk, None, Some};
+ghost use Rattle.std.specs.Prelude.{◌≡◌, ◌⊎◌, ℕ, ℤ, ◌+◌, ◌<◌, ◌≤◌, ◌^◌, List, [], ◌∷◌, ◌++◌, length, take, IfErr, IfOk, None, Some};
 ghost use Rattle.dw_num.specs.{Fixed.{Address, Fixed, IsWidth, SpellsLength, fixed_number}, Front.{Reads, fixed_at, take_at, register_at}};
 ghost use Rattle.dw_num.specs.{Front.{leb_len, uleb_at, sleb_at, address_at, unit_length_at}, Input.{AreBytes, Takes, behind}};
 ghost use Rattle.dw_num.specs.{Leb.{Register, Sleb, Uleb}, declared.refusal.Code.TheVariants.Truncated};
@@ -21,35 +21,56 @@ pub fn are_bytes(bytes: &[u8])
     let _ = bytes;
 }
 
-// The number that the first bytes spell in one order, 2, 4 or 8 of them. The length of each slice is known where this is compiled,
-// so no byte is tested alone.
+// The number that the first four bytes spell. Here and below the length of each slice is known where this is compiled, so no
+// byte is tested alone.
 #[inline(always)]
-fn ordered_in<B: ByteOrder>(bytes: &[u8], n: usize) -> u64
-    requires width { IsWidth n }
-    requires some { 1 < n }
-    requires room { n ≤ length bytes.now }
-    ensures { result ≡ B.number_of n (take n bytes.now) }
+fn four_in(order: Order, bytes: &[u8]) -> u64
+    requires { 4 ≤ length bytes.now }
+    ensures { result ≡ fixed_number order 4 bytes.now }
 {
-    match n {
-        2 => u64::from(B::read_u16(&bytes[..2])),
-        4 => u64::from(B::read_u32(&bytes[..4])),
-        _ => B::read_u64(&bytes[..8]),
+    match order {
+        Order::Little => u64::from(LittleEndian::read_u32(&bytes[..4])),
+        Order::Big => u64::from(BigEndian::read_u32(&bytes[..4])),
     }
 }
 
-// The number that the first bytes spell.
+// The number that the first eight bytes spell.
+#[inline(always)]
+fn eight_in(order: Order, bytes: &[u8]) -> u64
+    requires { 8 ≤ length bytes.now }
+    ensures { result ≡ fixed_number order 8 bytes.now }
+{
+    match order {
+        Order::Little => LittleEndian::read_u64(&bytes[..8]),
+        Order::Big => BigEndian::read_u64(&bytes[..8]),
+    }
+}
+
+// The number that the first four bytes spell, or the first eight.
+#[inline(always)]
+fn word_in(order: Order, bytes: &[u8], n: usize) -> u64
+    requires width { (n ≡ 4) ⊎ (n ≡ 8) }
+    requires room { n ≤ length bytes.now }
+    ensures { result ≡ fixed_number order n bytes.now }
+{
+    match n {
+        4 => four_in(order, bytes),
+        _ => eight_in(order, bytes),
+    }
+}
+
+// The number that the first bytes spell. By a width that is known where this is compiled it is one of those above.
 #[inline(always)]
 fn number_in(order: Order, bytes: &[u8], n: usize) -> u64
     requires width { IsWidth n }
     requires room { n ≤ length bytes.now }
     ensures { result ≡ fixed_number order n bytes.now }
 {
-    if n == 1 {
-        return u64::from(bytes[0]);
-    }
-    match order {
-        Order::Little => ordered_in::<LittleEndian>(bytes, n),
-        Order::Big => ordered_in::<BigEndian>(bytes, n),
+    match (n, order) {
+        (1, _) => u64::from(bytes[0]),
+        (2, Order::Little) => u64::from(LittleEndian::read_u16(&bytes[..2])),
+        (2, Order::Big) => u64::from(BigEndian::read_u16(&bytes[..2])),
+        _ => word_in(order, bytes, n),
     }
 }
 
@@ -197,15 +218,18 @@ impl<'a> Cursor<'a> {
         Ok(value)
     }
 
-    #[tactic(auto, unfolding(crate::specs::Front::address_at))]
+    #[tactic(auto, unfolding(crate::specs::Front::address_at, crate::specs::Front::fixed_at))]
     #[inline(always)]
     fn read_address(&mut self) -> Result<u64, Refusal>
         ensures { Reads (λ v. v) result self.old (address_at self.old) self.new }
     {
-        match self.target.size {
-            Size::Four => self.read_fixed(4),
-            Size::Eight => self.read_fixed(8),
+        let n = usize::from(self.target.size.byte_count());
+        if self.bytes.len() < n {
+            return Err(self.refuse(Code::Truncated));
         }
+        let number = word_in(self.target.order, self.bytes, n);
+        self.pass(n);
+        Ok(number)
     }
 
     /// An address, as wide as the target's. `Truncated` at its first byte where fewer bytes are left.
@@ -237,7 +261,7 @@ impl<'a> Cursor<'a> {
         if self.bytes.len() < 4 {
             return Err(self.refuse(Code::Truncated));
         }
-        let length = number_in(self.target.order, self.bytes, 4);
+        let length = four_in(self.target.order, self.bytes);
         if length < 0xffff_fff0 {
             self.pass(4);
             return Ok(UnitLength {
@@ -251,7 +275,7 @@ impl<'a> Cursor<'a> {
         if self.bytes.len() < 12 {
             return Err(self.refuse(Code::Truncated));
         }
-        let length = number_in(self.target.order, &self.bytes[4..], 8);
+        let length = eight_in(self.target.order, &self.bytes[4..]);
         self.pass(12);
         Ok(UnitLength {
             form: Form::Dwarf64,

@@ -1,7 +1,6 @@
 -- Numbers of a fixed width, and lengths, read as they are spelled.
 use Rattle.std.proofs.lemmas.Bool.Decides.{eqb_tells}
 use Rattle.dw_num.specs.declared.target.{Form.Form, Form.TheVariants.{Dwarf32, Dwarf64}, Size.Size, Size.TheVariants.{Four, Eight}, UnitLength.UnitLength}
-use Rattle.byteorder.specs.Numbers.{big_from-take, little_from-take}
 use Rattle.dw_num.proofs.Words.{◌≡◌, ℕ, ◌+◌, ◌^◌, ◌<◌, ◌≤◌, List, [], ◌∷◌, ◌++◌, length, take, drop, Ok, refl, sym, ap, subst, ◌∙◌, append_assoc, arith, inl, inr, get_or, cases_lt, lt-ltb, le-ltb, ltb-false, nat_lt, take-add, drop_at}
 use Rattle.dw_num.proofs.Words.{length-take, length-drop, length-append, get_or-take, get_or-drop, get_or_past, get_or-append-add, le_bytes_2, be_bytes_2, le_bytes_4, be_bytes_4, le_bytes_8, be_bytes_8, big_number-reads_back}
 use Rattle.dw_num.proofs.Words.{little_number-reads_back, length-bytes_high_first, length-bytes_low_first, big_from-lt, little_from-lt, Target, Order, Little, Big, byte_count, ReservedLength, Input, AreBytes, Takes, behind, Address}
@@ -158,10 +157,6 @@ unfolding address_at
 address_only i v b rest f e = fixed_only (byte_count i.target.size) i v b rest f e
 
 -- ---- single bytes
-
-pub fixed_taken : (order : Order) (n : ℕ) (bytes : List ℕ) → fixed_number order n (take n bytes) ≡ fixed_number order n bytes
-fixed_taken Little n bytes = little_from-take 0 n n bytes (omega arith)
-fixed_taken Big n bytes = big_from-take 0 n n bytes (omega arith)
 
 pub one_byte : (order : Order) (bytes : List ℕ) → fixed_number order 1 bytes ≡ get_or bytes 0 0
 one_byte Little bytes = omega arith
