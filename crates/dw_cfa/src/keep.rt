@@ -161,11 +161,9 @@ impl<'a> Keep<'a> for Machine<'a> {
 
     #[inline(always)]
     fn def_cfa_offset(&mut self, offset: i64, at: u64, fault: &mut Refusal) -> End {
-        let CfaRule::Register { register, .. } = self.states.row().cfa_rule() else {
+        if !self.states.set_cfa_offset(offset) {
             return refuse(Code::CfaNotRegister, at, fault);
-        };
-        let register = *register;
-        self.states.set_cfa(CfaRule::Register { register, offset });
+        }
         End::On
     }
 

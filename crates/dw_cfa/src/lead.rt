@@ -2,7 +2,7 @@
 
 ghost use Rattle.std.specs.Prelude.{◌≡◌, ◌<◌, Ok, Err, IfErr, IsTrue, OnOk, false, length};
 ghost use Rattle.dw_num.specs.Refusals.{Refuses};
-ghost use Rattle.dw_row.specs.States.{BeganWith};
+ghost use Rattle.dw_row.specs.{Rows.blank, States.BeganWith};
 ghost use Rattle.dw_cfa.specs.{Behind.LeavesTo, RowSteps.program_input};
 ghost use Rattle.dw_cfa.specs.Inner.{Turns.Entered, FrontInstr.instr_at, RowWalk.{HasInitial, IsLed, LeadsSame, ReadAlike, led_row}};
 ghost use Rattle.dw_cfa.specs.declared.instr.{Factors.{Factors as TheFactors}, Instr.TheVariants.Nop};
@@ -71,13 +71,13 @@ fn write_one<'a>(
     execute(cursor, factors, row, fault)
 }
 
-/// Runs a CIE's program, whose row it is then.
+/// Makes a blank row the one that a CIE's program leaves.
 #[tactic(auto, using(crate::proofs::RunSteps::initial_end))]
 pub(crate) fn run_initial<'a>(leading: &Leading<'a>, row: &mut Row<'a>) -> Result<(), ReadError>
+    requires { row.old ≡ blank }
     ensures ok { OnOk result (led_row leading.now ≡ Ok row.new) }
     ensures err { IfErr result (Refuses (λ r. led_row leading.now ≡ Err r)) }
 {
-    row.clear();
     let program = leading.program;
     let mut cursor = Cursor::new(program.bytes, program.at, leading.target);
     let code = Code::Truncated;
@@ -100,6 +100,7 @@ pub(crate) fn lead<'a>(leading: &Leading<'a>, machine: &mut Machine<'a>) -> Resu
     ensures kept { machine.new.states.kept ≡ machine.old.states.kept }
 {
     machine.states.untrack();
+    machine.initial.clear();
     run_initial(leading, &mut machine.initial)?;
     machine.states.rewind(&machine.initial)?;
     Ok(())
@@ -148,5 +149,6 @@ pub fn become_initial<'a>(
         factors,
         target,
     };
+    row.clear();
     run_initial(&leading, row)
 }

@@ -1,11 +1,10 @@
-//! What a look-up keeps: a row, at most one that is remembered, and a location (6.4.3). What it does not know it leaves to the
-//! machine: it says then that memory ran out, behind which nothing is known.
+//! What a look-up keeps: a row and a location (6.4.3). What it does not know it leaves to the machine: it says then that memory
+//! ran out, behind which nothing is known.
 
-ghost use Rattle.std.specs.Prelude.{◌≡◌, ◌≤◌, ◌+◌, false, None, IfSome};
+ghost use Rattle.std.specs.Prelude.{◌≡◌, ◌≤◌, ◌+◌, false, IfSome};
 ghost use Rattle.dw_num.specs.Target.{address_limit};
 ghost use Rattle.dw_row.specs.{Rows.blank, RegisterSets.SpecifiesIn};
-ghost use Rattle.dw_cfa.specs.declared.instr.Instr.TheVariants.{RememberState, RestoreState};
-ghost use Rattle.dw_cfa.specs.Inner.{LookUp.{kept_if, look_up_at}, Turns.{Did, IsWithinLimit}};
+ghost use Rattle.dw_cfa.specs.Inner.{LookUp.look_up_at, Turns.Did};
 
 use crate::instr::Instr;
 use crate::keep::{Keep, cfa_behind};
@@ -19,33 +18,22 @@ use std::snapshot::Snapshot;
 #[derive(Drop)]
 pub(crate) struct LookUp<'a> {
     pub(crate) row: Row<'a>,
-    // The initial row is not kept, but for clauses.
+    // The initial row and the size of an address are not kept, but for clauses.
     initial: Snapshot<Row<'a>>,
-    // The registers below 128 that it specifies.
+    size: Snapshot<Size>,
+    // The registers below 128 that the initial row specifies.
     specified: u128,
-    // The row that is remembered, where one is.
-    kept: Row<'a>,
-    remembers: bool,
     location: u64,
-    size: Size,
+    // The last location that is known: the end of the address space, or the last one that has 64 bits.
+    last: u64,
     ghost known: { SpecifiesIn specified initial.value },
-}
-
-// A location of the address space: its end, or the last one that has 64 bits.
-#[inline(always)]
-fn last_location(size: Size) -> u64
-    ensures { result ≤ address_limit size }
-{
-    match size {
-        Size::Four => 0x1_0000_0000,
-        Size::Eight => 0xffff_ffff_ffff_ffff,
-    }
+    ghost within: { last ≤ address_limit size.value },
 }
 
 // The location so much further on, where it is in the address space and known.
 #[inline(always)]
-fn next_location(location: u64, distance: u128, size: Size) -> Option<u64>
-    ensures { IfSome result (λ next. (next ≡ location + distance) × (next ≤ address_limit size)) }
+fn next_location(location: u64, distance: u128, last: u64) -> Option<u64>
+    ensures { IfSome result (λ next. (next ≡ location + distance) × (next ≤ last)) }
 {
     let Ok(distance) = u64::try_from(distance) else {
         return None;
@@ -53,7 +41,7 @@ fn next_location(location: u64, distance: u128, size: Size) -> Option<u64>
     let Some(next) = location.checked_add(distance) else {
         return None;
     };
-    if next > last_location(size) {
+    if next > last {
         return None;
     }
     Some(next)
@@ -70,33 +58,32 @@ impl<'a> LookUp<'a> {
         LookUp {
             row,
             initial,
+            size: Snapshot::of(&Size::Eight),
             specified: 0,
-            kept: Row::blank(alloc),
-            remembers: false,
             location: 0,
-            size: Size::Eight,
+            last: 0,
         }
     }
 
     /// Begins an FDE's program at an address, with the row that it has as the initial one.
     #[inline(always)]
     pub(crate) fn begin(&mut self, location: u64, size: Size)
-        ensures { ⟦<LookUp<'a> as Keep<'a>>⟧.machine self.new ≡ look_up_at self.old.row (address_limit size) self.old.row None location }
+        ensures { ⟦<LookUp<'a> as Keep<'a>>⟧.machine self.new ≡ look_up_at self.old.row (address_limit size) self.old.row location }
     {
         self.initial = Snapshot::of(&self.row);
+        self.size = Snapshot::of(&size);
         self.specified = self.row.near_mask();
-        self.remembers = false;
         self.location = location;
-        self.size = size;
+        self.last = u64::try_from(size.address_limit()).unwrap_or(u64::MAX);
     }
 }
 
 impl<'a> Keep<'a> for LookUp<'a> {
-    ghost machine = { λ k. look_up_at k.initial.value (address_limit k.size) k.row (kept_if k.remembers k.kept) k.location };
+    ghost machine = { λ k. look_up_at k.initial.value (address_limit k.size.value) k.row k.location };
 
     ghost takes = { λ k i at end fault k'. Did false i at
-        (look_up_at k.initial.value (address_limit k.size) k.row (kept_if k.remembers k.kept) k.location) end fault
-        (look_up_at k'.initial.value (address_limit k'.size) k'.row (kept_if k'.remembers k'.kept) k'.location) };
+        (look_up_at k.initial.value (address_limit k.size.value) k.row k.location) end fault
+        (look_up_at k'.initial.value (address_limit k'.size.value) k'.row k'.location) };
 
     #[inline(always)]
     fn take(&mut self, instr: Instr<'a>, at: u64, fault: &mut Refusal) -> End {
@@ -131,7 +118,7 @@ impl<'a> Keep<'a> for LookUp<'a> {
 
     #[inline(always)]
     fn advance(&mut self, distance: u128, _at: u64, _fault: &mut Refusal) -> End {
-        let Some(next) = next_location(self.location, distance, self.size) else {
+        let Some(next) = next_location(self.location, distance, self.last) else {
             return End::OutOfMemory;
         };
         self.location = next;
@@ -146,11 +133,9 @@ impl<'a> Keep<'a> for LookUp<'a> {
 
     #[inline(always)]
     fn def_cfa_offset(&mut self, offset: i64, at: u64, fault: &mut Refusal) -> End {
-        let CfaRule::Register { register, .. } = self.row.cfa_rule() else {
+        if !self.row.set_cfa_offset(offset) {
             return refuse(Code::CfaNotRegister, at, fault);
-        };
-        let register = *register;
-        self.row.set_cfa(CfaRule::Register { register, offset });
+        }
         End::On
     }
 
@@ -173,26 +158,14 @@ impl<'a> Keep<'a> for LookUp<'a> {
         }
     }
 
-    // A row with registers in a tree is not copied: thousands of states could be remembered of one with thousands of registers.
-    #[inline(never)]
+    #[inline(always)]
     fn remember(&mut self, _at: u64, _fault: &mut Refusal) -> End {
-        if self.remembers || self.row.is_wide() || self.kept.become_copy(&self.row).is_err() {
-            return End::OutOfMemory;
-        }
-        self.remembers = true;
-        End::On
+        End::OutOfMemory
     }
 
-    #[inline(never)]
+    #[inline(always)]
     fn recall(&mut self, at: u64, fault: &mut Refusal) -> End {
-        if !self.remembers {
-            return refuse(Code::EmptyStateStack, at, fault);
-        }
-        if self.row.become_copy(&self.kept).is_err() {
-            return End::OutOfMemory;
-        }
-        self.remembers = false;
-        End::On
+        refuse(Code::EmptyStateStack, at, fault)
     }
 
     #[inline(always)]

@@ -48,6 +48,7 @@ fn run_look_up<'a>(
     requires start { begin ≤ address }
     ensures { FoundAt address leading.now.factors (program_input leading.now.program leading.now.target) fde.old begin look.new.row result }
 {
+    look.row.clear();
     run_initial(leading, &mut look.row)?;
     look.begin(begin, fde.target().size);
     run_to(fde, leading.factors, look, address)

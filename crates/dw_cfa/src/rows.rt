@@ -53,5 +53,7 @@ pub fn run<'a>(
     are_bytes(cie_program.bytes);
     are_bytes(fde_program.bytes);
     let mut steps = RowSteps::new(alloc, cie_program, fde_program, begin, factors, target);
-    collected(alloc, &mut steps)
+    let rows = collected(alloc, &mut steps);
+    drop(steps);
+    rows
 }

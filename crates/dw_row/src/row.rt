@@ -278,6 +278,20 @@ impl<'a> Row<'a> {
         self.cfa = cfa;
     }
 
+    /// Gives the CFA another offset from the same register (`DW_CFA_def_cfa_offset`, 6.4.2.2), where it is a register plus an
+    /// offset, and tells whether it is.
+    #[inline(always)]
+    pub fn set_cfa_offset(&mut self, offset: i64) -> bool
+        ensures set { IsTrue result → (r : ℕ) × (n : ℤ) × (self.old.cfa ≡ CfaRule.Register r n) × (self.new ≡ with_cfa (CfaRule.Register r offset) self.old) }
+        ensures none { result ≡ false → ((r : ℕ) (n : ℤ) → self.old.cfa ≡ CfaRule.Register r n → ⊥) × (self.new ≡ self.old) }
+    {
+        let CfaRule::Register { offset: n, .. } = &mut self.cfa else {
+            return false;
+        };
+        *n = offset;
+        true
+    }
+
     /// Takes the CFA's rule of another row.
     #[inline(always)]
     pub(crate) fn copy_cfa(&mut self, other: &Row<'a>)

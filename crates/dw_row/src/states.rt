@@ -1,6 +1,6 @@
 //! The current row and the remembered ones (6.4.2.4).
 
-ghost use Rattle.std.specs.Prelude.{◌≡◌, ◌<◌, [], length, reverse, None, OnOk, IfOk, OnErr, IsTrue, ◌↔◌, false};
+ghost use Rattle.std.specs.Prelude.{◌≡◌, ◌<◌, ℕ, ℤ, [], length, reverse, None, OnOk, IfOk, OnErr, IsTrue, ◌↔◌, false};
 ghost use Rattle.dw_row.specs.{Difference.{FirstDifference, place_behind}, Rows.{AreSpecified, blank, rule_in, with_cfa, with_rule}};
 ghost use Rattle.dw_row.specs.{Inner.{Kept.KeptSo, States.{TakenBack, rows_before}}, States.{first_if, BeganWith, Restored, remembering, with_row}};
 
@@ -253,6 +253,17 @@ impl<'a> States<'a> {
         ensures { self.new ≡ with_row (with_cfa cfa.entry self.old.row) self.old }
     {
         self.row.set_cfa(cfa);
+    }
+
+    /// Gives the CFA another offset from the same register (`DW_CFA_def_cfa_offset`, 6.4.2.2), where it is a register plus an
+    /// offset, and tells whether it is.
+    #[inline(always)]
+    pub fn set_cfa_offset(&mut self, offset: i64) -> bool
+        ensures set { IsTrue result → (r : ℕ) × (n : ℤ) × (self.old.row.cfa ≡ CfaRule.Register r n)
+            × (self.new ≡ with_row (with_cfa (CfaRule.Register r offset) self.old.row) self.old) }
+        ensures none { result ≡ false → ((r : ℕ) (n : ℤ) → self.old.row.cfa ≡ CfaRule.Register r n → ⊥) × (self.new ≡ self.old) }
+    {
+        self.row.set_cfa_offset(offset)
     }
 
     // Lists the rule that a register has, and gives it another one.
