@@ -11,7 +11,7 @@ use crate::names::Status;
 use dw_cfa::RowRoom;
 use dw_num::{ReadError, Target};
 use dw_row::{CfaRule, RegRule, Row as CfaRow};
-use dw_section::{Fde, LookUpError, Ranged, check, look_up};
+use dw_section::{Fde, LookUpError, Ranged, check, fde_by_index};
 use std::alloc::Global;
 
 /// The rule of a register (6.4.2.3): its number, the kind, and the other register or the offset that the kind names.
@@ -194,10 +194,11 @@ fn put_row(
     ensures kept { OnErr result ((out.new ≡ out.old) × (row.new ≡ row.old)) }
 {
     let mut room = RowRoom::new(alloc);
-    let Some(found) = look_up(bytes, target, index, address, &mut room)? else {
+    let Some(found) = fde_by_index(bytes, target, index, address)? else {
         return Ok(Status::NoFde as u32);
     };
-    *row = told_row(found, room.row(), out);
+    found.run(&mut room)?;
+    *row = told_row(found.fde(), room.row(), out);
     if row.count <= out.len() {
         return Ok(Status::Ok as u32);
     }

@@ -2,6 +2,12 @@
 use Rattle.dw_section.proofs.Words.{Placed, IsPlaced, item_of, piece_in, eqb, false, inl, inr, ◌≡◌, ℕ, ◌+◌, add-zero, zero-add, ◌<◌, ◌≤◌, Result, Ok, Err, List, [], ◌∷◌, ◌++◌, length, Option, Some, None, refl, sym, ap, subst, ◌∙◌}
 use Rattle.dw_section.proofs.Words.{append_assoc, arith, le-ltb, AllByRecursion, cons_option, length-append, append-nil, take_at, drop_at, ne_eqb, length-fixed, unit_length_only, length_bytes, Form, Target, Refusal, Pieces}
 use Rattle.dw_section.proofs.Words.{CutFault, Order, Dwarf32, Dwarf64, Input, Takes, Item, gap, entry, IsItem, item_bytes, id_width, all_bytes, Piece, piece_of, pieces, fixed_bytes, ok_is, item_at, IsStuck, Four, Cut}
+use Rattle.std.proofs.lemmas.Bool.{cases_eq}
+use Rattle.std.specs.Prelude.{nat_eq, Bool, suc, take, ◌&&◌, ◌==◌, ◌*◌}
+use Rattle.std.specs.List.{list_all}
+use Rattle.byteorder.specs.Endian.{little_number}
+use Rattle.dw_num.specs.Input.{AreBytes}
+use Rattle.dw_section.proofs.Words.{eq-eqb}
 use Rattle.dw_section.proofs.Stages.{all_push}
 use Rattle.dw_num.specs.declared.target.Order.TheVariants.{Little, Big}
 
@@ -163,3 +169,34 @@ cut_or_pieces target s r ps (inl large) p = omega (arith, large.0, p.small)
 cut_or_pieces target s r ps (inr (small, w)) p =
     let e = (one_walk target.order p.items w.items [] w.rest p.cut.each w.each (none_stops target.order) (stuck_stops target s r w) (append-nil (all_bytes target.order p.items) ∙ sym p.cut.whole ∙ w.whole)).1 in
     omega (arith, ap length e, w.some)
+
+-- ---- fields that are all ones
+
+-- a byte in front of a number, and one of all ones in front of another
+ones_step : (a n m : ℕ) → a < 256 → eqb (a + 256 * n) (255 + 256 * m) ≡ (eqb a 255 && eqb n m)
+ones_step a n m fits = elim (cases_eq a 255) [
+  | inl e ↦ elim (cases_eq n m) [
+    | inl f ↦ rw (e, f, eq-eqb (255 + 256 * m) (255 + 256 * m) refl, eq-eqb m m refl) refl
+    | inr ne ↦ rw (e, ne_eqb n m ne) (ne_eqb (255 + 256 * n) (255 + 256 * m) (λ q. ne (omega (arith, q))))
+  ]
+  | inr ne ↦ rw (ne_eqb a 255 ne) (ne_eqb (a + 256 * n) (255 + 256 * m) (λ q. ne (omega (arith, q))))
+]
+
+pub four_ones : (bytes : List ℕ) → AreBytes bytes → 4 ≤ length bytes → nat_eq (little_number 4 (take 4 bytes)) 0xffffffff ≡ list_all (λ b. b == 255) (take 4 bytes)
+four_ones [] h len = absurd (omega arith)
+four_ones (a ∷ []) h len = absurd (omega arith)
+four_ones (a ∷ b ∷ []) h len = absurd (omega arith)
+four_ones (a ∷ b ∷ c ∷ []) h len = absurd (omega arith)
+four_ones (a ∷ b ∷ c ∷ d ∷ rest) h len =
+    ones_step a _ 0xffffff (h 0) ∙ ap (λ (r : Bool). eqb a 255 && r) (ones_step b _ 0xffff (h 1)
+    ∙ ap (λ (r : Bool). eqb b 255 && r) (ones_step c _ 0xff (h 2) ∙ ap (λ (r : Bool). eqb c 255 && r) (ones_step d 0 0 (h 3))))
+
+pub eight_ones : (bytes : List ℕ) → AreBytes bytes → 8 ≤ length bytes → nat_eq (little_number 8 (take 8 bytes)) 0xffffffffffffffff ≡ list_all (λ b. b == 255) (take 8 bytes)
+eight_ones [] h len = absurd (omega arith)
+eight_ones (a ∷ []) h len = absurd (omega arith)
+eight_ones (a ∷ b ∷ []) h len = absurd (omega arith)
+eight_ones (a ∷ b ∷ c ∷ []) h len = absurd (omega arith)
+eight_ones (a ∷ b ∷ c ∷ d ∷ rest) h len =
+    ones_step a _ 0xffffffffffffff (h 0) ∙ ap (λ (r : Bool). eqb a 255 && r) (ones_step b _ 0xffffffffffff (h 1)
+    ∙ ap (λ (r : Bool). eqb b 255 && r) (ones_step c _ 0xffffffffff (h 2) ∙ ap (λ (r : Bool). eqb c 255 && r) (ones_step d _ 0xffffffff (h 3)
+    ∙ ap (λ (r : Bool). eqb d 255 && r) (four_ones rest (λ i. h (suc (suc (suc (suc i))))) (omega arith)))))

@@ -4,6 +4,8 @@ use Rattle.dw_section.proofs.Words.{Target, Refusal, Input, Takes, Span, length_
 use Rattle.dw_section.proofs.Words.{FdeHead, Head, Has, Headers, IsCie, IsFde, cie, fde, cie_head, cie_at, fde_at, IsFound, Returns, Range, cie_places, IsAmong, StandsIn, FoundStands, StandsAt, Pieces, eq-eqb, eqb_tells, length-append}
 use Rattle.dw_section.proofs.{Words.{drop_at, length-drop, length-take-le, take-append-drop, take_all, FdeStands, entry_head, entry_in, initial_head, initial_in, some_is, ok_is}, Lent.{FieldTable.fde_said, HeaderLaws.has_one}}
 use Rattle.dw_section.proofs.{Lent.{HeaderLaws.{cie_at_again, fde_at_again}, Heads.{cie_or, fde_or, has_at}, Index.zip_right}, Items.{front_item, item_again}}
+use Rattle.dw_section.proofs.Words.{Read, ◌>>=◌, fde_fields, fields_at, contents_of, fde_of_piece}
+use Rattle.dw_section.specs.Inner.{Fields.behind_pointer, PieceHeader.PointsBehind}
 use Rattle.dw_section.specs.declared.entry.Kind.TheVariants as kind
 
 -- ---- the entries of a section stand at their places
@@ -135,8 +137,17 @@ pub record IsListed (hs : List Head) (a : Range) (register : ℕ) (e : FoundFde)
   pub register_is : e.cie.return_register ≡ register
 
 -- ranges and pointers do not depend on where CIEs stand, as long as one stands where the pointer says
-among_first : (n : ℕ) (ns : List ℕ) → is_among n (n ∷ ns) ≡ true
+pub among_first : (n : ℕ) (ns : List ℕ) → is_among n (n ∷ ns) ≡ true
 among_first n ns = rw (eq-eqb n n refl) refl
+
+-- where one stands at the place that an FDE names, the rest of its fields is read behind that place
+pub rest_read : (target : Target) (places : List ℕ) (p : Piece) (at : ℕ) (j : Input) (r : Read FdeFields) → PointsBehind target p at j → is_among at places ≡ true → fields_at (behind_pointer j.target.size at) j ≡ r
+    → fields_at (fde_fields target.size places p.form) (contents_of target p) ≡ r
+rest_read target places p at j r points among e = rw (points.0, among, sym points.1) e
+
+pub rest_stuck : (target : Target) (places : List ℕ) (p : Piece) (at : ℕ) (j : Input) (r : Refusal) → PointsBehind target p at j → is_among at places ≡ true → fields_at (behind_pointer j.target.size at) j ≡ Err r → fde_at target places p ≡ Err r
+unfolding fde_at
+rest_stuck target places p at j r points among e = ap (λ (read : Read FdeFields). read >>= fde_of_piece p) (rest_read target places p at j (Err r) points among e)
 
 among_next : (n c : ℕ) (ns : List ℕ) → is_among n ns ≡ true → is_among n (c ∷ ns) ≡ true
 among_next n c ns h = elim (eqb_tells c n) [ inl is ↦ rw (is.0) refl | inr not ↦ rw (not.0) h ]

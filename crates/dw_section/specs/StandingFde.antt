@@ -68,6 +68,14 @@ pub record RulesOf (target : Target) (s : List ℕ) (at a : ℕ) (found : Ruled)
   pub row : last_at a outcome.rows ≡ Some found.row
   pub unfaulted : NoFaultUpTo (factors_of named) (input_of target named.program) (input_of target own.program) own.begin a
 
+-- an FDE that covers an address, at its place in bytes
+pub record Indexed : Type 0 where
+  pub target : Target
+  pub bytes : List ℕ
+  pub at : ℕ
+  pub address : ℕ
+  pub fde : Fde
+
 -- ---- what a look-up refuses
 
 -- an entry of this kind stands at a place

@@ -1,13 +1,14 @@
 //! Cutting a section into its entries (6.4.1, 7.4).
 
-ghost use Rattle.std.specs.{List.list_all, Prelude.{◌≡◌, ◌+◌, ◌<◌, ◌≤◌, ◌==◌, List, [], ◌∷◌, ◌++◌, length, MatchResult, IfOk, IfErr, IfSome, OnOk}};
+ghost use Rattle.std.specs.Prelude.{◌≡◌, ◌+◌, ◌<◌, ◌≤◌, List, [], ◌∷◌, ◌++◌, length, MatchResult, IfOk, IfErr, IfSome, OnOk};
 ghost use Rattle.dw_num.specs.{Input.Takes, Refusals.Refuses, declared.{error.ReadError.TheVariants.OutOfMemory, refusal.Code.TheVariants.SectionTooLarge}};
 ghost use Rattle.dw_op.specs.Faults.{IsWithin};
 ghost use Rattle.dw_section.specs.{Cut.{IsItem, Piece, item_bytes, is_cie, id_width}, Faults.{item_at, CutFault}, Pieces.{Pieces, Entries}};
 ghost use Rattle.dw_section.specs.Inner.{Left.{PiecesLeft, GivesPiece, GoesOn}, Pieces.{ArePlaced, IsPlaced, item_of, piece_in}, Reads.Gives};
 ghost use Rattle.dw_section.specs.declared.entry.Entry.{Entry};
 
-use dw_num::{Code, Cursor, Form, Program, ReadError, Refusal, Target};
+use byteorder::{ByteOrder, LittleEndian};
+use dw_num::{Code, Cursor, Form, Program, ReadError, Refusal, Target, are_bytes};
 use std::alloc::{AllocError, Global};
 
 /// What an entry is (6.4.1).
@@ -61,22 +62,17 @@ pub(crate) fn width_of(form: Form) -> usize
     }
 }
 
-#[inline(always)]
-fn all_ones(bytes: &[u8]) -> bool
-    ensures { result ≡ list_all (λ b. b == 255) bytes.now }
-{
-    bytes.iter().all(|b| *b == 0xff)
-}
-
-// By widths that are known where this is compiled, so that it is no loop.
+// What an entry is by its first field, all of whose bytes are compared at once, as a number.
+#[tactic(auto, using(crate::proofs::Items::four_ones, crate::proofs::Items::eight_ones))]
 #[inline(always)]
 fn kind_in(form: Form, body: &[u8]) -> Kind
     requires { id_width form ≤ length body.now }
     ensures { result ≡ is_cie form body.now }
 {
+    are_bytes(body);
     match form {
-        Form::Dwarf32 if all_ones(&body[..4]) => Kind::Cie,
-        Form::Dwarf64 if all_ones(&body[..8]) => Kind::Cie,
+        Form::Dwarf32 if LittleEndian::read_u32(&body[..4]) == 0xffff_ffff => Kind::Cie,
+        Form::Dwarf64 if LittleEndian::read_u64(&body[..8]) == 0xffff_ffff_ffff_ffff => Kind::Cie,
         _ => Kind::Fde,
     }
 }

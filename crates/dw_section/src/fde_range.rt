@@ -150,8 +150,11 @@ pub(crate) fn run_fdes<'a>(
         list: Vec::with_capacity(alloc, cies.counts.fdes)?,
         lacking: None,
     };
-    let (walks, places, initials) = (&mut Walks::new(alloc, target), &cies.places, &cies.initials);
-    run_on(walks, &mut judged, bytes, target, places, initials)?;
+    let mut walks = Walks::new(alloc, target);
+    let (places, initials) = (&cies.places, &cies.initials);
+    let ran = run_on(&mut walks, &mut judged, bytes, target, places, initials);
+    drop(walks);
+    ran?;
     Ok(judged)
 }
 

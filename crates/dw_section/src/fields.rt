@@ -2,12 +2,12 @@
 
 ghost use Rattle.std.specs.Prelude.{◌≡◌, ◌+◌, ◌||◌, ℕ, true, Ok, position, ◌==◌, IfOk};
 ghost use Rattle.dw_num.specs.{Target.address_limit, declared.refusal.Code.TheVariants.BadVersion};
-ghost use Rattle.dw_section.specs.Fields.{Fields, fde_fields, field, fixed, unless, empty_string, sizes, return_register, factors, is_among};
-ghost use Rattle.dw_section.specs.Inner.{Fields.{Passes, behind_id, fields_at}, Places.{IsAt, Rises}, Reads.Gives};
+ghost use Rattle.dw_section.specs.Fields.{Fields, field, fixed, unless, empty_string, sizes, return_register, factors, is_among};
+ghost use Rattle.dw_section.specs.Inner.{Fields.{Passes, behind_id, behind_pointer, fields_at}, Places.{IsAt, Rises}, Reads.Gives};
 ghost use Rattle.dw_section.specs.declared.fields.CieFields.{CieFields as TheCieFields};
 
-use crate::entry::{refusal, width_of};
-use dw_num::{Code, Cursor, Form, Refusal, Size};
+use crate::entry::refusal;
+use dw_num::{Code, Cursor, Refusal, Size};
 
 /// What the fields of a CIE say.
 #[derive(Clone, Copy)]
@@ -67,12 +67,12 @@ fn empty_string(cursor: &mut Cursor<'_>) -> Result<(), Refusal>
     ensures { (rest : Fields TheCieFields) → Passes result (fields_at (empty_string rest) cursor.old) (λ v. fields_at rest cursor.new) }
 {
     let at = cursor.at();
+    if let Some(0) = cursor.rest().first() {
+        let _ = cursor.take(1)?;
+        return Ok(());
+    }
     match string_len(cursor.rest()) {
         None => Err(refusal(Code::Truncated, at)),
-        Some(0) => {
-            let _ = cursor.take(1)?;
-            Ok(())
-        }
         Some(_) => Err(refusal(Code::Augmentation, at)),
     }
 }
@@ -126,9 +126,9 @@ pub(crate) fn read_cie(cursor: &mut Cursor<'_>, size: Size) -> Result<CieFields,
     read_factors(cursor, version)
 }
 
-// Whether a place is among ascending places: mostly it stands where the one before was found.
+/// Whether a place is among ascending places: mostly it stands where the one before was found.
 #[inline(always)]
-fn has_place(places: &[u64], place: u64, found: &mut usize) -> bool
+pub(crate) fn has_place(places: &[u64], place: u64, found: &mut usize) -> bool
     requires { Rises 0 places.now }
     ensures is { result ≡ is_among place places.now }
     ensures at { result ≡ true → IsAt places.now found.new place }
@@ -145,24 +145,14 @@ fn has_place(places: &[u64], place: u64, found: &mut usize) -> bool
     }
 }
 
+/// The fields of an FDE behind the place of its CIE.
 #[tactic(auto, unfolding(dw_num::specs::Front::address_at))]
 #[inline(always)]
-pub(crate) fn read_fde(
-    cursor: &mut Cursor<'_>,
-    places: &[u64],
-    found: &mut usize,
-    form: Form,
-) -> Result<FdeFields, Refusal>
-    requires { Rises 0 places.now }
-    ensures exact { Gives (λ f. f) result (fields_at (fde_fields cursor.old.target.size places.now form) cursor.old) cursor.new }
-    ensures at { IfOk result (λ f. IsAt places.now found.new f.cie_at) }
+pub(crate) fn read_range(cursor: &mut Cursor<'_>, cie_at: u64) -> Result<FdeFields, Refusal>
+    ensures exact { Gives (λ f. f) result (fields_at (behind_pointer cursor.old.target.size cie_at) cursor.old) cursor.new }
+    ensures cie_at { IfOk result (λ f. f.cie_at ≡ cie_at) }
 {
     let size = cursor.target().size;
-    let at = cursor.at();
-    let cie_at = cursor.fixed(width_of(form))?;
-    if !has_place(places, cie_at, found) {
-        return Err(refusal(Code::NoSuchCie, at));
-    }
     let begin = cursor.address()?;
     let at = cursor.at();
     let range = cursor.address()?;

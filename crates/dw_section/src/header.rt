@@ -1,19 +1,19 @@
 //! The headers of a section: the fields of its entries.
 
-ghost use Rattle.std.specs.Prelude.{◌≡◌, ◌+◌, ◌≤◌, List, length, map, IfOk, IfErr, IfSome, MatchResult};
+ghost use Rattle.std.specs.Prelude.{◌≡◌, ◌+◌, ◌≤◌, ℕ, true, Err, List, length, map, IfOk, IfErr, IfSome, MatchResult};
 ghost use Rattle.dw_num.specs.{Refusals.Refuses, Span.span_of, declared.error.ReadError.TheVariants.OutOfMemory};
 ghost use Rattle.dw_op.specs.Faults.{IsWithin};
-ghost use Rattle.dw_section.specs.{Counts.AreCounts, Cut.Piece, Headers.{Head, Has, Headers, head_in, CieHolds, CieStuck, CiesHold, FdeStuck}};
+ghost use Rattle.dw_section.specs.{Counts.AreCounts, Cut.Piece, Fields.is_among, Headers.{Head, Has, Headers, head_in, CieHolds, CieStuck, CiesHold, FdeStuck}};
 ghost use Rattle.dw_section.specs.{Headers.{CieFieldsFault, HeadersFault}, Pieces.Pieces, Places.cie_places, StandingFde.StandsIn};
-ghost use Rattle.dw_section.specs.Inner.{Initials.{AreCies, IsRead}, PieceHeader.{SaysFde, cie_at, fde_at, initial_in, entry_in, program_of}};
+ghost use Rattle.dw_section.specs.Inner.{Initials.{AreCies, IsRead}, PieceHeader.{PointsBehind, SaysFde, cie_at, fde_at, initial_in, entry_in, program_of}};
 ghost use Rattle.dw_section.specs.Inner.{Left.FieldsFaultOr, Pieces.piece_in, Places.{IsAt, Rises}, Stage.Answers};
 ghost use Rattle.dw_section.specs.declared.entry.Kind.TheVariants as kind;
 
-use crate::entry::{EntryCounts, Kind, Placed, cut, next_piece, width_of};
-use crate::fields::{read_cie, read_fde};
+use crate::entry::{EntryCounts, Kind, Placed, cut, next_piece, refusal, width_of};
+use crate::fields::{has_place, read_cie, read_range};
 use crate::standing_fde::cie_at;
 use dw_cfa::Factors;
-use dw_num::{Cursor, Form, Program, ReadError, Refusal, Target, are_bytes};
+use dw_num::{Code, Cursor, Form, Program, ReadError, Refusal, Target, are_bytes};
 use std::alloc::Global;
 
 /// The fields of an entry (6.4.1). Its program is the rest of the entry's contents, nops among it. `at` is the
@@ -112,6 +112,32 @@ pub(crate) fn read_initial<'a>(piece: &Placed<'a>, target: Target) -> Result<Ini
     })
 }
 
+/// Reads an entry that is an FDE behind the place of its CIE.
+#[inline(always)]
+pub(crate) fn read_behind<'a>(
+    piece: &Placed<'a>,
+    cie_at: u64,
+    cursor: &mut Cursor<'a>,
+    target: Target,
+) -> Result<FdeEntry<'a>, Refusal>
+    requires kind { piece.now.kind ≡ kind.Fde }
+    requires pointer { PointsBehind target (piece_in piece.now) cie_at cursor.old }
+    ensures stuck { (places : List ℕ) → is_among cie_at places ≡ true → IfErr result (λ r. fde_at target places (piece_in piece.now) ≡ Err r) }
+    ensures found { (places : List ℕ) → is_among cie_at places ≡ true → IfOk result (λ e. Has target places (piece_in piece.now) (entry_in e)) }
+    ensures cie_at { IfOk result (λ e. e.cie_at ≡ cie_at) }
+{
+    are_bytes(piece.contents.bytes);
+    let fields = read_range(cursor, cie_at)?;
+    Ok(FdeEntry {
+        at: piece.at,
+        form: piece.form,
+        cie_at: fields.cie_at,
+        begin: fields.begin,
+        range: fields.range,
+        program: rest_of(cursor),
+    })
+}
+
 /// Reads an entry that is an FDE, where CIEs stand at these places.
 #[tactic(auto, unfolding(crate::specs::Inner::PieceHeader::fde_at))]
 #[inline(always)]
@@ -123,22 +149,17 @@ pub(crate) fn read_entry<'a>(
 ) -> Result<FdeEntry<'a>, Refusal>
     requires kind { piece.now.kind ≡ kind.Fde }
     requires ascending { Rises 0 places.now }
-    ensures exact { Answers entry_in result (fde_at target places.now (piece_in piece.now)) }
+    ensures stuck { IfErr result (λ r. fde_at target places.now (piece_in piece.now) ≡ Err r) }
     ensures found { IfOk result (λ e. Has target places.now (piece_in piece.now) (entry_in e)) }
     ensures at { IfOk result (λ e. IsAt places.now found.new e.cie_at) }
 {
     let contents = piece.contents;
-    are_bytes(contents.bytes);
     let mut cursor = Cursor::new(contents.bytes, contents.at, target);
-    let fields = read_fde(&mut cursor, places, found, piece.form)?;
-    Ok(FdeEntry {
-        at: piece.at,
-        form: piece.form,
-        cie_at: fields.cie_at,
-        begin: fields.begin,
-        range: fields.range,
-        program: rest_of(&cursor),
-    })
+    let cie_at = cursor.fixed(width_of(piece.form))?;
+    if !has_place(places, cie_at, found) {
+        return Err(refusal(Code::NoSuchCie, contents.at));
+    }
+    read_behind(piece, cie_at, &mut cursor, target)
 }
 
 /// How many entries a section has, where its CIEs stand, and what these say.

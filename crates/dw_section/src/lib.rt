@@ -26,5 +26,5 @@ pub use header::{Header, headers};
 pub use laws::{fault_laws, section_laws};
 pub use lookup::{Fde, FdeRef, Fdes};
 pub use opening::{CieRow, Opening};
-pub use standing_fde::{LookUpError, look_up};
+pub use standing_fde::{IndexedFde, LookUpError, fde_by_index, look_up};
 pub use table::{Table, check};

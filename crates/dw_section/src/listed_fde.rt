@@ -58,7 +58,7 @@ pub(crate) fn found_fde<'a>(
     let Some(own) = piece else {
         unreachable!();
     };
-    let cie_at = pointer_of(&own, target);
+    let (cie_at, _) = pointer_of(&own, target);
     let named = initials.partition_point(|initial| initial.at < cie_at);
     FoundFde {
         own: FdeEntry {

@@ -1,24 +1,25 @@
 //! FDEs that are read at their places in bytes that were not checked (6.4.1).
 
 ghost use Rattle.std.specs.{Bool.MatchBool, Prelude.{◌≡◌, ◌+◌, ◌^◌, ◌<◌, ◌≤◌, ℕ, List, length, map, slice_index_or, Some, None, IfOk, IfErr, IfSome, IsSome}};
-ghost use Rattle.std.specs.Prelude.{MatchOption, MatchResult};
+ghost use Rattle.std.specs.Prelude.{MatchOption, MatchResult, OnOk};
 ghost use Rattle.dw_num.specs.declared.refusal.Refusal.{Refusal as TheRefusal};
 ghost use Rattle.dw_op.specs.Faults.{IsWithin};
-ghost use Rattle.dw_section.specs.{Accepted.RulesHold, Among.IsAmong, Cut.{Piece, id_width}, Fits.RowFits, Headers.{FdeHead, Has, Head, fde}, Meaning.AreFdes};
-ghost use Rattle.dw_section.specs.{Meaning.{Covers, NoneCovers, Returns, RulesAt}, Overlap.{Ascends, Range}, Ranges.{LeadsTo, Uncovered, fde_in, range_in}};
-ghost use Rattle.dw_section.specs.{Ranges.IsTable, Stage.Then, StandingFde.{ItemFault, LookUpFault, Misleads, NamesCieAt, NoneStands, PairFault, RefusesAs}};
-ghost use Rattle.dw_section.specs.{StandingFde.{RulesOf, StandingFault, StandsAs, StandsIn}, Inner.{Pieces.piece_in, StandingFde.{FoundStands, StandsAt}}};
-ghost use Rattle.dw_section.specs.{Inner.StandingFde.of_steps, declared.{fde_range.Ranged.{Ranged as TheRanged}, lookup.Fde.{Fde as TheFde}}};
+ghost use Rattle.dw_section.specs.{Among.IsAmong, Cut.{Piece, id_width}, Fits.RowFits, Headers.{FdeHead, Has, fde}, Meaning.{AreFdes, Covers, NoneCovers}};
+ghost use Rattle.dw_section.specs.{Meaning.RulesAt, Overlap.Ascends, Ranges.{IsTable, LeadsTo, Uncovered, fde_in, range_in}, Stage.Then};
+ghost use Rattle.dw_section.specs.StandingFde.{ItemFault, LookUpFault, Misleads, NamesCieAt, PairFault, RefusesAs, RulesOf, StandsAs, StandsIn};
+ghost use Rattle.dw_section.specs.Inner.{PieceHeader.PointsBehind, Pieces.piece_in, StandingFde.{FoundStands, StandsAt, of_steps}};
+ghost use Rattle.dw_section.specs.declared.{fde_range.Ranged.{Ranged as TheRanged}, lookup.Fde.{Fde as TheFde}};
 ghost use Rattle.dw_section.specs.declared.entry.Kind.TheVariants as kind;
 ghost use Rattle.dw_section.specs.declared.standing_fde.LookUpError.TheVariants as LookUpError;
 
 use crate::entry::{Kind, MOST, Placed, next_item, refusal, width_of};
 use crate::fde_range::Ranged;
-use crate::header::{read_entry, read_initial};
+use crate::header::{read_behind, read_initial};
 use crate::listed_fde::FoundFde;
 use crate::lookup::Fde;
 use dw_cfa::RowRoom;
 use dw_num::{Code, Cursor, ReadError, Refusal, Target, are_bytes};
+use std::marker::Model;
 use thiserror::Error;
 
 /// The entry that stands at a place, or none, or what is wrong there.
@@ -58,20 +59,21 @@ pub(crate) fn cie_at(bytes: &[u8], at: u64, target: Target) -> Result<Option<Pla
     }
 }
 
-/// The first field of an FDE: the place of its CIE.
+/// The first field of an FDE, the place of its CIE, and a cursor behind it.
 #[tactic(auto, using(crate::proofs::StandFaults::fixed_there))]
 #[inline(always)]
-pub(crate) fn pointer_of(piece: &Placed<'_>, target: Target) -> u64
+pub(crate) fn pointer_of<'a>(piece: &Placed<'a>, target: Target) -> (u64, Cursor<'a>)
     requires { id_width piece.now.form ≤ length piece.now.contents.bytes.now }
-    ensures names { NamesCieAt target (piece_in piece.now) result }
-    ensures only { (places : List ℕ) (h : FdeHead) → Has target places (piece_in piece.now) (fde h) → result ≡ h.cie_at }
+    ensures names { NamesCieAt target (piece_in piece.now) result.0 }
+    ensures only { (places : List ℕ) (h : FdeHead) → Has target places (piece_in piece.now) (fde h) → result.0 ≡ h.cie_at }
+    ensures behind { PointsBehind target (piece_in piece.now) result.0 result.1 }
 {
     let contents = piece.contents;
     let mut cursor = Cursor::new(contents.bytes, contents.at, target);
     let Ok(pointer) = cursor.fixed(width_of(piece.form)) else {
         unreachable!();
     };
-    pointer
+    (pointer, cursor)
 }
 
 // The FDE that stands at a place, with what the CIE that it names says, or none, or what is wrong in either.
@@ -89,11 +91,11 @@ fn standing<'a>(bytes: &'a [u8], at: u64, target: Target) -> Result<Option<Found
     let Kind::Fde = own.kind else {
         return Ok(None);
     };
-    let pointer = pointer_of(&own, target);
+    let (pointer, mut cursor) = pointer_of(&own, target);
     let Some(named) = cie_at(bytes, pointer, target)? else {
         return Err(refusal(Code::NoSuchCie, own.contents.at));
     };
-    let header = read_entry(&own, &[pointer], &mut 0, target)?;
+    let header = read_behind(&own, pointer, &mut cursor, target)?;
     let cie = read_initial(&named, target)?;
     Ok(Some(FoundFde { own: header, cie }))
 }
@@ -165,57 +167,126 @@ impl From<ReadError> for LookUpError {
     }
 }
 
-// The rules at an address by the FDE that stands at a place.
-#[inline(always)]
-fn row_of<'a>(
+/// A nonempty FDE to which an index leads, with what its programs are run with. A contract sees the target and the bytes, the
+/// FDE's place in them, and an address that the FDE covers.
+#[derive(Drop)]
+pub struct IndexedFde<'a> {
     bytes: &'a [u8],
     target: Target,
-    at: u64,
     address: u64,
-    room: &mut RowRoom<'a>,
-) -> Result<Fde, LookUpError>
-    requires { length bytes.now ≤ 2147483647 }
-    ensures found { IfOk result (λ fde. RulesOf target bytes.now at address (record { fde = fde; row = room.new })) }
-    ensures range { IfOk result (λ fde. (range : ℕ) × (range < 2 ^ 64) × (fde.end ≡ fde.begin + range)) }
-    ensures bad { IfErr result (λ e. e ≡ LookUpError.BadIndex → NoneStands target bytes.now at address) }
-    ensures within { IfErr result (RefusesAs (IsWithin bytes.now)) }
-    ensures refused { IfErr result (RefusesAs (StandingFault target bytes.now at address)) }
-    ensures own { (hs : List Head) (a : Range) (register : ℕ) → RulesHold target bytes.now hs →
-        Returns hs a register → a.at ≡ at → a.begin ≤ address → address < a.begin + a.range →
-        MatchResult result (λ fde. (fde ≡ fde_in (record { begin = a.begin; range = a.range; at = a.at; return_register = register }))
-        × RulesAt target bytes.now address room.new) (λ e. e ≡ LookUpError.OutOfMemory) }
-{
-    are_bytes(bytes);
-    let Some(fde) = standing(bytes, at, target)? else {
-        return Err(LookUpError::BadIndex);
-    };
-    let (cie, own) = (fde.cie, fde.own);
-    if !covers(own.begin, own.range, address) {
-        return Err(LookUpError::BadIndex);
-    }
-    are_bytes(cie.program.bytes);
-    are_bytes(own.program.bytes);
-    let (begin, factors) = (own.begin, cie.factors);
-    room.run_to(cie.program, own.program, begin, factors, target, address)?;
-    Ok(Fde {
-        begin: own.begin,
-        end: u128::from(own.begin) + u128::from(own.range),
-        return_register: cie.return_register,
-    })
+    found: FoundFde<'a>,
 }
 
-/// The FDE that covers an address by an index of a section's nonempty FDEs, ascending by begin, whose rules there `room` lends
-/// then; or none where the index has no entry that covers it. The entry is found by halving; the FDE at its place, and the CIE
-/// that this names, are read and judged anew, up to the row. So bytes and index need not belong together: where they do not,
-/// the answer is that of the FDE that stands at the place, or an error. Takes memory only for registers above 127,
-/// expressions, offsets beyond 16 bits, and more than 32 changes behind rows that are remembered one above the other.
+impl<'a> Model for IndexedFde<'a> {
+    ghost use Rattle.std.specs.Prelude.{◌≤◌, length};
+    ghost use Rattle.dw_section.specs.{Meaning.Covers, StandingFde.Indexed, Inner.{Lookup.fde_of, StandingFde.FoundStands}};
+
+    ghost Value = { Indexed };
+
+    ghost view = { λ f. record { target = f.target; bytes = f.bytes.now; at = f.found.own.at; address = f.address; fde = fde_of f.found } };
+
+    ghost invariant = { λ f. FoundStands f.target f.bytes.now f.found × Covers f.address (fde_of f.found) × (length f.bytes.now ≤ 2147483647) };
+}
+
+/// The FDE that covers an address by an index of a section's nonempty FDEs, ascending by begin; or none where the index has no entry
+/// that covers it. The entry is found by halving; the FDE at its place, and the CIE that this names, are read anew (6.4.1). So bytes
+/// and index need not belong together: where they do not, it is the FDE that stands at the place, or an error. Takes no memory.
 ///
 /// `BadIndex` says that no FDE that covers the address stands at the place. `Refused` has `SectionTooLarge` (26) at 0 where there
 /// are more than 2,147,483,647 bytes, else the first fault in this order: of the entry at the place, and of what begins where its
-/// CIE should stand (1, 2, 3); of the FDE's fields (1, 10, 11) and then of the CIE's (1, 4 to 9); of the CIE's program and then of
-/// the FDE's up to the row (1, 8, 9, 12 to 23, as `dw_cfa::run` has it). `OutOfMemory` is answered where a request for memory was
-/// refused. Behind an error the room holds some row. Unless the index is that of an accepted section, the CFA's rule in the row may
-/// be `Unset`.
+/// CIE should stand (1, 2, 3); of the FDE's fields (1, 10, 11) and then of the CIE's (1, 4 to 9). It is never `OutOfMemory`.
+#[inline(always)]
+pub fn fde_by_index<'a>(
+    bytes: &'a [u8],
+    target: Target,
+    index: &[Ranged],
+    address: u64,
+) -> Result<Option<IndexedFde<'a>>, LookUpError>
+    // It stands in these bytes where an entry that covers the address leads, or no entry does.
+    ensures found { IfOk result (λ o. MatchOption o (Uncovered index.now address)
+        (λ f. (f.target ≡ target) × (f.bytes ≡ bytes.now) × (f.address ≡ address) × LeadsTo index.now address f.at)) }
+    // By the index of an accepted section it is the section's FDE that covers the address, or none does.
+    ensures own { IsTable target bytes.now index.now → MatchResult result (λ o.
+        MatchOption o ((fs : List TheFde) → AreFdes target bytes.now fs → NoneCovers address fs)
+        (λ f. (fs : List TheFde) → AreFdes target bytes.now fs → IsAmong f.fde fs)) (λ _. ⊥) }
+    // A bad index leads to a place where no FDE that covers the address stands.
+    ensures bad { IfErr result (λ e. e ≡ LookUpError.BadIndex → Misleads target bytes.now index.now address) }
+    ensures memory { IfErr result (λ e. e ≡ LookUpError.OutOfMemory → ⊥) }
+    // A refusal has its place in the bytes or at their end.
+    ensures within { IfErr result (RefusesAs (IsWithin bytes.now)) }
+    // It is that there are too many bytes, or the first fault of what stands where an entry leads that covers the address.
+    ensures refused { IfErr result (RefusesAs (LookUpFault target bytes.now index.now address)) }
+{
+    if bytes.len() > MOST {
+        return Err(LookUpError::Refused(refusal(Code::SectionTooLarge, 0)));
+    }
+    let Some(place) = place_of(index, address) else {
+        return Ok(None);
+    };
+    let Some(found) = standing(bytes, u64::from(index[place].at), target)? else {
+        return Err(LookUpError::BadIndex);
+    };
+    if !covers(found.own.begin, found.own.range, address) {
+        return Err(LookUpError::BadIndex);
+    }
+    Ok(Some(IndexedFde {
+        bytes,
+        target,
+        address,
+        found,
+    }))
+}
+
+impl<'a> IndexedFde<'a> {
+    /// The addresses of the FDE (`initial_location`, `address_range`), and the return address register of its CIE.
+    #[inline(always)]
+    pub fn fde(&self) -> Fde
+        ensures is { result ≡ self.now.fde }
+        ensures covers { Covers self.now.address result }
+        ensures range { (range : ℕ) × (range < 2 ^ 64) × (result.end ≡ result.begin + range) }
+    {
+        let own = self.found.own;
+        Fde {
+            begin: own.begin,
+            end: u128::from(own.begin) + u128::from(own.range),
+            return_register: self.found.cie.return_register,
+        }
+    }
+
+    /// Runs the programs of the CIE and of the FDE up to the row of the address (6.4.3), which `room` lends then. Takes memory only for
+    /// registers above 127, expressions, offsets beyond 16 bits, and more than 32 changes behind rows that are remembered one above
+    /// the other.
+    ///
+    /// `Refused` has the first fault of the CIE's program and then of the FDE's up to the row (1, 8, 9, 12 to 23, as `dw_cfa::run` has
+    /// it). `OutOfMemory` is answered where a request for memory was refused, and `BadIndex` never. Behind an error the room holds some
+    /// row. Unless the index is that of an accepted section, the CFA's rule in the row may be `Unset`.
+    #[inline(always)]
+    pub fn run(&self, room: &mut RowRoom<'a>) -> Result<(), LookUpError>
+        // By the index of an accepted section the row has the rules that the section says.
+        ensures own { (index : List TheRanged) → IsTable self.now.target self.now.bytes index → LeadsTo index self.now.address self.now.at →
+            MatchResult result (λ _. RulesAt self.now.target self.now.bytes self.now.address room.new) (λ e. e ≡ LookUpError.OutOfMemory) }
+        // By any other it has those of the FDE.
+        ensures found { OnOk result (RulesOf self.now.target self.now.bytes self.now.at self.now.address (record { fde = self.now.fde; row = room.new })) }
+        ensures fits { OnOk result (RowFits self.now.target room.new) }
+        ensures good { IfErr result (λ e. e ≡ LookUpError.BadIndex → ⊥) }
+        ensures within { IfErr result (RefusesAs (IsWithin self.now.bytes)) }
+        // It is the first fault of what stands where an entry leads that covers the address.
+        ensures refused { (index : List TheRanged) → LeadsTo index self.now.address self.now.at →
+            IfErr result (RefusesAs (LookUpFault self.now.target self.now.bytes index self.now.address)) }
+    {
+        are_bytes(self.bytes);
+        let (cie, own) = (self.found.cie, self.found.own);
+        are_bytes(cie.program.bytes);
+        are_bytes(own.program.bytes);
+        let (begin, factors) = (own.begin, cie.factors);
+        let (target, address) = (self.target, self.address);
+        room.run_to(cie.program, own.program, begin, factors, target, address)?;
+        Ok(())
+    }
+}
+
+/// The FDE that covers an address by an index, whose rules there `room` lends then; or none where the index has no entry that covers
+/// it: `fde_by_index`, and `IndexedFde::run` of the FDE that it finds. Errors are those of the first and then those of the second.
 #[inline(always)]
 pub fn look_up<'a>(
     bytes: &'a [u8],
@@ -232,24 +303,16 @@ pub fn look_up<'a>(
     // By any other it is what the FDE says that stands where an entry that covers the address leads, or none where no entry does.
     ensures found { IfOk result (λ o. MatchOption o (Uncovered index.now address)
         (λ fde. (at : ℕ) × LeadsTo index.now address at × RulesOf target bytes.now at address (record { fde = fde; row = room.new }))) }
-    // The FDE covers fewer than 2^64 addresses.
     ensures range { IfOk result (λ o. IfSome o (λ fde. (range : ℕ) × (range < 2 ^ 64) × (fde.end ≡ fde.begin + range))) }
-    // Its rules are in range, by whatever index.
     ensures fits { IfOk result (λ o. IfSome o (λ _. RowFits target room.new)) }
-    // A bad index leads to a place where no FDE that covers the address stands.
     ensures bad { IfErr result (λ e. e ≡ LookUpError.BadIndex → Misleads target bytes.now index.now address) }
-    // A refusal has its place in the bytes or at their end.
     ensures within { IfErr result (RefusesAs (IsWithin bytes.now)) }
     // It is that there are too many bytes, or the first fault of what stands where an entry leads that covers the address.
     ensures refused { IfErr result (RefusesAs (LookUpFault target bytes.now index.now address)) }
 {
-    if bytes.len() > MOST {
-        return Err(LookUpError::Refused(refusal(Code::SectionTooLarge, 0)));
-    }
-    let Some(place) = place_of(index, address) else {
+    let Some(found) = fde_by_index(bytes, target, index, address)? else {
         return Ok(None);
     };
-    let entry = index[place];
-    let found = row_of(bytes, target, u64::from(entry.at), address, room)?;
-    Ok(Some(found))
+    found.run(room)?;
+    Ok(Some(found.fde()))
 }

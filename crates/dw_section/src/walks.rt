@@ -34,7 +34,7 @@ pub(crate) struct Walks<'a> {
 fn put_away<'a>(away: &mut BTreeMap<u64, RowWalk<'a>>, place: u64, walk: RowWalk<'a>)
     ensures { (target : TheTarget) (hs : List Head) → LedTo target hs (Some place) walk.entry.led → AreAway target hs away.old → AreAway target hs away.new }
 {
-    let _ = away.insert(place, walk);
+    drop(away.insert(place, walk));
 }
 
 // Takes the walk of the CIE at a place back out, if there is one, with its place.
@@ -78,6 +78,8 @@ impl<'a> Walks<'a> {
         let before = mem::replace(&mut self.walk, other);
         if self.long {
             put_away(&mut self.away, left, before);
+        } else {
+            drop(before);
         }
         self.cie_at = cie_at;
     }

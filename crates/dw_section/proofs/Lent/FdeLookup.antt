@@ -1,6 +1,7 @@
 -- What a table lists, and where an address is found in it.
 use Rattle.dw_section.proofs.Words.{◌≡◌, ℕ, zero, suc, ◌+◌, ◌<◌, ◌≤◌, List, [], ◌∷◌, map, length, get_or, refl, sym, ap, subst, ◌∙◌, arith, inl, inr, AllByRecursion, AllZip, Target, Ranged, Head, CieHead, FdeHead, Headers, HeadsRise}
 use Rattle.dw_section.proofs.{Words.{IsRanged, range_in, fde_in, IsTable, Returns, Lists, AreFdes, NoneCovers, IsAmong, Range, Precedes, Ascends, AreApart, IsIndex, Fde, IsNonDecreasingBy, get_or-map}, Lent.Judged.{all_get, all_get_map}}
+use Rattle.dw_section.specs.Ranges.{LeadsTo}
 use Rattle.dw_section.proofs.{Lent.HeaderLaws.one_headers, Lent.Heads.{heads_rise, one_among, cie_or, fde_or}, Lent.Index.{all_from, one_index}, Stages.one_zip}
 
 -- ---- the list
@@ -83,6 +84,10 @@ listed_fde list place e d lt is = ap fde_in is ∙ sym (get_or-map fde_in list p
 -- an entry of the list is of one of its headers
 pub ranged_of : (target : Target) (s : List ℕ) (list : List Ranged) (t : IsTable target s list) (i : ℕ) (d : Ranged) → i < length list → IsRanged t.indexed.headers (get_or list i d)
 ranged_of target s list t i d lt = all_get (IsRanged t.indexed.headers) list i d t.indexed.each lt
+
+-- so is one that leads to a place
+pub led_to : (target : Target) (s : List ℕ) (index : List Ranged) (a at : ℕ) (t : IsTable target s index) (l : LeadsTo index a at) → IsRanged t.indexed.headers l.0
+led_to target s index a at t l = subst (IsRanged t.indexed.headers) (sym (l.1.2 none)) (ranged_of target s index t l.1.0 none l.1.1)
 
 pub same_fde : (b r q b' r' q' : ℕ) → b ≡ b' → r ≡ r' → q ≡ q' → ◌≡◌ {A = Fde} (record { begin = b; end = b + r; return_register = q }) (record { begin = b'; end = b' + r'; return_register = q' })
 same_fde b r q b' r' q' e f g = same_parts b (b + r) q b' (b' + r') q' e (omega (arith, e, f)) g

@@ -1,8 +1,8 @@
 -- Reading the header of a piece as the code does it.
 use Rattle.std.specs.Prelude.{◌≡◌, ℕ, List, Option, Some, None, Result, Ok}
-use Rattle.dw_num.specs.{Front.{◌>>=◌}, Input.Input, Span.{Span, span_of, input_of}}
+use Rattle.dw_num.specs.{Front.{fixed_at, ◌>>=◌}, Input.Input, Span.{Span, span_of, input_of}}
 use Rattle.dw_num.specs.declared.{refusal.Refusal.Refusal, target.Target.Target}
-use Rattle.dw_section.specs.{Cut.Piece, Fields.{cie_fields, fde_fields}, Headers.{CieHead, FdeHead, Head, Has, cie, fde, cie_head, fde_head}}
+use Rattle.dw_section.specs.{Cut.{Piece, id_width}, Fields.{cie_fields, fde_fields}, Headers.{CieHead, FdeHead, Head, Has, cie, fde, cie_head, fde_head}}
 use Rattle.dw_section.specs.declared.{fields.CieFields.CieFields, fields.FdeFields.FdeFields, header.FdeEntry.FdeEntry}
 use Rattle.dw_section.specs.{declared.header.Initial.Initial, Inner.Fields.fields_at}
 use Rattle.dw_section.specs.declared.entry.Kind.TheVariants as kind
@@ -19,6 +19,10 @@ cie_of_piece p f = Ok (cie_head p f.0 (program_of f.1))
 -- the header of a CIE, or what is wrong in it
 unfoldable pub cie_at : Target → Piece → Result Head Refusal
 cie_at target p = fields_at (cie_fields target.size p.form) (contents_of target p) >>= cie_of_piece p
+
+-- reading the place of its CIE at the front of an FDE leaves this
+abbrev pub PointsBehind : Target → Piece → ℕ → Input → Type 0
+PointsBehind target p cie_at behind = (fixed_at (id_width p.form) (contents_of target p) ≡ Ok (cie_at, behind)) × (behind.target ≡ target)
 
 abbrev pub fde_of_piece : Piece → FdeFields × Input → Result Head Refusal
 fde_of_piece p f = Ok (fde_head p f.0 (program_of f.1))

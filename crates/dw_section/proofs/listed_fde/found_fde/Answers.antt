@@ -13,11 +13,11 @@ own_here : (target : Target) (s : List ℕ) (hs : List Head) (a : Range) (regist
 own_here target s hs a register p r at is piece only = let w = own_stands target s hs a register p r in rw (only w.0 w.1 (w.3 ∙ sym is)) w.2
 
 -- the CIE that it names is found
-found : (c : After-partition_point-named) → (c.partition_point-named.result < length c.args.initials.now) × ((d : Initial) → (get_or c.args.initials.now c.partition_point-named.result d).at ≡ c.pointer_of-cie_at.result)
+found : (c : After-partition_point-named) → (c.partition_point-named.result < length c.args.initials.now) × ((d : Initial) → (get_or c.args.initials.now c.partition_point-named.result d).at ≡ c.pointer_of-cie_at.result.0)
 found c =
     let q = c.requires.headers in
     let xs = c.args.initials.now in
-    let place = c.pointer_of-cie_at.result in
+    let place = c.pointer_of-cie_at.result.0 in
     let i = c.partition_point-named.result in
     let so : Rises 0 (map place_of xs) × AllByRecursion (FdeFits c.args.target (map place_of xs)) q.0 =
     rw (places_among q.0 xs q.2) (ats_rise c.args.target c.args.bytes.now q.0 q.1, heads_fit c.args.target c.args.bytes.now q.0 q.1) in
@@ -57,7 +57,7 @@ returns-clause-is c = λ hs headers initials r.
     let pointer = c.pointer_of-cie_at.ensures.only places r.own has in
     let program = c.program_behind.ensures places own.0 own.1 own.2 in
     let covers = r.covers in
-    let head = same_head r.own c.from-at.result c.in-Some.own.form c.pointer_of-cie_at.result c.args.fde.now.begin c.args.fde.now.range (span_of c.program_behind.result)
+    let head = same_head r.own c.from-at.result c.in-Some.own.form c.pointer_of-cie_at.result.0 c.args.fde.now.begin c.args.fde.now.range (span_of c.program_behind.result)
     (ap (λ (a : Range). a.at) covers ∙ sym c.from-at.ensures) (ap (λ (h : FdeHead). h.form) own.3) (sym pointer) (ap (λ (a : Range). a.begin) covers) (ap (λ (a : Range). a.range) covers) (ap (λ (h : FdeHead). h.program) own.3 ∙ sym program) in
     let here = found (goal.at.returns-clause-is c).After-partition_point-named in
     let x = c.index-initials-named in

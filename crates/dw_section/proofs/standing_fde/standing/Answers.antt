@@ -1,4 +1,4 @@
-use Rattle.dw_section.proofs.{Words.{◌≡◌, [], ◌∷◌, ◌∙◌, ap, sym, Some, None, inr, fde, entry_in, piece_in, Piece, Refusal, rules, StandsAs, StandsIn}, Lent.Heads.has_at, StandLaws.{named_of, fde_from, fde_never, cie_never, stands_joined}}
+use Rattle.dw_section.proofs.{Words.{◌≡◌, [], ◌∷◌, ◌∙◌, ap, sym, Some, None, inr, fde, entry_in, piece_in, Piece, Refusal, rules, StandsAs, StandsIn}, Lent.Heads.has_at, StandLaws.{among_first, named_of, fde_from, fde_never, cie_never, stands_joined}}
 use Rattle.dw_section.proofs.{StandFaults.{no_cie, own_stuck, named_stuck, cie_within, fde_within}, Stages.handed_on, standing_fde.standing.Goals.{After-pointer_of-pointer, In-Some-2}}
 use Rattle.dw_section.specs.declared.entry.Kind.TheVariants as kind
 use Rattle.dw_section.proofs.standing_fde.standing.Goals as goal
@@ -25,13 +25,13 @@ returns-in_default-kind-clause-only c = λ w.
 pub returns-in_err-named-clause-only : goal.returns-in_err-named-clause-only
 returns-in_err-named-clause-only c = λ w.
     let p = c.pointer_of-pointer in
-    let named = named_of c.args.target c.args.bytes.now c.args.at (piece_in c.in-Some.own) w (here (goal.at.returns-in_err-named-clause-only c).After-pointer_of-pointer) p.result p.ensures.only in
+    let named = named_of c.args.target c.args.bytes.now c.args.at (piece_in c.in-Some.own) w (here (goal.at.returns-in_err-named-clause-only c).After-pointer_of-pointer) p.result.0 p.ensures.only in
     absurd (c.in_err-named.ensures.only w.2.named_piece w.2.named_stands named.0 named.1)
 
 pub returns-in_default-2-clause-only : goal.returns-in_default-2-clause-only
 returns-in_default-2-clause-only c = λ w.
     let p = c.pointer_of-pointer in
-    let named = named_of c.args.target c.args.bytes.now c.args.at (piece_in c.in-Some.own) w (here (goal.at.returns-in_default-2-clause-only c).After-pointer_of-pointer) p.result p.ensures.only in
+    let named = named_of c.args.target c.args.bytes.now c.args.at (piece_in c.in-Some.own) w (here (goal.at.returns-in_default-2-clause-only c).After-pointer_of-pointer) p.result.0 p.ensures.only in
     rw c.in_default-2.is at (c.in_ok-named.ensures.only w.2.named_piece w.2.named_stands named.0 named.1)
 
 pub returns-in_default-2-clause-fault : goal.returns-in_default-2-clause-fault
@@ -40,10 +40,10 @@ returns-in_default-2-clause-fault c =
     let none = c.in_ok-named.ensures in
     let own = piece_in c.in-Some.own in
     let is = own_is (goal.at.returns-in_default-2-clause-fault c).After-pointer_of-pointer in
-    inr (own, is, (p.result, p.ensures.names, inr (None, (λ q w. rw c.in_default-2.is at (none.only q w.0 w.2 w.1), none.none), rw c.refusal.ensures (no_cie c.args.target own p.result is.1 p.ensures.names))))
+    inr (own, is, (p.result.0, p.ensures.names, inr (None, (λ q w. rw c.in_default-2.is at (none.only q w.0 w.2 w.1), none.none), rw c.refusal.ensures (no_cie c.args.target own p.result.0 is.1 p.ensures.names))))
 
 -- the CIE that it names
-named_is : (c : In-Some-2) → StandsAs c.args.target c.args.bytes.now kind.Cie c.pointer_of-pointer.result (piece_in c.in-Some-2.named)
+named_is : (c : In-Some-2) → StandsAs c.args.target c.args.bytes.now kind.Cie c.pointer_of-pointer.result.0 (piece_in c.in-Some-2.named)
 named_is c = let w = rw c.in-Some-2.is at c.in_ok-named.ensures.found in (w.2, w.1, w.0)
 
 pub returns-in_err-header : goal.returns-in_err-header
@@ -53,13 +53,13 @@ returns-in_err-header c =
     let own-here = (goal.at.returns-in_err-header c).After-pointer_of-pointer in
     let is = own_is own-here in
     let cie = named_is (goal.at.returns-in_err-header c).In-Some-2 in
-    let stuck = c.in_err-header.ensures.exact in
+    let stuck = c.in_err-header.ensures.stuck (p.result.0 ∷ []) (among_first p.result.0 []) in
     let handed = λ (Q : Refusal → Type 0). handed_on c.from_residual-in_err-header.result Q c.from_residual-in_err-header.ensures.1 in
     record {
       found = search rules;
-      within = handed _ (fde_within c.args.target (p.result ∷ []) c.args.bytes.now own _ is.0 stuck);
-      fault = handed _ (inr (own, is, (p.result, p.ensures.names, inr (Some _, cie, own_stuck c.args.target c.args.bytes.now own (piece_in c.in-Some-2.named) p.result _ is.1 cie stuck))));
-      only = λ w. absurd (fde_never c.args.target (p.result ∷ []) own w.0 _ (named_of c.args.target c.args.bytes.now c.args.at own w (here own-here) p.result p.ensures.only).2 stuck);
+      within = handed _ (fde_within c.args.target (p.result.0 ∷ []) c.args.bytes.now own _ is.0 stuck);
+      fault = handed _ (inr (own, is, (p.result.0, p.ensures.names, inr (Some _, cie, own_stuck c.args.target c.args.bytes.now own (piece_in c.in-Some-2.named) p.result.0 _ is.1 cie stuck))));
+      only = λ w. absurd (fde_never c.args.target (p.result.0 ∷ []) own w.0 _ (named_of c.args.target c.args.bytes.now c.args.at own w (here own-here) p.result.0 p.ensures.only).2 stuck);
     }
 
 pub returns-in_err-cie : goal.returns-in_err-cie
@@ -69,14 +69,14 @@ returns-in_err-cie c =
     let own-here = (goal.at.returns-in_err-cie c).After-pointer_of-pointer in
     let cie = named_is (goal.at.returns-in_err-cie c).In-Some-2 in
     let stuck = c.in_err-cie.ensures.exact in
-    let both = named_stuck c.args.target c.args.bytes.now own (piece_in c.in-Some-2.named) p.result (entry_in c.in_ok-header.header) _ cie c.in_ok-header.ensures.found stuck in
+    let both = named_stuck c.args.target c.args.bytes.now own (piece_in c.in-Some-2.named) p.result.0 (entry_in c.in_ok-header.header) _ cie (c.in_ok-header.ensures.found (p.result.0 ∷ []) (among_first p.result.0 [])) stuck in
     let handed = λ (Q : Refusal → Type 0). handed_on c.from_residual-in_err-cie.result Q c.from_residual-in_err-cie.ensures.1 in
     record {
       found = search rules;
       within = handed _ (cie_within c.args.target c.args.bytes.now (piece_in c.in-Some-2.named) _ cie.0 stuck);
-      fault = handed _ (inr (own, own_is own-here, (p.result, p.ensures.names, inr (Some _, cie, both))));
+      fault = handed _ (inr (own, own_is own-here, (p.result.0, p.ensures.names, inr (Some _, cie, both))));
       only = λ w.
-          let named = named_of c.args.target c.args.bytes.now c.args.at own w (here own-here) p.result p.ensures.only in
+          let named = named_of c.args.target c.args.bytes.now c.args.at own w (here own-here) p.result.0 p.ensures.only in
           let same = rw c.in-Some-2.is at (c.in_ok-named.ensures.only w.2.named_piece w.2.named_stands named.0 named.1) in
           absurd (cie_never c.args.target w.2.named_piece w.1 _ w.2.named_is (rw same at stuck));
     }
@@ -85,5 +85,5 @@ pub returns-clause-found : goal.returns-clause-found
 returns-clause-found c =
     let own = here (goal.at.returns-clause-found c).After-pointer_of-pointer in
     let cie = named_is (goal.at.returns-clause-found c).In-Some-2 in
-    let joined = stands_joined c.args.target c.args.bytes.now (piece_in c.in-Some.own) (piece_in c.in-Some-2.named) c.pointer_of-pointer.result (record { own = c.in_ok-header.header; cie = c.in_ok-cie.cie }) own.1 cie.0 cie.2 c.in_ok-header.ensures.found (c.in_ok-cie.ensures.found []) in
+    let joined = stands_joined c.args.target c.args.bytes.now (piece_in c.in-Some.own) (piece_in c.in-Some-2.named) c.pointer_of-pointer.result.0 (record { own = c.in_ok-header.header; cie = c.in_ok-cie.cie }) own.1 cie.0 cie.2 (c.in_ok-header.ensures.found (c.pointer_of-pointer.result.0 ∷ []) (among_first c.pointer_of-pointer.result.0 [])) (c.in_ok-cie.ensures.found []) in
     (joined.0 ∙ own.0, joined.1)
