@@ -104,5 +104,7 @@ pub(crate) fn write_entries<'a, S: Sink>(
         return Ok(());
     }
     let mut begun = room_for(alloc, ready, &places);
-    write_all(sink, out, &mut begun, count)
+    let written = write_all(sink, out, &mut begun, count);
+    drop(begun);
+    written
 }

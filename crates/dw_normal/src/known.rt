@@ -56,7 +56,7 @@ impl<'a> Known<'a> {
         ensures puts { Puts cie_at (record { register = register; set = set.entry }) self.old.cies self.new.cies }
         ensures changed { self.new.changed ≡ self.old.changed }
     {
-        let _ = self.cies.insert(cie_at, CieSet { register, set });
+        drop(self.cies.insert(cie_at, CieSet { register, set }));
     }
 
     /// Keeps of the row of a group what the row at an FDE's begin has too. Of registers that neither this FDE nor the last one of its

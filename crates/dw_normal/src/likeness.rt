@@ -51,10 +51,12 @@ pub(crate) fn same_tables(alloc: Global, one: &Ready<'_>, two: &Ready<'_>) -> Re
     if two.table.fde_count() != count {
         return Ok(false);
     }
-    let (mut places, mut others) = (BTreeMap::new(alloc), BTreeMap::new(alloc));
+    let mut places = BTreeMap::new(alloc);
+    let mut others = BTreeMap::new(alloc);
     let mut mine = Output::new(alloc, LIMIT, false);
     let mut other = Output::new(alloc, LIMIT, false);
-    let (mut cies, mut other_cies) = (Tape::new(alloc), Tape::new(alloc));
+    let mut cies = Tape::new(alloc);
+    let mut other_cies = Tape::new(alloc);
     write_cies(&mut cies, &mut mine, &mut places, one)?;
     write_cies(&mut other_cies, &mut other, &mut others, two)?;
     if cies.into_bytes() != other_cies.into_bytes() {
@@ -65,5 +67,8 @@ pub(crate) fn same_tables(alloc: Global, one: &Ready<'_>, two: &Ready<'_>) -> Re
     }
     let mut first = room_for(alloc, one, &places);
     let mut second = room_for(alloc, two, &others);
-    same_over(&mut first, &mut second, &mut mine, &mut other, count)
+    let same = same_over(&mut first, &mut second, &mut mine, &mut other, count);
+    drop(first);
+    drop(second);
+    same
 }

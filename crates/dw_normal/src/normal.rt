@@ -126,6 +126,7 @@ pub fn normalise_to<S: Sink>(
     let mut out = Output::new(alloc, cap, false);
     let end = write_entries(alloc, sink, &mut out, &ready);
     let written = cap.saturating_sub(out.room);
+    drop(ready);
     let Err(stop) = end else {
         return Ok(written);
     };
@@ -162,7 +163,10 @@ fn compared(alloc: Global, first: Table<'_>, second: Table<'_>) -> Result<bool, 
         Ok(two) => two,
         Err(error) => return Err(blamed(Which::Second, error)),
     };
-    match same_tables(alloc, &one, &two) {
+    let same = same_tables(alloc, &one, &two);
+    drop(one);
+    drop(two);
+    match same {
         Ok(same) => Ok(same),
         Err(_) => Err(SameError::OutOfMemory),
     }

@@ -22,7 +22,7 @@ pub returns : goal.returns
 returns g c = λ ms are.
     let t = c.args.ready.now.table.target in
     let rows = c.args.ready.now.rows.entries in
-    let fdes = rw c.room_for-begun.ensures.ready at c.write_all.ensures in
+    let fdes = rw c.room_for-begun.ensures.ready at c.write_all-written.ensures in
     rw (← canon_both t ms rows (c.requires.rows ms are))
-    (puts_both c.args.out.now.counts (cies_bytes t rows) (fdes_bytes t ms ms) _ _ _ c.in_ok-write_cies.ensures.puts c.write_all.result
-    (puts_from g.S.Sink.failures g.S.Sink.taken c.write_cies.new.sink (fdes_bytes t ms ms) c.write_all.result (sink_at g.S.Sink.failures g.S.Sink.taken c.write_all.new.out.room c.write_all.new.sink) _ _ _ _ c.in_ok-write_cies.ensures.counts refl (fdes ms are)))
+    (puts_both c.args.out.now.counts (cies_bytes t rows) (fdes_bytes t ms ms) _ _ _ c.in_ok-write_cies.ensures.puts c.write_all-written.result
+    (puts_from g.S.Sink.failures g.S.Sink.taken c.write_cies.new.sink (fdes_bytes t ms ms) c.write_all-written.result (sink_at g.S.Sink.failures g.S.Sink.taken c.write_all-written.new.out.room c.write_all-written.new.sink) _ _ _ _ c.in_ok-write_cies.ensures.counts refl (fdes ms are)))

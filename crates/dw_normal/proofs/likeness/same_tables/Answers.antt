@@ -28,6 +28,6 @@ returns c = λ ms ns are others.
     let u = c.args.two.now.table.target in
     let same = alike c.into_bytes.result.items c.into_bytes-2.result.items c.ne.result c.ne.ensures c.if-ne.false in
     let cies = sym (ones at) ∙ same ∙ others_are at in
-    let over = rw (c.room_for-first.ensures.ready, c.room_for-second.ensures.ready) at c.same_over.ensures in
-    if_likens (ms ≡ ns) (fdes_bytes t ms ms ≡ fdes_bytes u ns ns) (canon t ms ≡ canon u ns) c.same_over.result
+    let over = rw (c.room_for-first.ensures.ready, c.room_for-second.ensures.ready) at c.same_over-same.ensures in
+    if_likens (ms ≡ ns) (fdes_bytes t ms ms ≡ fdes_bytes u ns ns) (canon t ms ≡ canon u ns) c.same_over-same.result
     (canon_like t u ms ns c.args.one.now.rows.entries c.args.two.now.rows.entries (c.requires.rows ms are) (c.requires.other_rows ns others) cies) (over ms ns are others)

@@ -6,13 +6,13 @@ returns-in-Err-prepared-clause-refused c =
     second_too_long c.args.first c.args.second c.in-Err-prepared.error c.blamed-in-Err-prepared.result c.requires.target
     (c.in-Ok.ensures).found.1.short c.in-Err-prepared.ensures.first c.blamed-in-Err-prepared.ensures
 
-pub returns-in-Ok-same_tables-clause-found : goal.returns-in-Ok-same_tables-clause-found
-returns-in-Ok-same_tables-clause-found c =
+pub returns-in-Ok-same-clause-found : goal.returns-in-Ok-same-clause-found
+returns-in-Ok-same-clause-found c =
     tables_decided c.normal_laws.ensures.same c.args.first c.args.second c.in-Ok.one.table c.in-Ok-prepared.two.table
-    c.requires.target (c.in-Ok.ensures).found.0 (c.in-Ok-prepared.ensures).found.0 (c.in-Ok.ensures).found.1.short (c.in-Ok-prepared.ensures).found.1.short c.in-Ok-same_tables.same c.in-Ok-same_tables.ensures
+    c.requires.target (c.in-Ok.ensures).found.0 (c.in-Ok-prepared.ensures).found.0 (c.in-Ok.ensures).found.1.short (c.in-Ok-prepared.ensures).found.1.short c.in-Ok-same.same (rw c.in-Ok-same.is at c.same_tables-same.ensures)
 
-pub returns-in-Ok-same_tables-clause-fit : goal.returns-in-Ok-same_tables-clause-fit
-returns-in-Ok-same_tables-clause-fit c =
+pub returns-in-Ok-same-clause-fit : goal.returns-in-Ok-same-clause-fit
+returns-in-Ok-same-clause-fit c =
     let one = is_within c.args.first.target 2147483647 c.args.first.bytes (c.in-Ok.ensures).found.1.short in
     let two = is_within c.args.second.target 2147483647 c.args.second.bytes (c.in-Ok-prepared.ensures).found.1.short in
     (one, subst (λ (t : Target). FitsCap t 2147483647 c.args.second.bytes) (sym c.requires.target) two)
