@@ -1,6 +1,7 @@
 //! The addresses at which the rules of an FDE change, each with its row, by both calls.
 
-ghost use Rattle.std.specs.Prelude.{◌≡◌};
+ghost use Rattle.std.specs.Prelude.{◌≡◌, ◌<◌, List, length};
+ghost use Rattle.dw_section.specs.{Meaning.AreFdes, declared.lookup.Fde.{Fde as TheFde}};
 
 use crate::lines::compare;
 use crate::texts::{located_text, row_text};
@@ -57,9 +58,11 @@ fn all_changes(
     Err(Fail::new("no last change"))
 }
 
-// The changes of an FDE. The loop has a function of its own, since one that owns what it walks over proves slowly.
-fn fde_text(alloc: Global, mut given: Changes<'_>, lent: &mut Changes<'_>) -> Result<String, Fail> {
-    all_changes(alloc, &mut given, lent)
+// The changes of an FDE. The loops have functions of their own, since one that owns what it walks over proves slowly.
+fn fde_text(alloc: Global, table: &Table<'_>, fde: FdeRef) -> Result<String, Fail>
+    requires { (fs : List TheFde) → AreFdes table.now.target table.now.bytes fs → fde.place < length fs }
+{
+    all_changes(alloc, &mut table.changes(fde), &mut table.changes(fde))
 }
 
 /// The row of the next change, without the registers that a change behind it leaves Unspecified.
@@ -73,8 +76,7 @@ pub fn narrowed(alloc: Global, changes: &mut Changes<'_>) -> Result<String, Fail
 pub fn changes_text(alloc: Global, table: &Table<'_>) -> Result<String, Fail> {
     let mut text = String::new(alloc);
     for place in 0..table.fde_count() {
-        let fde = FdeRef { place };
-        text.push_str(&fde_text(alloc, table.changes(fde), &mut table.changes(fde))?)?;
+        text.push_str(&fde_text(alloc, table, FdeRef { place })?)?;
     }
     Ok(text)
 }

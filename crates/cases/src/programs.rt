@@ -90,16 +90,19 @@ fn put_next(alloc: Global, text: &mut String, steps: &mut RowSteps<'_>) -> Resul
     }
 }
 
-// The rows, and the refusal behind them.
-fn one_by_one(alloc: Global, pair: Pair<'_>) -> Result<String, Fail> {
+// The rows that are still to come, and the refusal behind them.
+fn given_rows(alloc: Global, steps: &mut RowSteps<'_>) -> Result<String, Fail> {
     let mut text = String::new(alloc);
-    let mut steps = steps_of(alloc, pair);
     for _ in 0..100 {
-        if !put_next(alloc, &mut text, &mut steps)? {
+        if !put_next(alloc, &mut text, steps)? {
             return Ok(text);
         }
     }
     Err(Fail::new("no last row"))
+}
+
+fn one_by_one(alloc: Global, pair: Pair<'_>) -> Result<String, Fail> {
+    given_rows(alloc, &mut steps_of(alloc, pair))
 }
 
 // The same of rows that a walk lends.

@@ -42,21 +42,36 @@ fn agreed_blank(alloc: Global, row: &Row<'_>, set: &RegisterSet<'_>) -> Result<S
     row_text(alloc, &blank)
 }
 
+// Fails where a row and its copy have something else in common.
+fn copy_agrees(alloc: Global, row: &Row<'_>, set: &RegisterSet<'_>) -> Result<(), Fail> {
+    let text = agreed(alloc, &mut row.copied()?, row, set)?;
+    let wanted = "cfa=r7+8 r3=[cfa-24] r16=[cfa-8] r70=[cfa-16], None";
+    compare("a copy", text.as_str(), wanted)
+}
+
+fn blank_agrees(alloc: Global, row: &Row<'_>, set: &RegisterSet<'_>) -> Result<(), Fail> {
+    let text = agreed_blank(alloc, row, set)?;
+    compare("a blank row", text.as_str(), "cfa=unset")
+}
+
+// Puts registers into both sets, and those of the second one into the first.
+fn fill(set: &mut RegisterSet<'_>, others: &mut RegisterSet<'_>) -> Result<(), Fail> {
+    add_each(set, &[3, 70])?;
+    add_each(others, &[3, 16, 300])?;
+    Ok(set.add_all(others)?)
+}
+
+// Compares by a set that is filled, and by the same one emptied.
+fn all_agree(alloc: Global, row: &Row<'_>, set: &mut RegisterSet<'_>) -> Result<(), Fail> {
+    fill(set, &mut RegisterSet::new(alloc))?;
+    copy_agrees(alloc, row, set)?;
+    blank_agrees(alloc, row, set)?;
+    set.clear();
+    copy_agrees(alloc, row, set)
+}
+
 #[test]
 fn compares_rows_in_a_set(rt: HostRuntime) -> Result<(), Fail> {
-    let alloc = rt.alloc();
-    let mut set = RegisterSet::new(alloc);
-    let mut others = RegisterSet::new(alloc);
-    add_each(&mut set, &[3, 70])?;
-    add_each(&mut others, &[3, 16, 300])?;
-    set.add_all(&others)?;
-    let row = row_of(alloc, CIE)?;
-    let text = agreed(alloc, &mut row.copied()?, &row, &set)?;
-    let wanted = "cfa=r7+8 r3=[cfa-24] r16=[cfa-8] r70=[cfa-16], None";
-    compare("a copy", text.as_str(), wanted)?;
-    let text = agreed_blank(alloc, &row, &set)?;
-    compare("a blank row", text.as_str(), "cfa=unset")?;
-    set.clear();
-    let text = agreed(alloc, &mut row.copied()?, &row, &set)?;
-    compare("a copy", text.as_str(), wanted)
+    let row = row_of(rt.alloc(), CIE)?;
+    all_agree(rt.alloc(), &row, &mut RegisterSet::new(rt.alloc()))
 }

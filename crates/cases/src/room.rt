@@ -43,11 +43,14 @@ fn walked_on<'a>(alloc: Global, pair: Pair<'a>, walk: &mut RowWalk<'a>) -> Resul
 }
 
 // Both, one after the other.
-fn walked_twice(alloc: Global, pair: Pair<'_>) -> Result<String, Fail> {
-    let mut walk = RowWalk::new(alloc, pair.target);
-    let first = walked(alloc, pair, &mut walk)?;
-    let second = walked_on(alloc, pair, &mut walk)?;
+fn walked_both<'a>(alloc: Global, pair: Pair<'a>, walk: &mut RowWalk<'a>) -> Result<String, Fail> {
+    let first = walked(alloc, pair, walk)?;
+    let second = walked_on(alloc, pair, walk)?;
     Ok(format!(in alloc; "{first}; {second}")?)
+}
+
+fn walked_twice(alloc: Global, pair: Pair<'_>) -> Result<String, Fail> {
+    walked_both(alloc, pair, &mut RowWalk::new(alloc, pair.target))
 }
 
 #[test]

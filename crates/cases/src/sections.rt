@@ -6,7 +6,7 @@ use crate::lines::{compare, number, parts, sides};
 use crate::targets::{BIG, LITTLE};
 use crate::texts::refusal_text;
 use dw_num::{ReadError, Target};
-use dw_section::{Header, Table, check, entries, headers};
+use dw_section::{Changes, Header, Table, check, entries, headers};
 use std::alloc::Global;
 use std::test::Fail;
 
@@ -392,14 +392,18 @@ fn lists_fdes_and_changes(rt: HostRuntime) -> Result<(), Fail> {
     agree_all(rt.alloc(), Call::Changes, CHANGES)
 }
 
+// The change behind the next one, narrowed.
+fn narrowed_behind(alloc: Global, changes: &mut Changes<'_>) -> Result<String, Fail> {
+    let _ = changes.advance()?;
+    narrowed(alloc, changes)
+}
+
 // The second of the changes at an address, narrowed.
 fn second_narrowed(alloc: Global, table: &Table<'_>, address: u64) -> Result<String, Fail> {
-    let Some(fde) = table.fde_at(address) else {
-        return Err(Fail::new("no FDE"));
-    };
-    let mut changes = table.changes(fde);
-    let _ = changes.advance()?;
-    narrowed(alloc, &mut changes)
+    match table.fde_at(address) {
+        Some(fde) => narrowed_behind(alloc, &mut table.changes(fde)),
+        None => Err(Fail::new("no FDE")),
+    }
 }
 
 // r6 is saved at the second row alone, and r16 in the CIE.

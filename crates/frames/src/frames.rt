@@ -1,11 +1,12 @@
 //! Worked frames, by a table and by its index: plain ones, each fault, and a memory whose device fails.
 
+ghost use Rattle.std.specs.Prelude.{◌≡◌, ◌<◌, ◌-◌, ◌^◌};
 ghost use Rattle.dw_unwind.specs.Ranges.{byte_in};
 
 use dw_cfa::RowRoom;
-use dw_eval::{Memory, Policy, ReadFault};
+use dw_eval::{Memory, Policy, ReadFault, Registers};
 use dw_num::{Order, Size, Target};
-use dw_section::check;
+use dw_section::{Ranged, Table, check};
 use dw_unwind::{
     Dump, DumpMemory, Frame, FrameRoom, UnwindAtError, UnwindError, unwind, unwind_at,
 };
@@ -123,17 +124,99 @@ fn own_error(
 /// A section, a dump, the read of memory that fails, where one does, and the frame or the fault.
 type Row<'a> = (&'a str, &'a str, u64, &'a str);
 
-// Fails where the frame is another.
-fn agree(
-    alloc: Global,
-    room: &mut FrameRoom,
-    row: Row<'_>,
+// Where a machine stopped, and the frame or the fault that is wanted.
+#[derive(Clone, Copy)]
+struct Stop<'s> {
     target: Target,
+    pc: u64,
+    registers: &'s Registers,
     default: Policy,
+    wanted: &'s str,
+}
+
+// Fails where the frame by a table is another.
+fn by_table(
+    alloc: Global,
+    table: &Table<'_>,
+    stop: Stop<'_>,
+    room: &mut FrameRoom,
+    memory: &mut Failing,
+) -> Result<(), Fail>
+    requires target { stop.target ≡ table.now.target }
+    requires failures { memory.old.failures < 2 ^ 64 - 1 }
+{
+    let answer = unwind(
+        alloc,
+        table,
+        stop.target,
+        stop.pc,
+        room,
+        stop.registers,
+        memory,
+        stop.default,
+        1_000,
+    );
+    is_told(alloc, answer, stop.wanted)
+}
+
+// The same by an index, in room for rows that is lent.
+fn by_index<'a>(
+    alloc: Global,
+    bytes: &'a [u8],
+    index: &[Ranged],
+    stop: Stop<'_>,
+    rows: &mut RowRoom<'a>,
+    room: &mut FrameRoom,
+    memory: &mut Failing,
+) -> Result<(), Fail>
+    requires { memory.old.failures < 2 ^ 64 - 1 }
+{
+    let answer = unwind_at(
+        alloc,
+        bytes,
+        stop.target,
+        index,
+        stop.pc,
+        rows,
+        room,
+        stop.registers,
+        memory,
+        stop.default,
+        1_000,
+    );
+    is_told(alloc, own_error(answer)?, stop.wanted)
+}
+
+// By a table and then by its index.
+fn by_both(
+    alloc: Global,
+    bytes: &[u8],
+    table: &Table<'_>,
+    stop: Stop<'_>,
+    room: &mut FrameRoom,
+    memory: &mut Failing,
+) -> Result<(), Fail>
+    requires target { stop.target ≡ table.now.target }
+    requires failures { memory.old.failures < 2 ^ 64 - 1 }
+{
+    by_table(alloc, table, stop, room, memory)?;
+    memory.reads = 0;
+    memory.failures = 0;
+    let (index, rows) = (table.index(), &mut RowRoom::new(alloc));
+    by_index(alloc, bytes, index, stop, rows, room, memory)
+}
+
+// By both, over a dump.
+fn over_dump(
+    alloc: Global,
+    bytes: &[u8],
+    table: &Table<'_>,
+    row: Row<'_>,
+    default: Policy,
+    room: &mut FrameRoom,
 ) -> Result<(), Fail> {
-    let (section, dump, failing, wanted) = row;
-    let bytes = hex::decode(alloc, section)?;
-    let table = check(alloc, &bytes, target)?;
+    let (_, dump, failing, wanted) = row;
+    let target = table.target();
     let dump = Dump::parse(alloc, dump.as_bytes(), target)?;
     let pc = dump.pc.ok_or("no program counter")?;
     let mut memory = Failing {
@@ -142,44 +225,39 @@ fn agree(
         reads: 0,
         failures: 0,
     };
-    let answer = unwind(
-        alloc,
-        &table,
+    let stop = Stop {
         target,
         pc,
-        room,
-        &dump.registers,
-        &mut memory,
+        registers: &dump.registers,
         default,
-        1_000,
-    );
-    is_told(alloc, answer, wanted)?;
-    memory.reads = 0;
-    memory.failures = 0;
-    let answer = unwind_at(
-        alloc,
-        &bytes,
-        target,
-        table.index(),
-        pc,
-        &mut RowRoom::new(alloc),
-        room,
-        &dump.registers,
-        &mut memory,
-        default,
-        1_000,
-    );
-    is_told(alloc, own_error(answer)?, wanted)
+        wanted,
+    };
+    by_both(alloc, bytes, table, stop, room, &mut memory)
 }
+
+// Fails where the frame is another.
+fn agree(
+    alloc: Global,
+    room: &mut FrameRoom,
+    row: Row<'_>,
+    target: Target,
+    default: Policy,
+) -> Result<(), Fail> {
+    let bytes = hex::decode(alloc, row.0)?;
+    let table = check(alloc, &bytes, target)?;
+    over_dump(alloc, &bytes, &table, row, default, room)
+}
+
+const PLAIN_FRAME: Row<'static> = (
+    PLAIN,
+    DUMP,
+    0,
+    "cfa 0x7ffe10 ra r16 r6 0x200 r7 0x7ffdf0 r16 0x401288",
+);
 
 // At size 8, with the value of a register that has no rule.
 const FRAMES: [Row<'static>; 19] = [
-    (
-        PLAIN,
-        DUMP,
-        0,
-        "cfa 0x7ffe10 ra r16 r6 0x200 r7 0x7ffdf0 r16 0x401288",
-    ),
+    PLAIN_FRAME,
     (
         PLAIN,
         SHORT,
@@ -316,29 +394,43 @@ const WIDE_FRAMES: [(&str, &str); 4] = [
     ),
 ];
 
-#[test]
-fn worked_frames(rt: HostRuntime) -> Result<(), Fail> {
-    let alloc = rt.alloc();
-    let mut room = FrameRoom::new(alloc);
-    for row in FRAMES {
-        agree(alloc, &mut room, row, LITTLE, Policy::SameValue)?;
-    }
-    agree(alloc, &mut room, UNDEFINED, LITTLE, Policy::Undefined)?;
-    agree(alloc, &mut room, WRAPPED, BIG, Policy::SameValue)?;
-    agree(alloc, &mut room, PAST_THE_END, BIG, Policy::SameValue)
-}
-
-// Frames of 64, 65, 65 and 67 registers, and behind each one of three in the same room.
-#[test]
-fn worked_wide_frames(rt: HostRuntime) -> Result<(), Fail> {
-    let alloc = rt.alloc();
-    let mut room = FrameRoom::new(alloc);
-    for (given, told) in WIDE_FRAMES {
-        let dump = format!(in alloc; "{FULL}{given}")?;
-        let wanted = format!(in alloc; "{FULL_FRAME}{told}")?;
-        let row = (WIDE, dump.as_str(), 0, wanted.as_str());
-        agree(alloc, &mut room, row, LITTLE, Policy::SameValue)?;
-        agree(alloc, &mut room, FRAMES[0], LITTLE, Policy::SameValue)?;
+fn all_agree(alloc: Global, room: &mut FrameRoom, rows: &[Row<'_>]) -> Result<(), Fail> {
+    for row in rows {
+        agree(alloc, room, *row, LITTLE, Policy::SameValue)?;
     }
     Ok(())
+}
+
+fn worked(alloc: Global, room: &mut FrameRoom) -> Result<(), Fail> {
+    all_agree(alloc, room, &FRAMES)?;
+    agree(alloc, room, UNDEFINED, LITTLE, Policy::Undefined)?;
+    agree(alloc, room, WRAPPED, BIG, Policy::SameValue)?;
+    agree(alloc, room, PAST_THE_END, BIG, Policy::SameValue)
+}
+
+#[test]
+fn worked_frames(rt: HostRuntime) -> Result<(), Fail> {
+    worked(rt.alloc(), &mut FrameRoom::new(rt.alloc()))
+}
+
+// A frame of the 64 registers and more, and behind it one of three in the same room.
+fn wide_agrees(alloc: Global, room: &mut FrameRoom, given: &str, told: &str) -> Result<(), Fail> {
+    let dump = format!(in alloc; "{FULL}{given}")?;
+    let wanted = format!(in alloc; "{FULL_FRAME}{told}")?;
+    let row = (WIDE, dump.as_str(), 0, wanted.as_str());
+    agree(alloc, room, row, LITTLE, Policy::SameValue)?;
+    agree(alloc, room, PLAIN_FRAME, LITTLE, Policy::SameValue)
+}
+
+// Frames of 64, 65, 65 and 67 registers.
+fn wide_agree(alloc: Global, room: &mut FrameRoom) -> Result<(), Fail> {
+    for (given, told) in WIDE_FRAMES {
+        wide_agrees(alloc, room, given, told)?;
+    }
+    Ok(())
+}
+
+#[test]
+fn worked_wide_frames(rt: HostRuntime) -> Result<(), Fail> {
+    wide_agree(rt.alloc(), &mut FrameRoom::new(rt.alloc()))
 }

@@ -60,22 +60,42 @@ fn print_frames<'a>(
     Ok(())
 }
 
-/// Makes an index, and by it the frames, where they are wanted.
-pub fn all(rt: &impl Calls, bytes: &[u8], target: Target, are_wanted: bool) -> Result<(), Fail> {
-    let table = check(rt.alloc(), bytes, target)?;
-    let mut dump = Dump::parse(rt.alloc(), STOPPED, target)?;
-    let mut rows = RowRoom::new(rt.alloc());
-    let mut room = FrameRoom::new(rt.alloc());
-    if !are_wanted {
-        return Ok(());
-    }
+// The same in rooms of its own.
+fn frames_of(
+    rt: &impl Calls,
+    bytes: &[u8],
+    target: Target,
+    index: &[Ranged],
+    dump: &mut Dump,
+) -> Result<(), Fail> {
     print_frames(
         rt,
         bytes,
         target,
-        table.index(),
-        &mut rows,
-        &mut room,
-        &mut dump,
+        index,
+        &mut RowRoom::new(rt.alloc()),
+        &mut FrameRoom::new(rt.alloc()),
+        dump,
     )
+}
+
+// Makes a dump, and by it the frames, where they are wanted.
+fn by_index(
+    rt: &impl Calls,
+    bytes: &[u8],
+    target: Target,
+    index: &[Ranged],
+    are_wanted: bool,
+) -> Result<(), Fail> {
+    let mut dump = Dump::parse(rt.alloc(), STOPPED, target)?;
+    if are_wanted {
+        return frames_of(rt, bytes, target, index, &mut dump);
+    }
+    Ok(())
+}
+
+/// Makes an index, and by it the frames, where they are wanted.
+pub fn all(rt: &impl Calls, bytes: &[u8], target: Target, are_wanted: bool) -> Result<(), Fail> {
+    let table = check(rt.alloc(), bytes, target)?;
+    by_index(rt, bytes, target, table.index(), are_wanted)
 }

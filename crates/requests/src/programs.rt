@@ -129,16 +129,27 @@ fn each_lent(rt: &impl Calls, walk: &mut RowWalk<'_>) -> Result<(), Fail> {
 }
 
 // The FDE's rows are gone to twice, so that what its program changed is taken back, behind the CIE's row that is kept.
+fn walk_twice<'a>(
+    rt: &impl Calls,
+    walk: &mut RowWalk<'a>,
+    program: Program<'a>,
+    begin: u64,
+) -> Result<(), Fail>
+    requires { begin < address_limit walk.old.led.program.target.size }
+{
+    walk.go_to(program, begin);
+    walk.advance()?;
+    walk.go_to(program, begin);
+    let _is_kept = walk.keep_initial()?;
+    each_lent(rt, walk)
+}
+
 fn lent_rows(rt: &impl Calls, entry: Entry<'_>, begin: u64, target: Target) -> Result<(), Fail>
     requires { begin < address_limit target.size }
 {
     let mut walk = RowWalk::new(rt.alloc(), target);
     walk.lead(entry.cie, entry.factors, target);
-    walk.go_to(entry.program, begin);
-    walk.advance()?;
-    walk.go_to(entry.program, begin);
-    let _is_kept = walk.keep_initial()?;
-    each_lent(rt, &mut walk)
+    walk_twice(rt, &mut walk, entry.program, begin)
 }
 
 // Whether one of the first 16 addresses of an FDE lacks a rule for the CFA.
@@ -158,13 +169,24 @@ fn print_lacking<'a>(
 }
 
 // The FDE's program is begun twice, so that what it changed is taken back.
+fn lacks_twice<'a>(
+    rt: &impl Calls,
+    walk: &mut RowWalk<'a>,
+    program: Program<'a>,
+    begin: u64,
+) -> Result<(), Fail>
+    requires { begin < address_limit walk.old.led.program.target.size }
+{
+    print_lacking(rt, walk, program, begin)?;
+    print_lacking(rt, walk, program, begin)
+}
+
 fn lacking(rt: &impl Calls, entry: Entry<'_>, begin: u64, target: Target) -> Result<(), Fail>
     requires { begin < address_limit target.size }
 {
     let mut walk = RowWalk::new(rt.alloc(), target);
     walk.lead(entry.cie, entry.factors, target);
-    print_lacking(rt, &mut walk, entry.program, begin)?;
-    print_lacking(rt, &mut walk, entry.program, begin)
+    lacks_twice(rt, &mut walk, entry.program, begin)
 }
 
 fn print_initial(rt: &impl Calls, entry: Entry<'_>, target: Target) -> Result<(), Fail> {

@@ -61,15 +61,28 @@ fn copied<'a>(rt: &impl Calls, row: &Row<'a>) -> io::Result<Row<'a>> {
     Ok(copy)
 }
 
-// From a row in which nothing is set, of which a copy is remembered, and from two of which the changes are.
-fn over<'a>(rt: &impl Calls, expression: &ExprRef<'a>) -> io::Result<()> {
-    let blank = Row::blank(rt.alloc());
-    go_back(rt, &mut States::new(rt.alloc(), blank, false), expression)?;
-    let mut row = Row::blank(rt.alloc());
+// From a row, whose changes are tracked or not.
+fn from<'a>(
+    rt: &impl Calls,
+    row: Row<'a>,
+    tracked: bool,
+    expression: &ExprRef<'a>,
+) -> io::Result<()> {
+    go_back(rt, &mut States::new(rt.alloc(), row, tracked), expression)
+}
+
+// From a row that is filled, and from a copy of it.
+fn from_filled<'a>(rt: &impl Calls, mut row: Row<'a>, expression: &ExprRef<'a>) -> io::Result<()> {
     fill(rt, &mut row, expression)?;
     let copy = copied(rt, &row)?;
-    go_back(rt, &mut States::new(rt.alloc(), row, false), expression)?;
-    go_back(rt, &mut States::new(rt.alloc(), copy, true), expression)
+    from(rt, row, false, expression)?;
+    from(rt, copy, true, expression)
+}
+
+// From a row in which nothing is set, of which a copy is remembered, and from two of which the changes are.
+fn over(rt: &impl Calls, expression: &ExprRef<'_>) -> io::Result<()> {
+    from(rt, Row::blank(rt.alloc()), false, expression)?;
+    from_filled(rt, Row::blank(rt.alloc()), expression)
 }
 
 pub fn all(rt: &impl Calls) -> Result<(), Fail> {
