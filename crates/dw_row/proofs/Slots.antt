@@ -9,7 +9,8 @@ use Rattle.dw_row.proofs.Words.{pow-add, shr-shr, bit_at-lt, bit_at_and, bit_at_
 use Rattle.dw_row.proofs.Lent.RowLists.{Entry, lower, listed_is, listed_keeps, listed_rule, other_rule, put_keeps, put_rule, same_rule_set, unlisted}
 use Rattle.dw_row.proofs.Lent.SameRows.{first_rule, same_entries}
 use Rattle.dw_row.specs.declared.slot.Slot.TheVariants as slots
-use Rattle.std.proofs.lemmas.{List.nil_from_length, Nat.one_shl}
+use Rattle.std.proofs.{Common.ap₂, lemmas.{List.nil_from_length, Nat.{and_block, and_le_l, one_shl, or_shifted}, Nat.Bits.{bit_at-suc, bit_at_lowest}}}
+use lib.Bits.{and_self}
 
 -- ---- registers from one on, and those behind them
 
@@ -307,6 +308,45 @@ both_halves n k (Some r) lt none rest = (
   λ q low high. elim (cases_lt q 64) [ inl below ↦ sym (low_half n q below) ∙ none q low below | inr above ↦ rest.3 q above high ],
 )
 
+-- a mask without its first bit, by halves
+pub low_taken : (n : ℕ) → n < 2 ^ 128 → 0 < n % 2 ^ 64 → bit_or (n / 2 ^ 64 * 2 ^ 64 % 2 ^ 128) (bit_and (n % 2 ^ 64) (n % 2 ^ 64 - 1)) ≡ bit_and n (n - 1)
+low_taken n fits some =
+    let h = n / 2 ^ 64 in let l = n % 2 ^ 64 in let x = bit_and l (l - 1) in
+    let high : h * 2 ^ 64 % 2 ^ 128 ≡ h * 2 ^ 64 = omega arith in
+    let whole : n ≡ h * 2 ^ 64 + l = omega arith in
+    let less : n - 1 ≡ h * 2 ^ 64 + (l - 1) = omega arith in
+    ap (λ (m : ℕ). bit_or m x) high ∙ or_shifted h 64 x (omega (arith, and_le_l l (l - 1))) ∙ ap (λ (m : ℕ). m * 2 ^ 64 + x) (sym (and_self h))
+    ∙ sym (ap₂ bit_and whole less ∙ and_block 64 h h l (l - 1) (omega arith) (omega arith))
+
+pub high_taken : (n : ℕ) → n < 2 ^ 128 → n % 2 ^ 64 ≡ 0 → bit_and (n / 2 ^ 64) ((n / 2 ^ 64 + (2 ^ 64 - 1)) % 2 ^ 64) * 2 ^ 64 % 2 ^ 128 ≡ bit_and n (n - 1)
+high_taken n fits none =
+    let h = n / 2 ^ 64 in let m = (h + (2 ^ 64 - 1)) % 2 ^ 64 in let ones : ℕ = 2 ^ 64 - 1 in
+    let within = and_le_l h m in
+    elim (cases_eq h 0) [
+      | inl e ↦ omega (arith, e, none, within, and_le_l n (n - 1))
+      | inr ne ↦
+          let whole : n ≡ h * 2 ^ 64 + 0 = omega arith in
+          let less : n - 1 ≡ m * 2 ^ 64 + ones = omega arith in
+          omega (arith, within, ap₂ bit_and whole less ∙ and_block 64 h m 0 ones (omega arith) (omega arith), and_le_l 0 ones)
+    ]
+
+-- one less than a number has the bits behind the number's first one, and not that one
+half_bit : (n q : ℕ) → 0 < q → bit_at n q ≡ bit_at (n / 2) (q - 1)
+half_bit n q some = let at : q ≡ suc (q - 1) = omega arith in ap (bit_at n) at ∙ bit_at-suc n (q - 1)
+
+less_bits : (t n : ℕ) → bit_at n t ≡ 1 → ((i : ℕ) → 0 ≤ i → i < t → bit_at n i ≡ 0) → (bit_at (n - 1) t ≡ 0) × ((q : ℕ) → t < q → bit_at (n - 1) q ≡ bit_at n q)
+less_bits zero n one none =
+    let half : (n - 1) / 2 ≡ n / 2 = omega (arith, one, bit_at_lowest n) in
+    (omega (arith, one, bit_at_lowest n, bit_at_lowest (n - 1)), λ q lt. half_bit (n - 1) q lt ∙ ap (λ (m : ℕ). bit_at m (q - 1)) half ∙ sym (half_bit n q lt))
+less_bits (suc t) n one none =
+    let half : (n - 1) / 2 ≡ n / 2 - 1 = omega (arith, none 0 (omega arith) (omega arith), bit_at_lowest n) in
+    let rest = less_bits t (n / 2) (sym (bit_at-suc n t) ∙ one) (λ i low lt. sym (bit_at-suc n i) ∙ none (suc i) (omega arith) (omega (arith, lt))) in
+    let at = λ (q : ℕ). ap (λ (m : ℕ). bit_at m q) half in
+    (bit_at-suc (n - 1) t ∙ at t ∙ rest.0, λ q lt. half_bit (n - 1) q (omega arith) ∙ at (q - 1) ∙ rest.1 (q - 1) (omega arith) ∙ sym (half_bit n q (omega arith)))
+
+rest_bit : (n r : ℕ) → FirstBit (Some r) n 0 → (q : ℕ) → bit_at (bit_and n (n - 1)) q ≡ (if nat_lt r q then bit_at n q else 0)
+rest_bit n r first q = let less = less_bits r n first.2 first.3 in grind (arith, nat_tests, bit_at_and n (n - 1) q, first.3 q, less.0, less.1 q)
+
 -- a bit that neither of two masks has
 pub neither : (m n q : ℕ) → bit_at (bit_or m n) q ≡ 0 → (bit_at m q ≡ 0) × (bit_at n q ≡ 0)
 neither m n q none = let e = sym (bit_at_or m n q) ∙ none in (omega (arith, e), omega (arith, e))
@@ -319,36 +359,40 @@ skip_many (suc j) k m zero n f far e e' none = absurd (omega arith)
 skip_many (suc j) k m (suc c) n f far e e' none =
     ap (λ (x : RegRule). listed k x (listed_from (suc k) c f far)) (none k (omega arith) (omega arith)) ∙ skip_many j (suc k) m c n f far (omega arith) (omega arith) (λ q low high. none q (omega arith) high)
 
+same_from : (k n : ℕ) (f g : ℕ → RegRule) (far : List Entry) → ((q : ℕ) → k ≤ q → f q ≡ g q) → listed_from k n f far ≡ listed_from k n g far
+unfolding listed_from
+same_from k zero f g far same = refl
+same_from k (suc n) f g far same =
+    ap (λ (x : RegRule). listed k x (listed_from (suc k) n f far)) (same k (omega arith)) ∙ ap (listed k (g k)) (same_from (suc k) n f g far (λ q le. same q (omega arith)))
+
 one_from : (k c m : ℕ) (f : ℕ → RegRule) (far : List Entry) → c ≡ suc m → listed_from k c f far ≡ listed k (f k) (listed_from (suc k) m f far)
 unfolding listed_from
 one_from k c m f far e = ap (λ (n : ℕ). listed_from k n f far) e
 
-none_from : (k c : ℕ) (f : ℕ → RegRule) (far : List Entry) → c ≡ 0 → listed_from k c f far ≡ far
-unfolding listed_from
-none_from k zero f far e = refl
-none_from k (suc c) f far e = absurd (omega arith)
-
--- behind the slots the others are left
-pub slots_end : (k used : ℕ) (near : List Slot) (expressions far : List Entry) → 128 ≤ k → listed_near k used near expressions far ≡ far
-slots_end k used near expressions far le = none_from k (128 - k) (near_rule used near expressions) far (omega arith)
-
 module _ (used : ℕ) (near : List Slot) (expressions far : List Entry) where
-  skipped : (k r : ℕ) → k ≤ r → r ≤ 128 → ((q : ℕ) → k ≤ q → q < r → bit_at used q ≡ 0) → listed_near k used near expressions far ≡ listed_near r used near expressions far
-  skipped k r le within none =
-      skip_many (r - k) k r (128 - k) (128 - r) (near_rule used near expressions) far (omega arith) (omega arith) (λ q low high. unset_rule used near expressions q (none q low high))
+  skipped : (r : ℕ) → r ≤ 128 → ((q : ℕ) → q < r → bit_at used q ≡ 0) → listed_near 0 used near expressions far ≡ listed_near r used near expressions far
+  skipped r within none = skip_many r 0 r 128 (128 - r) (near_rule used near expressions) far (omega arith) (omega arith) (λ q low high. unset_rule used near expressions q (none q high))
 
-  pub none_used : (k : ℕ) → FirstBit None used k → listed_near k used near expressions far ≡ far
-  none_used k none = elim (cases_lt k 128) [
-    | inl lt ↦ skipped k 128 (omega arith) (omega arith) none ∙ slots_end 128 used near expressions far (omega arith)
-    | inr ge ↦ slots_end k used near expressions far ge
-  ]
+  -- without a register left the others are left
+  pub none_used : FirstBit None used 0 → listed_near 0 used near expressions far ≡ far
+  unfolding listed_from
+  none_used none = skipped 128 (omega arith) (λ q lt. none q (omega arith) lt)
 
-  pub next_used : Holds used near expressions → (k r : ℕ) → FirstBit (Some r) used k → (s : Slot) → s ≡ get_or near r no_slot → (rule : RegRule) → rule ≡ slot_rule s (rule_in expressions r)
-      → listed_near k used near expressions far ≡ (r, rule) ∷ listed_near (suc r) used near expressions far
-  next_used holds k r first s at rule e =
-      let f = near_rule used near expressions in
+module _ (used rest : ℕ) (near : List Slot) (expressions : List Entry) (holds : Holds used near expressions) (is_rest : rest ≡ bit_and used (used - 1)) where
+  pub rest_holds : Holds rest near expressions
+  rest_holds = fewer_holds used rest near expressions holds (λ q one. omega (arith, one, ap (λ (n : ℕ). bit_at n q) is_rest, bit_at_and used (used - 1) q, bit_at-lt used q))
+
+  pub next_used : (far : List Entry) (r : ℕ) → FirstBit (Some r) used 0 → (s : Slot) → s ≡ get_or near r no_slot → (rule : RegRule) → rule ≡ slot_rule s (rule_in expressions r)
+      → listed_near 0 used near expressions far ≡ (r, rule) ∷ listed_near 0 rest near expressions far
+  next_used far r first s at rule e =
+      let f = near_rule used near expressions in let g = near_rule rest near expressions in
       let is : rule ≡ f r = e ∙ ap (λ (x : Slot). slot_rule x (rule_in expressions r)) at ∙ sym (set_rule used near expressions r first.2) in
-      skipped k r first.0 (omega (arith, first.1)) first.3
+      let bit = λ (q : ℕ). ap (λ (n : ℕ). bit_at n q) is_rest ∙ rest_bit used r first q in
+      let stays = λ (q : ℕ) (le : suc r ≤ q). let e : bit_at used q ≡ bit_at rest q = grind (arith, nat_tests, bit q) in ap (λ (n : ℕ). rule_if n (get_or near q no_slot) (rule_in expressions q)) e in
+      skipped used near expressions far r (omega (arith, first.1)) (λ q. first.3 q (omega arith))
       ∙ one_from r (128 - r) (128 - suc r) f far (omega (arith, first.1))
       ∙ listed_is r (f r) (listed_from (suc r) (128 - suc r) f far) (holds r first.2)
-      ∙ ap (λ (x : RegRule). (r, x) ∷ listed_from (suc r) (128 - suc r) f far) (sym is)
+      ∙ ap₂ (λ (x : RegRule) (l : List Entry). (r, x) ∷ l) (sym is) (same_from (suc r) (128 - suc r) f g far stays)
+      ∙ ap (λ (l : List Entry). (r, rule) ∷ l) (sym (skipped rest near expressions far (suc r) (omega (arith, first.1)) (λ q lt. grind (arith, nat_tests, bit q))))
+
+pub ruleset next_listed = (next_used, none_used, rest_holds)

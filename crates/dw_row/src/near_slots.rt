@@ -1,7 +1,7 @@
 //! Slots of registers under a mask: a slot that the mask has not is never read.
 
-ghost use Rattle.std.specs.{Prelude.{◌≡◌, ◌<◌, ◌≤◌, ◌↔◌, ◌*◌, ◌^◌, ◌%◌, IsTrue, length, nat_eq}, Int.bit_at};
-ghost use Rattle.dw_row.specs.{Rows.rule_in, Inner.Entries.{FindsNear, FirstBit, FirstIn, Holds, SameOutside, SameSlots, slot_rule}};
+ghost use Rattle.std.specs.{Prelude.{◌≡◌, ◌<◌, ◌≤◌, ◌↔◌, ◌-◌, ◌*◌, ◌^◌, ◌%◌, IsTrue, bit_and, length, nat_eq}, Int.bit_at};
+ghost use Rattle.dw_row.specs.{Rows.rule_in, Inner.Entries.{FirstBit, FirstIn, SameOutside, SameSlots, slot_rule}};
 
 use crate::rule::RegRule;
 use crate::slot::{Slot, rule_of};
@@ -80,6 +80,20 @@ pub(crate) fn next_in(mask: u128, place: u32) -> Option<u32>
     }
 }
 
+/// A mask without its first register. By halves, as it is read.
+#[inline(always)]
+#[tactic(auto, using(crate::proofs::Slots::low_taken, crate::proofs::Slots::high_taken))]
+pub(crate) fn without_first(mask: u128) -> u128
+    ensures { result ≡ bit_and mask (mask - 1) }
+{
+    let low = (mask % HALF) as u64;
+    let high = (mask >> 64) as u64;
+    if low != 0 {
+        return u128::from(high) << 64 | u128::from(low & (low - 1));
+    }
+    u128::from(high & high.wrapping_sub(1)) << 64
+}
+
 /// Copies the slots of the registers in a mask.
 #[inline(always)]
 pub(crate) fn copy_slots(slots: &mut [Slot; 128], others: &[Slot; 128], mask: u128)
@@ -94,27 +108,6 @@ pub(crate) fn copy_slots(slots: &mut [Slot; 128], others: &[Slot; 128], mask: u1
         slots[register as usize] = others[register as usize];
         place = register + 1;
     }
-}
-
-/// The first register from a place on that the mask has, and its rule.
-#[tactic(auto, using(crate::proofs::Slots::none_used, crate::proofs::Slots::next_used))]
-#[inline(always)]
-pub(crate) fn next_near<'a>(
-    at: u16,
-    slots: &[Slot; 128],
-    used: u128,
-    expressions: &BTreeMap<u16, RegRule<'a>>,
-) -> Option<(u16, RegRule<'a>)>
-    requires slots { length slots.now ≡ 128 }
-    requires holds { Holds used slots.now expressions.now.entries }
-    ensures { FindsNear result at used slots.now expressions.now.entries }
-{
-    let Some(next) = next_in(used, u32::from(at)) else {
-        return None;
-    };
-    let register = next as u16;
-    let slot = slots[usize::from(register)];
-    Some((register, rule_of(slot, expressions, register)))
 }
 
 // Whether two slots of a register give it the same rule, whatever they hold.

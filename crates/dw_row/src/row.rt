@@ -8,9 +8,9 @@ ghost use Rattle.dw_row.specs.declared.rule.RegRule.TheVariants.{Offset, Unspeci
 
 use crate::behind::place_behind;
 use crate::entries::{Entries, NEAR};
-use crate::near_slots::{next_in, next_near};
+use crate::near_slots::{next_in, without_first};
 use crate::rule::{CfaRule, RegRule};
-use crate::slot::{Slot, offset_in};
+use crate::slot::{Slot, offset_in, rule_of};
 use crate::tree::{next_in_tree, set_in_tree};
 use std::alloc::{AllocError, Global};
 use std::collections::BTreeMap;
@@ -50,7 +50,6 @@ impl<'a> Clone for Row<'a> {
 /// An iterator over the registers that a row specifies, ascending, with their rules. Takes no memory.
 #[derive(Drop)]
 pub struct Specified<'r, 'a> {
-    pub(crate) at: u16,
     pub(crate) slots: &'r [Slot; 128],
     pub(crate) used: u128,
     pub(crate) expressions: &'r BTreeMap<u16, RegRule<'a>>,
@@ -65,7 +64,7 @@ impl<'r, 'a> Model for Specified<'r, 'a> {
 
     ghost Value = { List (ℕ × Rule) };
 
-    ghost view = { λ s. listed_near s.at s.used s.slots.now s.expressions.now.entries (far_behind s.last s.far.now.entries) };
+    ghost view = { λ s. listed_near 0 s.used s.slots.now s.expressions.now.entries (far_behind s.last s.far.now.entries) };
 
     ghost invariant = { λ s. (length s.slots.now ≡ 128) × Holds s.used s.slots.now s.expressions.now.entries
         × AreSpecified 128 s.far.now.entries × NoneHasSlot s.expressions.now.entries };
@@ -78,9 +77,9 @@ impl<'r, 'a> Specified<'r, 'a> {
         ensures next { MatchOption result (self.new ≡ self.old) (λ found. self.old ≡ (found.0, Offset found.1) ∷ self.new) }
         ensures exact { MatchOption result (BeginsShort self.old → ⊥) (λ _. BeginsShort self.old) }
     {
-        let register = next_in(self.used, u32::from(self.at))? as u16;
+        let register = next_in(self.used, 0)? as u16;
         let offset = offset_in(self.slots[usize::from(register)])?;
-        self.at = register + 1;
+        self.used = without_first(self.used);
         Some((register, offset))
     }
 }
@@ -93,14 +92,14 @@ impl<'r, 'a> Iterator for Specified<'r, 'a> {
     ghost remaining = { item_count (λ entries. entries) };
 
     #[inline(always)]
-    #[tactic(auto, using(crate::proofs::Slots::slots_end, crate::proofs::Difference::none_behind))]
+    #[tactic(auto, using(crate::proofs::Slots::next_listed, crate::proofs::Difference::none_behind))]
     fn next(&mut self) -> Option<(u16, RegRule<'a>)> {
-        let near = next_near(self.at, self.slots, self.used, self.expressions);
-        if let Some((register, rule)) = near {
-            self.at = register + 1;
-            return Some((register, rule));
+        if let Some(next) = next_in(self.used, 0) {
+            let register = next as u16;
+            let slot = self.slots[usize::from(register)];
+            self.used = without_first(self.used);
+            return Some((register, rule_of(slot, self.expressions, register)));
         }
-        self.at = NEAR;
         if self.far.is_empty() {
             return None;
         }
@@ -262,7 +261,6 @@ impl<'a> Row<'a> {
         self.ascends();
         let entries = &self.entries;
         Specified {
-            at: 0,
             slots: &entries.slots,
             used: entries.used,
             expressions: &entries.expressions,

@@ -100,12 +100,6 @@ FirstIn end (Some r) mask place = (place ≤ r) × (r < end) × (bit_at mask r �
 abbrev pub FirstBit : Option ℕ → ℕ → ℕ → Type 0
 FirstBit first mask place = FirstIn 128 first mask place
 
--- the first register of the slots from a place on
-abbrev pub FindsNear : Option (ℕ × RegRule) → ℕ → ℕ → List Slot → List (ℕ × RegRule) → Type 0
-FindsNear None at used near expressions = (far : List (ℕ × RegRule)) → listed_near at used near expressions far ≡ far
-FindsNear (Some entry) at used near expressions =
-    (entry.0 < 128) × ((far : List (ℕ × RegRule)) → listed_near at used near expressions far ≡ entry ∷ listed_near (suc entry.0) used near expressions far)
-
 -- what a test of entries leaves of a register's rule
 abbrev pub left : (ℕ × RegRule → Bool) → ℕ → RegRule → RegRule
 left test r rule = if test (r, rule) then rule else rules.Unspecified

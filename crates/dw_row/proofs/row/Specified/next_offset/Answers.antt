@@ -1,31 +1,32 @@
-use Rattle.dw_row.proofs.Words.{rules, ◌≡◌, ◌∙◌, ◌∷◌, ℕ, suc, ◌+◌, arith, ap, far_behind, get_or, listed_near, no_slot, rule_in, subst, sym, BeginsShort, FirstBit, FitsSigned, IsShortOffset}
-use Rattle.dw_row.proofs.Words.{None, Some, refl, slot_rule, to_z-of_z, w64}
-use Rattle.dw_row.proofs.{Difference.far_short, Slots.{next_used, none_used}}
+use Rattle.dw_row.proofs.Words.{rules, ◌≡◌, ◌∙◌, ◌∷◌, ℕ, ◌-◌, ap, bit_and, far_behind, get_or, listed_near, no_slot, rule_in, subst, sym, BeginsShort, FitsSigned, IsShortOffset}
+use Rattle.dw_row.proofs.Words.{refl, slot_rule, to_z-of_z, w64}
+use Rattle.dw_row.proofs.{Difference.far_short, Slots.{next_used, none_used, rest_holds}}
 use Rattle.dw_row.proofs.row.Specified.next_offset.Goals.{After-offset_in}
 use Rattle.dw_row.proofs.row.Specified.next_offset.Goals as goal
 
 pub returns-in_err-register-clause-exact : goal.returns-in_err-register-clause-exact
 returns-in_err-register-clause-exact c =
     let w = c.self.inside in
-    let none = subst (λ (n : ℕ). FirstBit None w.used n) c.from.ensures c.in_err-register.ensures in
-    let left = sym c.self.view_is ∙ none_used w.used w.slots.now w.expressions.now.entries (far_behind w.last w.far.now.entries) w.at none in
+    let left = sym c.self.view_is ∙ none_used w.used w.slots.now w.expressions.now.entries (far_behind w.last w.far.now.entries) c.in_err-register.ensures in
     rw c.from_residual.ensures (λ short. far_short w.last w.far.now.entries c.self.invariant.2 (subst BeginsShort left short))
 
 -- the register that is found has the rule of its slot
 first_is : (c : After-offset_in) → let w = c.self.inside in let r = c.in_ok-register.field-0 in let x = w.expressions.now.entries in
-    c.args.self.now ≡ (r, slot_rule (get_or w.slots.now c.from-2.result no_slot) (rule_in x r)) ∷ listed_near (suc r) w.used w.slots.now x (far_behind w.last w.far.now.entries)
+    c.args.self.now ≡ (r, slot_rule (get_or w.slots.now c.from.result no_slot) (rule_in x r)) ∷ listed_near 0 (bit_and w.used (w.used - 1)) w.slots.now x (far_behind w.last w.far.now.entries)
 first_is c =
-    let w = c.self.inside in let r = c.in_ok-register.field-0 in
-    let first = subst (λ (n : ℕ). FirstBit (Some r) w.used n) c.from.ensures c.in_ok-register.ensures in
-    sym c.self.view_is ∙ next_used w.used w.slots.now w.expressions.now.entries (far_behind w.last w.far.now.entries) c.self.invariant.1 w.at r first _ (ap (λ (n : ℕ). get_or w.slots.now n no_slot) c.from-2.ensures) _ refl
+    let w = c.self.inside in let r = c.in_ok-register.field-0 in let x = w.expressions.now.entries in
+    sym c.self.view_is ∙ next_used w.used _ w.slots.now x c.self.invariant.1 refl (far_behind w.last w.far.now.entries) r c.in_ok-register.ensures _ (ap (λ (n : ℕ). get_or w.slots.now n no_slot) c.from.ensures) _ refl
+
+pub invariant_of-self : goal.invariant_of-self
+invariant_of-self c =
+    let w = c.self.inside in let so = c.self.invariant in
+    (so.0, rest_holds w.used _ w.slots.now w.expressions.now.entries so.1 c.without_first-self-inside.ensures, so.2, so.3)
 
 pub returns-clause-next : goal.returns-clause-next
 returns-clause-next c =
-    let r = c.in_ok-register.field-0 in
     let fits : FitsSigned w64 c.in_ok-offset.offset = search rules in
-    let more : r + 1 ≡ suc r = omega arith in
-    let is = c.in_ok-offset.ensures.offset (rule_in c.self.inside.expressions.now.entries r) in
-    rw (more, to_z-of_z w64 c.in_ok-offset.offset fits, ← is) (first_is (goal.at.returns-clause-next c).After-offset_in)
+    let is = c.in_ok-offset.ensures.offset (rule_in c.self.inside.expressions.now.entries c.in_ok-register.field-0) in
+    rw (to_z-of_z w64 c.in_ok-offset.offset fits, ← is, c.without_first-self-inside.ensures) (first_is (goal.at.returns-clause-next c).After-offset_in)
 
 pub returns-in_err-offset-clause-exact : goal.returns-in_err-offset-clause-exact
 returns-in_err-offset-clause-exact c =
