@@ -21,8 +21,7 @@ pub fn are_bytes(bytes: &[u8])
     let _ = bytes;
 }
 
-// The number that the first four bytes spell. Here and below the length of each slice is known where this is compiled, so no
-// byte is tested alone.
+// The number that the first four bytes spell. Here and below the length of each slice is known as this is compiled: no byte is tested alone.
 #[inline(always)]
 fn four_in(order: Order, bytes: &[u8]) -> u64
     requires { 4 ≤ length bytes.now }
@@ -46,12 +45,13 @@ fn eight_in(order: Order, bytes: &[u8]) -> u64
     }
 }
 
-// The number that the first four bytes spell, or the first eight.
+/// The number that the first `n` bytes are, 4 or 8 of them, in an order (7.5).
 #[inline(always)]
-fn word_in(order: Order, bytes: &[u8], n: usize) -> u64
+pub fn word_in(order: Order, bytes: &[u8], n: usize) -> u64
     requires width { (n ≡ 4) ⊎ (n ≡ 8) }
     requires room { n ≤ length bytes.now }
-    ensures { result ≡ fixed_number order n bytes.now }
+    ensures is { result ≡ fixed_number order n bytes.now }
+    ensures found { Fixed order n result (take n bytes.now) }
 {
     match n {
         4 => four_in(order, bytes),

@@ -1,20 +1,13 @@
 -- What is refused where an entry stands is its first fault.
 use Rattle.dw_section.specs.{declared.{standing_fde.LookUpError.{LookUpError, TheVariants.{Refused, BadIndex, OutOfMemory}}, entry.Placed.Placed}, Inner.{StandingFde.of_steps, Pieces.{IsPlaced, item_of}, Reads.Gives}, StandingFde.ItemFault}
-use Rattle.dw_section.proofs.Words.{◌≡◌, ℕ, ◌+◌, ◌≤◌, List, [], ◌∷◌, length, drop, take, Some, Err, refl, sym, subst, ◌∙◌, inl, inr, None, le-ltb, take-append-drop, NoSuchCie, Refusal, ReadError, Refuses, Outcome, Target, Input, input_of}
-use Rattle.dw_section.proofs.Words.{Piece, id_width, Head, Has, FdeStuck, cie_at, fde_at, fixed_at, fixed_only, BothStuck, NamesCieAt, RefusesAs, StandsAs, ◌<◌, Option, Result, Ok, ap, arith, IfOk, IfErr, IfSome, MatchOption, MatchResult}
+use Rattle.dw_section.proofs.Words.{◌≡◌, ℕ, ◌+◌, ◌≤◌, List, [], ◌∷◌, length, drop, take, Some, Err, refl, sym, subst, ◌∙◌, inl, inr, None, take-append-drop, NoSuchCie, Refusal, ReadError, Refuses, Outcome, Target, Input, input_of}
+use Rattle.dw_section.proofs.Words.{Piece, id_width, Head, Has, FdeStuck, cie_at, fde_at, fixed_only, BothStuck, NamesCieAt, RefusesAs, StandsAs, ◌<◌, Option, Result, Ok, ap, arith, IfOk, IfErr, IfSome, MatchOption, MatchResult}
 use Rattle.dw_section.proofs.Words.{length-drop, Read, AreBytes, span_of, address_limit, FoundFde, Item, IsWithin, item_at, cie_fields, fde_fields, StandsIn, RunsSo, run_within, refused_where_fault, one_run, FoundStands, entry_in}
 use Rattle.dw_section.proofs.{Words.{initial_in, IsItem, Takes, item_bytes, piece_in}, Lent.HeaderLaws.{cie_faulty, fde_faulty, has_fde}, StandLaws.{never_gap, never_stuck, one_piece, stands_here}, FaultPlaces.{has_good, item_stays}}
 use Rattle.dw_section.proofs.FaultPlaces.{stand_ends, stuck_within}
 use Rattle.dw_num.proofs.Lent.Stays.{Stays}
 use Rattle.dw_num.specs.declared.error.ReadError.TheVariants as reading
 use Rattle.dw_section.specs.declared.entry.Kind.TheVariants as kind
-
--- ---- the first field
-
--- a number that is there is read
-pub fixed_there : (n : ℕ) (i : Input) (r : Refusal) → n ≤ length i.bytes → fixed_at n i ≡ Err r → ⊥
-unfolding fixed_at
-fixed_there n i r long e = let bad = rw (le-ltb (length i.bytes) n long) at e in absurd cc
 
 -- ---- fields
 

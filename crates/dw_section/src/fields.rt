@@ -25,7 +25,6 @@ pub(crate) struct FdeFields {
     pub(crate) range: u64,
 }
 
-#[inline(always)]
 fn want_byte(cursor: &mut Cursor<'_>, wanted: u8, code: Code) -> Result<(), Refusal>
     ensures { (rest : Fields TheCieFields) →
         Passes result (fields_at (field (fixed 1) (λ n. unless (n == wanted) code) (λ n. rest)) cursor.old) (λ v. fields_at rest cursor.new) }
@@ -39,7 +38,6 @@ fn want_byte(cursor: &mut Cursor<'_>, wanted: u8, code: Code) -> Result<(), Refu
     }
 }
 
-#[inline(always)]
 fn read_version(cursor: &mut Cursor<'_>) -> Result<u8, Refusal>
     ensures { (rest : ℕ → Fields TheCieFields) →
         Passes result (fields_at (field (fixed 1) (λ v. unless (v == 1 || (v == 3 || v == 4)) BadVersion) rest) cursor.old)

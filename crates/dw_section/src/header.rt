@@ -3,8 +3,8 @@
 ghost use Rattle.std.specs.Prelude.{◌≡◌, ◌+◌, ◌≤◌, ℕ, true, Err, List, length, map, IfOk, IfErr, IfSome, MatchResult};
 ghost use Rattle.dw_num.specs.{Refusals.Refuses, Span.span_of, declared.error.ReadError.TheVariants.OutOfMemory};
 ghost use Rattle.dw_op.specs.Faults.{IsWithin};
-ghost use Rattle.dw_section.specs.{Counts.AreCounts, Cut.Piece, Fields.is_among, Headers.{Head, Has, Headers, head_in, CieHolds, CieStuck, CiesHold, FdeStuck}};
-ghost use Rattle.dw_section.specs.{Headers.{CieFieldsFault, HeadersFault}, Pieces.Pieces, Places.cie_places, StandingFde.StandsIn};
+ghost use Rattle.dw_section.specs.{Counts.AreCounts, Cut.{Piece, id_width}, Fields.is_among, Headers.{Head, Has, Headers, head_in, CieHolds, CiesHold}};
+ghost use Rattle.dw_section.specs.{Headers.{CieFieldsFault, CieStuck, FdeStuck, HeadersFault}, Pieces.Pieces, Places.cie_places, StandingFde.StandsIn};
 ghost use Rattle.dw_section.specs.Inner.{Initials.{AreCies, IsRead}, PieceHeader.{PointsBehind, SaysFde, cie_at, fde_at, initial_in, entry_in, program_of}};
 ghost use Rattle.dw_section.specs.Inner.{Left.FieldsFaultOr, Pieces.piece_in, Places.{IsAt, Rises}, Stage.Answers};
 ghost use Rattle.dw_section.specs.declared.entry.Kind.TheVariants as kind;
@@ -88,17 +88,17 @@ pub(crate) struct FdeEntry<'a> {
 }
 
 /// Reads an entry that is a CIE.
-#[tactic(auto, unfolding(crate::specs::Inner::PieceHeader::cie_at))]
+#[tactic(auto, unfolding(crate::specs::Inner::PieceHeader::cie_at, dw_num::specs::Front::fixed_at))]
 #[inline(always)]
 pub(crate) fn read_initial<'a>(piece: &Placed<'a>, target: Target) -> Result<Initial<'a>, Refusal>
-    requires { piece.now.kind ≡ kind.Cie }
+    requires kind { piece.now.kind ≡ kind.Cie }
+    requires id { id_width piece.now.form ≤ length piece.now.contents.bytes.now }
     ensures exact { Answers initial_in result (cie_at target (piece_in piece.now)) }
     ensures found { IfOk result (IsRead target (piece_in piece.now)) }
 {
-    let contents = piece.contents;
+    let (contents, width) = (piece.contents, width_of(piece.form));
     are_bytes(contents.bytes);
-    let mut cursor = Cursor::new(contents.bytes, contents.at, target);
-    let _ = cursor.fixed(width_of(piece.form))?;
+    let mut cursor = Cursor::new(&contents.bytes[width..], contents.at + width as u64, target);
     let fields = read_cie(&mut cursor, target.size)?;
     Ok(Initial {
         at: piece.at,

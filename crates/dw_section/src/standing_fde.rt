@@ -18,7 +18,7 @@ use crate::header::{read_behind, read_initial};
 use crate::listed_fde::FoundFde;
 use crate::lookup::Fde;
 use dw_cfa::RowRoom;
-use dw_num::{Code, Cursor, ReadError, Refusal, Target, are_bytes};
+use dw_num::{Code, Cursor, ReadError, Refusal, Target, are_bytes, word_in};
 use std::marker::Model;
 use thiserror::Error;
 
@@ -60,7 +60,7 @@ pub(crate) fn cie_at(bytes: &[u8], at: u64, target: Target) -> Result<Option<Pla
 }
 
 /// The first field of an FDE, the place of its CIE, and a cursor behind it.
-#[tactic(auto, using(crate::proofs::StandFaults::fixed_there))]
+#[tactic(auto, unfolding(dw_num::specs::Front::fixed_at))]
 #[inline(always)]
 pub(crate) fn pointer_of<'a>(piece: &Placed<'a>, target: Target) -> (u64, Cursor<'a>)
     requires { id_width piece.now.form ≤ length piece.now.contents.bytes.now }
@@ -68,12 +68,10 @@ pub(crate) fn pointer_of<'a>(piece: &Placed<'a>, target: Target) -> (u64, Cursor
     ensures only { (places : List ℕ) (h : FdeHead) → Has target places (piece_in piece.now) (fde h) → result.0 ≡ h.cie_at }
     ensures behind { PointsBehind target (piece_in piece.now) result.0 result.1 }
 {
-    let contents = piece.contents;
-    let mut cursor = Cursor::new(contents.bytes, contents.at, target);
-    let Ok(pointer) = cursor.fixed(width_of(piece.form)) else {
-        unreachable!();
-    };
-    (pointer, cursor)
+    let (contents, width) = (piece.contents, width_of(piece.form));
+    let pointer = word_in(target.order, contents.bytes, width);
+    let behind = Cursor::new(&contents.bytes[width..], contents.at + width as u64, target);
+    (pointer, behind)
 }
 
 // The FDE that stands at a place, with what the CIE that it names says, or none, or what is wrong in either.

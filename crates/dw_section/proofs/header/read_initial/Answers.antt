@@ -1,11 +1,17 @@
 use Rattle.std.proofs.lemmas.Int.{to_z-of_z}
-use Rattle.dw_section.proofs.{Words.{arith, refl, inl, w64, piece_in, program_of, IsCie}, Lent.{FieldTable.{cie_numbers, cie_said}, HeaderLaws.{reads_fields, fields_end}}, header.read_initial.Goals.In_ok-fields}
+use Rattle.dw_section.proofs.Words.{◌-◌, arith, drop, refl, inl, le-ltb, length, length-drop, take_all, w64, fixed_at, id_width, piece_in, program_of, IsCie}
+use Rattle.dw_section.proofs.{Lent.{FieldTable.{cie_numbers, cie_said}, HeaderLaws.{reads_fields, fields_end}}, header.read_initial.Goals.In_ok-fields}
 use Rattle.dw_section.proofs.header.read_initial.Goals as goal
 
 is : (c : In_ok-fields) → IsCie c.args.target (piece_in c.args.piece.now) c.in_ok-fields.fields (program_of c.read_cie.new.cursor)
+unfolding fixed_at
 is c =
-    let took = rw (c.new-cursor.ensures, c.width_of.ensures) at c.in_ok-fixed.ensures.exact in
-    (c.requires, reads_fields _ (cie_numbers c.args.target.size c.args.piece.now.form) c.args.target (piece_in c.args.piece.now) c.in_ok-fields.fields c.read_cie.new.cursor c.are_bytes.ensures (rw took c.in_ok-fields.ensures))
+    let bytes = c.args.piece.now.contents.bytes.now in
+    let width = id_width c.args.piece.now.form in
+    let rest = take_all (length bytes - width) (drop width bytes) (omega (arith, length-drop width bytes)) in
+    let read = rw (c.new-cursor.ensures, c.width_of-width.ensures, rest) at c.in_ok-fields.ensures in
+    let numbers = cie_numbers c.args.target.size c.args.piece.now.form in
+    (c.requires.kind, reads_fields _ numbers c.args.target (piece_in c.args.piece.now) c.in_ok-fields.fields c.read_cie.new.cursor c.are_bytes.ensures (rw (le-ltb (length bytes) width c.requires.id) read))
 
 pub rest_of-requires : goal.rest_of-requires
 rest_of-requires c = omega (arith, fields_end c.args.target (piece_in c.args.piece.now) _ c.in_ok-fields.fields (program_of c.read_cie.new.cursor) (is (goal.at.rest_of-requires c).In_ok-fields).1, c.args.piece.now.contents.in_section)
