@@ -153,7 +153,7 @@ among_next : (n c : ℕ) (ns : List ℕ) → is_among n ns ≡ true → is_among
 among_next n c ns h = elim (eqb_tells c n) [ inl is ↦ rw (is.0) refl | inr not ↦ rw (not.0) h ]
 
 -- that of an FDE is the same where one stands at the place that it names
-fde_anywhere : (target : Target) (places others : List ℕ) (p : Piece) (h : FdeHead) → Has target places p (fde h) → is_among h.cie_at others ≡ true → Has target others p (fde h)
+pub fde_anywhere : (target : Target) (places others : List ℕ) (p : Piece) (h : FdeHead) → Has target places p (fde h) → is_among h.cie_at others ≡ true → Has target others p (fde h)
 fde_anywhere target places others p h has among =
     let q = fde_from target places p h has in
     let is = q.2.1 in
@@ -163,7 +163,7 @@ fde_anywhere target places others p h has among =
     inr (q.0, q.1, (q.2.0, record { spelling = is.spelling; spells = (v.0, rw there refl, v.2); whole = is.whole; place = is.place }), ap fde q.3)
 
 -- the headers of one FDE, where CIEs are said to stand at other places
-same_fde : (target : Target) (places others : List ℕ) (p : Piece) (g h : FdeHead) → Has target places p (fde g) → Has target others p (fde h) → g ≡ h
+pub same_fde : (target : Target) (places others : List ℕ) (p : Piece) (g h : FdeHead) → Has target places p (fde g) → Has target others p (fde h) → g ≡ h
 same_fde target places others p g h gs hs =
     let both = g.cie_at ∷ h.cie_at ∷ [] in
     let next = among_next h.cie_at g.cie_at (h.cie_at ∷ []) (among_first h.cie_at []) in

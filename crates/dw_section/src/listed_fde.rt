@@ -1,19 +1,17 @@
 //! The FDEs of a table, read again at their places, and how many rows their programs start (6.4.3).
 
 ghost use Rattle.std.specs.Prelude.{◌≡◌, ◌≤◌, ℕ, List, length, ◌<◌, slice_index_or};
-ghost use Rattle.dw_num.specs.Span.{Span, span_of};
-ghost use Rattle.dw_section.specs.{Headers.{Head, Headers, IsFde}, Meaning.{AreFdes, RowStarts}, Ranges.{IsRanged, fde_in}};
-ghost use Rattle.dw_section.specs.Inner.{Counted.{IsProgram, StartsOf}, Index.IsFound, Initials.AreOf, Lookup.{fde_of, IsFoundIn}, Pieces.piece_in};
-ghost use Rattle.dw_section.specs.declared.{fields.FdeFields.FdeFields, lookup.Fde.{Fde as TheFde}};
+ghost use Rattle.dw_section.specs.{Headers.{Head, Headers}, Meaning.{AreFdes, RowStarts}, Ranges.{IsRanged, fde_in}};
+ghost use Rattle.dw_section.specs.Inner.{Counted.{IsProgram, StartsOf}, Index.IsFound, Initials.AreOf, Lookup.{fde_of, IsFoundIn}};
+ghost use Rattle.dw_section.specs.declared.lookup.Fde.{Fde as TheFde};
 
-use crate::entry::{Placed, width_of};
 use crate::fde_range::Ranged;
-use crate::header::{FdeEntry, Initial};
+use crate::header::{FdeEntry, Initial, read_behind};
 use crate::lookup::FdeRef;
 use crate::standing_fde::{piece_at, pointer_of};
 use crate::table::Table;
 use dw_cfa::{Instr, Instructions};
-use dw_num::{Program, Target};
+use dw_num::Target;
 
 /// A nonempty FDE, and the CIE that it names.
 #[derive(Clone, Copy)]
@@ -22,22 +20,7 @@ pub(crate) struct FoundFde<'a> {
     pub(crate) cie: Initial<'a>,
 }
 
-// The program of an FDE whose fields hold: what stands behind its pointer and its two addresses.
-#[inline(always)]
-fn program_behind<'a>(own: &Placed<'a>, target: Target) -> Program<'a>
-    requires { (places : List ℕ) × (f : FdeFields) × (program : Span) × IsFde target places (piece_in own.now) f program }
-    ensures { (places : List ℕ) (f : FdeFields) (program : Span) → IsFde target places (piece_in own.now) f program → span_of result ≡ program }
-{
-    let contents = own.contents;
-    let fields = width_of(own.form) + 2 * usize::from(target.size.byte_count());
-    Program {
-        bytes: &contents.bytes[fields..],
-        at: contents.at + fields as u64,
-    }
-}
-
-/// The FDE of an entry of the list, read again at its place. What the entry says of it is known, so of its fields the pointer
-/// alone is read.
+/// The FDE of an entry of the list, read again at its place.
 #[inline(always)]
 pub(crate) fn found_fde<'a>(
     bytes: &'a [u8],
@@ -58,17 +41,13 @@ pub(crate) fn found_fde<'a>(
     let Some(own) = piece else {
         unreachable!();
     };
-    let (cie_at, _) = pointer_of(&own, target);
-    let named = initials.partition_point(|initial| initial.at < cie_at);
+    let (pointer, mut cursor) = pointer_of(&own, target);
+    let Ok(header) = read_behind(&own, pointer, &mut cursor, target) else {
+        unreachable!();
+    };
+    let named = initials.partition_point(|initial| initial.at < pointer);
     FoundFde {
-        own: FdeEntry {
-            at,
-            form: own.form,
-            cie_at,
-            begin: fde.begin,
-            range: fde.range,
-            program: program_behind(&own, target),
-        },
+        own: header,
         cie: initials[named],
     }
 }
