@@ -74,7 +74,10 @@ pub fn run_rows<'a, L: Load, W: Write>(
     let bytes = load_file(files, path)?;
     let table = check(alloc, bytes.as_slice(), target)?;
     table.accepted();
-    put_fdes(out, &table, &mut table.no_changes())?;
+    let mut changes = table.no_changes();
+    let put = put_fdes(out, &table, &mut changes);
+    drop(changes);
+    put?;
     out.finish()
 }
 
@@ -136,11 +139,8 @@ pub fn run_at<'a, L: Load, W: Write>(
     requires works { out.old.failed ≡ false }
     ensures { AtEnds (L.gives files.old) (output_of W.contents out.old) (output_of W.contents out.new) target lookup.entry result }
 {
-    let Lookup {
-        path,
-        mut addresses,
-    } = lookup;
-    let bytes = load_file(files, path)?;
+    let mut addresses = lookup.addresses;
+    let bytes = load_file(files, lookup.path)?;
     let text = load_text(alloc, files, lines_in(&addresses))?;
     let table = check(alloc, &bytes, target)?;
     add_lines(&mut addresses, &text, target.size)?;

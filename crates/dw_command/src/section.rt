@@ -196,7 +196,10 @@ fn count_changes_of(table: &Table<'_>, starts: u64) -> Result<u64, AllocError>
     requires { RowStarts table.now.target table.now.bytes starts }
     ensures { IfOk result (ChangeCount table.now.target table.now.bytes) }
 {
-    count_all(table, &mut table.no_changes(), starts)
+    let mut changes = table.no_changes();
+    let count = count_all(table, &mut changes, starts);
+    drop(changes);
+    count
 }
 
 // What is printed of a section beside its length.

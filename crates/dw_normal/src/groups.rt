@@ -252,7 +252,10 @@ pub(crate) fn make_ready<'a>(
     ensures short { IfOk result (λ ready. IsTrue ready.short → OfMembers table.entry (λ ms. length (canon table.entry.target ms) ≤ cap)) }
 {
     let mut rows = BTreeMap::new(alloc);
-    let mut known = Known::none(alloc);
-    let short = gather(&mut rows, &mut table.no_changes(), &mut known, &table, cap)?;
+    let (mut changes, mut known) = (table.no_changes(), Known::none(alloc));
+    let short = gather(&mut rows, &mut changes, &mut known, &table, cap);
+    drop(changes);
+    drop(known);
+    let short = short?;
     Ok(Ready { table, rows, short })
 }

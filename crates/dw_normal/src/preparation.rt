@@ -43,10 +43,8 @@ pub(crate) fn measured_section(
     ensures first { IfErr result (Refuses (NormalFault target cap bytes.now)) }
 {
     let table = check(alloc, bytes, target)?;
-    match make_ready(alloc, table, cap) {
-        Ok(ready) => measured_within(alloc, &ready, cap),
-        Err(_) => Err(ReadError::OutOfMemory),
-    }
+    let ready = make_ready(alloc, table, cap)?;
+    measured_within(alloc, &ready, cap)
 }
 
 /// What a table is written with, where its normal form is within a cap. It is measured only where the lengths of its programs
@@ -61,9 +59,7 @@ pub(crate) fn prepared<'a>(
     ensures first { IfErr result (Refuses (λ r. IsTooLong table.entry.target cap table.entry.bytes × (r ≡ too_long))) }
 {
     table.accepted();
-    let Ok(ready) = make_ready(alloc, table, cap) else {
-        return Err(ReadError::OutOfMemory);
-    };
+    let ready = make_ready(alloc, table, cap)?;
     if !ready.short {
         measured_within(alloc, &ready, cap)?;
     }

@@ -131,9 +131,7 @@ fn own_args<'a>(alloc: Global, name: Name) -> Result<Vec<Arg<'a>>, AllocError>
             vec![in alloc; steps(alloc), start, hex(alloc), dump]?
         }
         Name::Expr => vec![in alloc; flag(alloc, "frame", help::FRAME), hex(alloc)]?,
-        Name::Normal => {
-            vec![in alloc; option(alloc, "cap", false, "L", help::CAP), file(alloc)]?
-        }
+        Name::Normal => vec![in alloc; option(alloc, "cap", false, "L", help::CAP), file(alloc)]?,
         Name::Same => vec![in alloc; file(alloc), operand(alloc, "FILE2", true, help::FILE2)]?,
         Name::Unwind => {
             let default = option(alloc, "default", true, "same|undefined", help::DEFAULT);

@@ -116,8 +116,7 @@ fn start_in(matches: &ArgMatches<'_>, size: Size) -> Option<Option<u64>>
     let Some(text) = text_of(matches, "start") else {
         return Some(None);
     };
-    let value = address(text.as_bytes(), size)?;
-    Some(Some(value))
+    Some(Some(address(text.as_bytes(), size)?))
 }
 
 fn block_in(alloc: Global, matches: &ArgMatches<'_>) -> Result<Vec<u8>, PlanError>
