@@ -1,4 +1,4 @@
-//! Instructions that few programs have. They are read out of line, so that the loop that runs a program stays small.
+//! Instructions that few programs have. They are read by a call, so that the loop that runs an FDE's program stays small.
 
 ghost use Rattle.std.specs.Prelude.{◌≡◌, ◌≤◌, IfOk};
 ghost use Rattle.dw_num.specs.{Inner.Front.{Gives}, Target.address_limit};
@@ -94,7 +94,6 @@ fn read_other<'a>(
 
 // Reads the operands of one, and applies it.
 #[tactic(auto, using(crate::proofs::Turns::in_greater_limit), unfolding(crate::specs::Inner::ByOpcode::rare_at))]
-#[inline(never)]
 fn run_rare<'a, K: Keep<'a>>(
     opcode: Opcode,
     cursor: &mut Cursor<'a>,
