@@ -62,7 +62,12 @@ fn all_changes(
 fn fde_text(alloc: Global, table: &Table<'_>, fde: FdeRef) -> Result<String, Fail>
     requires { (fs : List TheFde) → AreFdes table.now.target table.now.bytes fs → fde.place < length fs }
 {
-    all_changes(alloc, &mut table.changes(fde), &mut table.changes(fde))
+    let mut given = table.changes(fde);
+    let mut lent = table.changes(fde);
+    let text = all_changes(alloc, &mut given, &mut lent);
+    drop(given);
+    drop(lent);
+    text
 }
 
 /// The row of the next change, without the registers that a change behind it leaves Unspecified.
@@ -131,7 +136,10 @@ fn agree_in_turn<'a>(
 
 /// Goes on from an FDE of the section `long` to another one and back, and fails where one begins otherwise.
 pub fn agree_on_openings(alloc: Global, table: &Table<'_>) -> Result<(), Fail> {
-    agree_in_turn(alloc, table, &mut table.no_changes())
+    let mut changes = table.no_changes();
+    let answer = agree_in_turn(alloc, table, &mut changes);
+    drop(changes);
+    answer
 }
 
 /// The row that the FDE of an address begins with, as the first instructions of its program tell it.

@@ -4,7 +4,7 @@ use crate::lines::compare;
 use crate::programs::{CIE, Pair, pair_of, program};
 use crate::targets::{LITTLE, PLAIN};
 use crate::texts::located_text;
-use dw_cfa::{become_initial, run};
+use dw_cfa::{LocatedRow, become_initial, run};
 use dw_row::Row;
 use std::alloc::Global;
 use std::test::Fail;
@@ -65,19 +65,24 @@ fn copies_and_compares_rows(rt: HostRuntime) -> Result<(), Fail> {
     Ok(())
 }
 
-// A clone of a row that was given, and what `{:?}` shows of it.
-fn cloned(alloc: Global, pair: Pair<'_>) -> Result<String, Fail> {
-    let Pair { cie, fde, .. } = pair;
-    let rows = run(alloc, cie, fde, pair.begin, pair.factors, pair.target)?;
-    let Some(row) = rows.last() else {
-        return Err(Fail::new("no row"));
-    };
+// A clone of a row, and what `{:?}` shows of it.
+fn clone_text(alloc: Global, row: &LocatedRow<'_>) -> Result<String, Fail> {
     let copy = row.clone()?;
     if copy != *row {
         return Err(Fail::new("the clone differs"));
     }
     let text = located_text(alloc, copy.location, &copy.row)?;
     Ok(format!(in alloc; "{text} {copy:?}")?)
+}
+
+// The same of the last row that is given.
+fn cloned(alloc: Global, pair: Pair<'_>) -> Result<String, Fail> {
+    let Pair { cie, fde, .. } = pair;
+    let rows = run(alloc, cie, fde, pair.begin, pair.factors, pair.target)?;
+    match rows.last() {
+        Some(row) => clone_text(alloc, row),
+        None => Err(Fail::new("no row")),
+    }
 }
 
 #[test]

@@ -102,7 +102,10 @@ fn given_rows(alloc: Global, steps: &mut RowSteps<'_>) -> Result<String, Fail> {
 }
 
 fn one_by_one(alloc: Global, pair: Pair<'_>) -> Result<String, Fail> {
-    given_rows(alloc, &mut steps_of(alloc, pair))
+    let mut steps = steps_of(alloc, pair);
+    let text = given_rows(alloc, &mut steps);
+    drop(steps);
+    text
 }
 
 // The same of rows that a walk lends.
@@ -136,7 +139,9 @@ pub fn go_to<'a>(walk: &mut RowWalk<'a>, pair: Pair<'a>)
 fn one_by_one_lent(alloc: Global, pair: Pair<'_>) -> Result<String, Fail> {
     let mut walk = RowWalk::new(alloc, pair.target);
     go_to(&mut walk, pair);
-    lent_rows(alloc, &mut walk)
+    let text = lent_rows(alloc, &mut walk);
+    drop(walk);
+    text
 }
 
 // Whether `run` and a walk give these rows; or where a refusal is behind them, whether `run` answers that alone.
@@ -350,8 +355,8 @@ const ENDS: [&str; 3] = [
     "cfa=r7+8 r16=[cfa-8] to None",
 ];
 
-// The next row, and where it ends.
-fn ended(alloc: Global, walk: &mut RowWalk<'_>) -> Result<String, Fail> {
+/// The next row, and where it ends.
+pub fn ended(alloc: Global, walk: &mut RowWalk<'_>) -> Result<String, Fail> {
     let _ = walk.advance()?.ok_or("a row")?;
     let row = row_text(alloc, walk.row())?;
     Ok(format!(in alloc; "{row} to {:?}", walk.next_start())?)
@@ -370,7 +375,9 @@ fn tells_where_a_row_ends(rt: HostRuntime) -> Result<(), Fail> {
     let pair = pair_of(CIE, b"\x0a\x0e\x10\x44\x0b\x44", 0x1000, PLAIN, LITTLE)?;
     let mut walk = RowWalk::new(rt.alloc(), LITTLE);
     go_to(&mut walk, pair);
-    agree_ends(rt.alloc(), &mut walk)
+    let answer = agree_ends(rt.alloc(), &mut walk);
+    drop(walk);
+    answer
 }
 
 // ---- one CIE and several FDEs
@@ -398,7 +405,10 @@ fn agree_following(alloc: Global, walk: &mut RowWalk<'_>) -> Result<(), Fail> {
 
 #[test]
 fn starts_fdes_from_one_row(rt: HostRuntime) -> Result<(), Fail> {
-    agree_following(rt.alloc(), &mut RowWalk::new(rt.alloc(), LITTLE))
+    let mut walk = RowWalk::new(rt.alloc(), LITTLE);
+    let answer = agree_following(rt.alloc(), &mut walk);
+    drop(walk);
+    answer
 }
 
 // ---- whether rows lack a rule for the CFA
@@ -437,5 +447,8 @@ fn agree_on_lacking(walk: &mut RowWalk<'_>) -> Result<(), Fail> {
 
 #[test]
 fn asks_rows_for_the_cfa(rt: HostRuntime) -> Result<(), Fail> {
-    agree_on_lacking(&mut RowWalk::new(rt.alloc(), LITTLE))
+    let mut walk = RowWalk::new(rt.alloc(), LITTLE);
+    let answer = agree_on_lacking(&mut walk);
+    drop(walk);
+    answer
 }

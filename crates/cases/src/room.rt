@@ -1,7 +1,7 @@
 //! Room for rows that is kept: the row of an address, and rows that a walk goes on to.
 
 use crate::lines::compare;
-use crate::programs::{CIE, Pair, go_to, pair_of};
+use crate::programs::{CIE, Pair, ended, go_to, pair_of};
 use crate::targets::{LITTLE, PLAIN};
 use crate::texts::row_text;
 use dw_cfa::{RowRoom, RowWalk};
@@ -37,9 +37,8 @@ fn walked_on<'a>(alloc: Global, pair: Pair<'a>, walk: &mut RowWalk<'a>) -> Resul
     let is_kept = walk.keep_initial()?;
     let initial = row_text(alloc, walk.kept())?;
     let _ = walk.advance()?;
-    let _ = walk.advance()?;
-    let row = row_text(alloc, walk.row())?;
-    Ok(format!(in alloc; "{is_kept} {initial}; {row} to {:?}", walk.next_start())?)
+    let second = ended(alloc, walk)?;
+    Ok(format!(in alloc; "{is_kept} {initial}; {second}")?)
 }
 
 // Both, one after the other.
@@ -50,7 +49,10 @@ fn walked_both<'a>(alloc: Global, pair: Pair<'a>, walk: &mut RowWalk<'a>) -> Res
 }
 
 fn walked_twice(alloc: Global, pair: Pair<'_>) -> Result<String, Fail> {
-    walked_both(alloc, pair, &mut RowWalk::new(alloc, pair.target))
+    let mut walk = RowWalk::new(alloc, pair.target);
+    let text = walked_both(alloc, pair, &mut walk);
+    drop(walk);
+    text
 }
 
 #[test]

@@ -400,10 +400,13 @@ fn narrowed_behind(alloc: Global, changes: &mut Changes<'_>) -> Result<String, F
 
 // The second of the changes at an address, narrowed.
 fn second_narrowed(alloc: Global, table: &Table<'_>, address: u64) -> Result<String, Fail> {
-    match table.fde_at(address) {
-        Some(fde) => narrowed_behind(alloc, &mut table.changes(fde)),
-        None => Err(Fail::new("no FDE")),
-    }
+    let Some(fde) = table.fde_at(address) else {
+        return Err(Fail::new("no FDE"));
+    };
+    let mut changes = table.changes(fde);
+    let text = narrowed_behind(alloc, &mut changes);
+    drop(changes);
+    text
 }
 
 // r6 is saved at the second row alone, and r16 in the CIE.

@@ -21,18 +21,18 @@ fn found(alloc: Global, table: &Table<'_>, address: u64) -> Result<String, Fail>
     }
 }
 
-fn agree_all(alloc: Global, section: &str, lines: &str) -> Result<(), Fail> {
-    let bytes = section_of(alloc, section)?;
-    let table = table_of(alloc, &bytes, LITTLE)?;
+fn agree_lines(alloc: Global, table: &Table<'_>, lines: &str) -> Result<(), Fail> {
     for line in lines.lines() {
         let (address, wanted) = parts(line)?;
-        compare(
-            line,
-            found(alloc, &table, number(address)?)?.as_str(),
-            wanted,
-        )?;
+        let text = found(alloc, table, number(address)?)?;
+        compare(line, text.as_str(), wanted)?;
     }
     Ok(())
+}
+
+fn agree_all(alloc: Global, section: &str, lines: &str) -> Result<(), Fail> {
+    let bytes = section_of(alloc, section)?;
+    agree_lines(alloc, &table_of(alloc, &bytes, LITTLE)?, lines)
 }
 
 // Three FDEs, the last of which has the last sixteen addresses.

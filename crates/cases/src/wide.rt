@@ -68,7 +68,10 @@ fn agree_twice<'a>(alloc: Global, walk: &mut RowWalk<'a>, pair: Pair<'a>) -> Res
 // The same of the FDE behind such a CIE.
 fn agree_behind(alloc: Global, cie: &[u8]) -> Result<(), Fail> {
     let pair = pair_of(cie, FDE, 0x1000, PLAIN, LITTLE)?;
-    agree_twice(alloc, &mut RowWalk::new(alloc, LITTLE), pair)
+    let mut walk = RowWalk::new(alloc, LITTLE);
+    let answer = agree_twice(alloc, &mut walk, pair);
+    drop(walk);
+    answer
 }
 
 #[test]

@@ -98,33 +98,38 @@ fn print_pieces(
 }
 
 // Evaluates or locates, without a frame base, a CFA or an object.
-fn evaluated(rt: &impl Calls, call: &str, dump: &mut Dump, block: &[u8]) -> Result<(), Fail> {
-    let list = decode(rt.alloc(), block, TARGET, Profile::Location)?;
+fn print_answer(rt: &impl Calls, call: &str, dump: &mut Dump, list: &OpList<'_>) -> io::Result<()> {
     let env = Env {
-        target: TARGET,
+        target: list.target(),
         registers: &dump.registers,
         frame_base: None,
         cfa: None,
         object: None,
     };
-    let memory = &mut dump.memory;
     if call == "evaluate" {
-        print_value(rt, &list, &env, memory)?;
-    } else {
-        print_pieces(rt, &list, &env, memory)?;
+        return print_value(rt, list, &env, &mut dump.memory);
     }
+    print_pieces(rt, list, &env, &mut dump.memory)
+}
+
+// The same of a block, and a read behind it.
+fn evaluated(rt: &impl Calls, call: &str, dump: &mut Dump, block: &[u8]) -> Result<(), Fail> {
+    let list = decode(rt.alloc(), block, TARGET, Profile::Location)?;
+    print_answer(rt, call, dump, &list)?;
     Ok(read(rt, &mut dump.memory)?)
+}
+
+fn each(rt: &impl Calls, call: &str, dump: &mut Dump, blocks: &[&[u8]]) -> Result<(), Fail> {
+    for block in blocks {
+        evaluated(rt, call, dump, block)?;
+    }
+    Ok(())
 }
 
 pub fn all(rt: &impl Calls, call: &str) -> Result<(), Fail> {
     let mut dump = Dump::parse(rt.alloc(), OVER, TARGET)?;
-    let blocks: &[&[u8]] = if call == "evaluate" {
-        &EXPRESSIONS
-    } else {
-        &LOCATIONS
-    };
-    for block in blocks {
-        evaluated(rt, call, &mut dump, block)?;
+    if call == "evaluate" {
+        return each(rt, call, &mut dump, &EXPRESSIONS);
     }
-    Ok(())
+    each(rt, call, &mut dump, &LOCATIONS)
 }

@@ -68,15 +68,11 @@ fn frames_of(
     index: &[Ranged],
     dump: &mut Dump,
 ) -> Result<(), Fail> {
-    print_frames(
-        rt,
-        bytes,
-        target,
-        index,
-        &mut RowRoom::new(rt.alloc()),
-        &mut FrameRoom::new(rt.alloc()),
-        dump,
-    )
+    let (mut rows, mut room) = (RowRoom::new(rt.alloc()), FrameRoom::new(rt.alloc()));
+    let answer = print_frames(rt, bytes, target, index, &mut rows, &mut room, dump);
+    drop(rows);
+    drop(room);
+    answer
 }
 
 // Makes a dump, and by it the frames, where they are wanted.

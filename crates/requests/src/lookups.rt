@@ -106,14 +106,10 @@ fn sum_of<'a>(
 
 fn print_sum(rt: &impl Calls, table: &Table<'_>, count: u64, with_rules: bool) -> Result<(), Fail> {
     let fdes: Vec<Fde> = table.fdes().collect(rt.alloc())?;
-    let sum = sum_of(
-        table,
-        &mut RowRoom::new(rt.alloc()),
-        &fdes,
-        count,
-        with_rules,
-    )?;
-    Ok(println!(rt; "lookups={count} sum={sum:016x}")?)
+    let mut room = RowRoom::new(rt.alloc());
+    let sum = sum_of(table, &mut room, &fdes, count, with_rules);
+    drop(room);
+    Ok(println!(rt; "lookups={count} sum={:016x}", sum?)?)
 }
 
 /// Makes so many look-ups of covered addresses, and prints a sum of what they found: of the CFA, or of all rules. Those of no

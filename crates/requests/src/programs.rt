@@ -106,7 +106,9 @@ fn each_row(rt: &impl Calls, entry: Entry<'_>, begin: u64, target: Target) -> Re
 {
     let (cie, factors) = (entry.cie, entry.factors);
     let mut steps = RowSteps::new(rt.alloc(), cie, entry.program, begin, factors, target);
-    each_next(rt, &mut steps)
+    let answer = each_next(rt, &mut steps);
+    drop(steps);
+    answer
 }
 
 fn next_lent(rt: &impl Calls, walk: &mut RowWalk<'_>) -> Result<(), Fail> {
@@ -149,7 +151,9 @@ fn lent_rows(rt: &impl Calls, entry: Entry<'_>, begin: u64, target: Target) -> R
 {
     let mut walk = RowWalk::new(rt.alloc(), target);
     walk.lead(entry.cie, entry.factors, target);
-    walk_twice(rt, &mut walk, entry.program, begin)
+    let answer = walk_twice(rt, &mut walk, entry.program, begin);
+    drop(walk);
+    answer
 }
 
 // Whether one of the first 16 addresses of an FDE lacks a rule for the CFA.
@@ -186,7 +190,9 @@ fn lacking(rt: &impl Calls, entry: Entry<'_>, begin: u64, target: Target) -> Res
 {
     let mut walk = RowWalk::new(rt.alloc(), target);
     walk.lead(entry.cie, entry.factors, target);
-    lacks_twice(rt, &mut walk, entry.program, begin)
+    let answer = lacks_twice(rt, &mut walk, entry.program, begin);
+    drop(walk);
+    answer
 }
 
 fn print_initial(rt: &impl Calls, entry: Entry<'_>, target: Target) -> Result<(), Fail> {

@@ -80,7 +80,10 @@ fn each_change(rt: &impl Calls, changes: &mut Changes<'_>) -> Result<(), Fail> {
 pub fn all_changes(rt: &impl Calls, bytes: &[u8], target: Target) -> Result<(), Fail> {
     let table = check(rt.alloc(), bytes, target)?;
     for place in 0..table.fde_count() {
-        each_change(rt, &mut table.changes(FdeRef { place }))?;
+        let mut changes = table.changes(FdeRef { place });
+        let answer = each_change(rt, &mut changes);
+        drop(changes);
+        answer?;
     }
     Ok(())
 }

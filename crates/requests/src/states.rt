@@ -13,7 +13,9 @@ use std::test::Fail;
 fn set<'a>(rt: &impl Calls, row: &mut Row<'a>, register: u16, rule: RegRule<'a>) -> io::Result<()> {
     let before = row.copied()?;
     let answer = row.set(register, rule);
-    if answer.is_err() && !row.is_same(&before) {
+    let is_changed = answer.is_err() && !row.is_same(&before);
+    drop(before);
+    if is_changed {
         println!(rt; "changed")?;
     }
     answer?;
@@ -68,7 +70,10 @@ fn from<'a>(
     tracked: bool,
     expression: &ExprRef<'a>,
 ) -> io::Result<()> {
-    go_back(rt, &mut States::new(rt.alloc(), row, tracked), expression)
+    let mut states = States::new(rt.alloc(), row, tracked);
+    let answer = go_back(rt, &mut states, expression);
+    drop(states);
+    answer
 }
 
 // From a row that is filled, and from a copy of it.

@@ -1,6 +1,7 @@
 //! The worked cases of `expr` and `eval`.
 
-use crate::runs::{Case, all_answer, answers};
+use crate::runs::{Case, all_answer, expect};
+use std::alloc::Global;
 use std::test::Fail;
 
 // A block at size 8 and order little: the words, the status, and the text that is printed.
@@ -51,13 +52,24 @@ const BLOCKS: [(&str, u8, &str); 24] = [
     ),
 ];
 
+// Fails where a subcommand prints another text, on `out` with the status 0 and on `err` with others.
+fn prints(
+    alloc: Global,
+    subcommand: &str,
+    words: &str,
+    dump: &[u8],
+    status: u8,
+    text: &str,
+) -> Result<(), Fail> {
+    let line = format!(in alloc; "dwframe {subcommand} --size 8 --order little {words}")?;
+    let (out, err) = if status == 0 { (text, "") } else { ("", text) };
+    expect(alloc, &line, (dump, b""), status, out.as_bytes(), err)
+}
+
 #[test]
 fn prints_operations(rt: HostRuntime) -> Result<(), Fail> {
-    for (words, status, text) in BLOCKS {
-        let line = format!(in rt.alloc(); "dwframe expr --size 8 --order little {words}")?;
-        let (out, err) = if status == 0 { (text, "") } else { ("", text) };
-        let answer = answers(rt.alloc(), &line, b"".as_slice(), out, err)?;
-        assert_eq!(rt; answer, (status, true, true), "{words}");
+    for (words, status, text) in &BLOCKS {
+        prints(rt.alloc(), "expr", words, b"", *status, text)?;
     }
     Ok(())
 }
@@ -153,11 +165,8 @@ const EVALUATIONS: [(&str, &str, u8, &str); 25] = [
 
 #[test]
 fn evaluates(rt: HostRuntime) -> Result<(), Fail> {
-    for (words, dump, status, text) in EVALUATIONS {
-        let line = format!(in rt.alloc(); "dwframe eval --size 8 --order little {words}")?;
-        let (out, err) = if status == 0 { (text, "") } else { ("", text) };
-        let answer = answers(rt.alloc(), &line, dump.as_bytes(), out, err)?;
-        assert_eq!(rt; answer, (status, true, true), "{words}");
+    for (words, dump, status, text) in &EVALUATIONS {
+        prints(rt.alloc(), "eval", words, dump.as_bytes(), *status, text)?;
     }
     Ok(())
 }

@@ -1,6 +1,6 @@
 //! The worked cases of `unwind`.
 
-use crate::runs::{DUMP, PLAIN, answers_of_two};
+use crate::runs::{DUMP, PLAIN, expect};
 use dw_command::Failure;
 use dw_eval::Kind;
 use dw_unwind::{Column, UnwindError};
@@ -23,121 +23,123 @@ const ENDLESS: &[u8] =
 
 const LINE: &str = "dwframe unwind --size 8 --order little --default";
 
+const FRAMES: [(&str, &[u8], &[u8], &str); 4] = [
+    (
+        "same",
+        PLAIN,
+        DUMP,
+        "cfa 0x7ffe10\nra r16\nr6 0x200\nr7 0x7ffdf0\nr16 0x401288\n",
+    ),
+    (
+        "undefined",
+        PLAIN,
+        DUMP,
+        "cfa 0x7ffe10\nra r16\nr6 0x200\nr7 undefined\nr16 0x401288\n",
+    ),
+    (
+        "same",
+        RULES,
+        b"pc 0x1000\nr3 0x33\nr7 0x2000",
+        "cfa 0x2008\nra r16\nr3 0x2000\nr5 0x2009\nr6 0x33\nr7 0x2000\nr16 undefined\n",
+    ),
+    (
+        "same",
+        PLAIN,
+        b"pc 0x401000\nr7 0x7ffdf0\nmem 0x7ffdf0 8812400000000000",
+        "cfa 0x7ffdf8\nra r16\nr7 0x7ffdf0\nr16 0x401288\n",
+    ),
+];
+
 #[test]
 fn unwinds(rt: HostRuntime) -> Result<(), Fail> {
-    let rows = [
-        (
-            "same",
-            PLAIN,
-            DUMP,
-            "cfa 0x7ffe10\nra r16\nr6 0x200\nr7 0x7ffdf0\nr16 0x401288\n",
-        ),
-        (
-            "undefined",
-            PLAIN,
-            DUMP,
-            "cfa 0x7ffe10\nra r16\nr6 0x200\nr7 undefined\nr16 0x401288\n",
-        ),
-        (
-            "same",
-            RULES,
-            b"pc 0x1000\nr3 0x33\nr7 0x2000".as_slice(),
-            "cfa 0x2008\nra r16\nr3 0x2000\nr5 0x2009\nr6 0x33\nr7 0x2000\nr16 undefined\n",
-        ),
-        (
-            "same",
-            PLAIN,
-            b"pc 0x401000\nr7 0x7ffdf0\nmem 0x7ffdf0 8812400000000000".as_slice(),
-            "cfa 0x7ffdf8\nra r16\nr7 0x7ffdf0\nr16 0x401288\n",
-        ),
-    ];
-    for (words, section, dump, wanted) in rows {
+    for (words, section, dump, wanted) in &FRAMES {
         let line = format!(in rt.alloc(); "{LINE} {words} in second")?;
-        let answer = answers_of_two(rt.alloc(), &line, section, dump, wanted, "")?;
-        assert_eq!(rt; answer, (0, true, true), "{words}");
+        let files = (*section, *dump);
+        expect(rt.alloc(), &line, files, 0, wanted.as_bytes(), "")?;
     }
     Ok(())
 }
 
+const FAULTS: [(&str, &[u8], &str, u8, &str); 15] = [
+    ("same in second", PLAIN, "pc 0x401010", 2, "fault: NoFde\n"),
+    ("same in second", PLAIN, "", 2, "fault: NoPc\n"),
+    (
+        "same in second",
+        PLAIN,
+        "pc 0x401000",
+        2,
+        "fault: NoRegister in cfa\n",
+    ),
+    (
+        "same in second",
+        PLAIN,
+        "pc 0x401000\nr7 0x0",
+        2,
+        "fault: Unreadable in r16\n",
+    ),
+    // the last byte of the memory is missing
+    (
+        "same in second",
+        PLAIN,
+        "pc 0x401004\nr6 0x7ffe00\nr7 0x7ffdf0\nmem 0x7ffe00 000200000000000088124000000000",
+        2,
+        "fault: Unreadable in r16\n",
+    ),
+    (
+        "same in second",
+        RULES,
+        "pc 0x1000\nr7 0x2000",
+        2,
+        "fault: NoRegister in r6\n",
+    ),
+    (
+        "same in second",
+        EMPTY_VALUE,
+        "pc 0x1000\nr7 0x2000",
+        2,
+        "fault: EmptyResult at 1 in r5\n",
+    ),
+    (
+        "same --steps 1000 in second",
+        ENDLESS,
+        "pc 0x1000",
+        2,
+        "fault: StepLimit at 0 in cfa\n",
+    ),
+    // The section is judged before the dump, and both before the pc is looked for.
+    (
+        "same second in",
+        PLAIN,
+        "f",
+        2,
+        "refused: Truncated at 0x0\n",
+    ),
+    (
+        "same in second",
+        PLAIN,
+        "f",
+        2,
+        "refused: BadLine at line 1\n",
+    ),
+    ("same in other", PLAIN, "", 4, "cannot read other\n"),
+    ("same other huge", PLAIN, "", 4, "cannot read other\n"),
+    ("same in huge", PLAIN, "", 5, "out of memory\n"),
+    ("other in huge", PLAIN, "", 3, "bad value for --default\n"),
+    (
+        "other --steps x in huge",
+        PLAIN,
+        "",
+        3,
+        "bad value for --steps\n",
+    ),
+];
+
 #[test]
 fn tells_why_there_is_no_frame(rt: HostRuntime) -> Result<(), Fail> {
-    let rows = [
-        ("same in second", PLAIN, "pc 0x401010", 2, "fault: NoFde\n"),
-        ("same in second", PLAIN, "", 2, "fault: NoPc\n"),
-        (
-            "same in second",
-            PLAIN,
-            "pc 0x401000",
-            2,
-            "fault: NoRegister in cfa\n",
-        ),
-        (
-            "same in second",
-            PLAIN,
-            "pc 0x401000\nr7 0x0",
-            2,
-            "fault: Unreadable in r16\n",
-        ),
-        // the last byte of the memory is missing
-        (
-            "same in second",
-            PLAIN,
-            "pc 0x401004\nr6 0x7ffe00\nr7 0x7ffdf0\nmem 0x7ffe00 000200000000000088124000000000",
-            2,
-            "fault: Unreadable in r16\n",
-        ),
-        (
-            "same in second",
-            RULES,
-            "pc 0x1000\nr7 0x2000",
-            2,
-            "fault: NoRegister in r6\n",
-        ),
-        (
-            "same in second",
-            EMPTY_VALUE,
-            "pc 0x1000\nr7 0x2000",
-            2,
-            "fault: EmptyResult at 1 in r5\n",
-        ),
-        (
-            "same --steps 1000 in second",
-            ENDLESS,
-            "pc 0x1000",
-            2,
-            "fault: StepLimit at 0 in cfa\n",
-        ),
-        // The section is judged before the dump, and both before the pc is looked for.
-        (
-            "same second in",
-            PLAIN,
-            "f",
-            2,
-            "refused: Truncated at 0x0\n",
-        ),
-        (
-            "same in second",
-            PLAIN,
-            "f",
-            2,
-            "refused: BadLine at line 1\n",
-        ),
-        ("same in other", PLAIN, "", 4, "cannot read other\n"),
-        ("same other huge", PLAIN, "", 4, "cannot read other\n"),
-        ("same in huge", PLAIN, "", 5, "out of memory\n"),
-        ("other in huge", PLAIN, "", 3, "bad value for --default\n"),
-        (
-            "other --steps x in huge",
-            PLAIN,
-            "",
-            3,
-            "bad value for --steps\n",
-        ),
-    ];
-    for (words, section, dump, status, wanted) in rows {
+    for (words, section, dump, status, wanted) in &FAULTS {
         let line = format!(in rt.alloc(); "{LINE} {words}")?;
-        let answer = answers_of_two(rt.alloc(), &line, section, dump.as_bytes(), "", wanted)?;
-        assert_eq!(rt; answer, (status, true, true), "{words} {dump}");
+        let files = (*section, dump.as_bytes());
+        expect(rt.alloc(), &line, files, *status, b"", wanted)?;
     }
     Ok(())
 }

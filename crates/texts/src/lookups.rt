@@ -1,8 +1,7 @@
 //! The subcommand `at`: addresses of the words and of standard input.
 
 use crate::outputs::failing_output_is_told;
-use crate::runs::{Case, LEFTOVERS, PLAIN, SCRAMBLED, all_answer, answers_of_two};
-use std::alloc::Global;
+use crate::runs::{Case, LEFTOVERS, PLAIN, SCRAMBLED, all_answer, expect};
 use std::test::Fail;
 
 // The size 4 and the order big: a code factor of 4 and a data factor of -4.
@@ -133,14 +132,6 @@ const LINES: [(&[u8], u8, &str, &str); 8] = [
 
 const FROM_LINES: &str = "dwframe at --size 8 --order little in";
 
-fn lines_answer(alloc: Global, lines: &[u8], wanted: (u8, &str, &str)) -> Result<(), Fail> {
-    let (status, out, err) = wanted;
-    if answers_of_two(alloc, FROM_LINES, PLAIN, lines, out, err)? != (status, true, true) {
-        return Err(Fail::new(format_args!("{out}{err}")));
-    }
-    Ok(())
-}
-
 #[test]
 fn answers_addresses_of_words(rt: HostRuntime) -> Result<(), Fail> {
     all_answer(rt.alloc(), &WORDS)
@@ -148,25 +139,16 @@ fn answers_addresses_of_words(rt: HostRuntime) -> Result<(), Fail> {
 
 #[test]
 fn answers_addresses_of_lines(rt: HostRuntime) -> Result<(), Fail> {
-    for (lines, status, out, err) in LINES {
-        lines_answer(rt.alloc(), lines, (status, out, err))?;
+    for (lines, status, out, err) in &LINES {
+        let files = (PLAIN, *lines);
+        expect(rt.alloc(), FROM_LINES, files, *status, out.as_bytes(), err)?;
     }
     // the section is judged first, and lines are not read where the words have an address
-    let refused = b"\xf0\xff\xff\xff".as_slice();
-    let wrong = b"wrong".as_slice();
-    let first = answers_of_two(
-        rt.alloc(),
-        FROM_LINES,
-        refused,
-        wrong,
-        "",
-        "refused: ReservedLength at 0x0\n",
-    )?;
-    assert_eq!(rt; first, (2, true, true));
+    let (refused, wrong) = (b"\xf0\xff\xff\xff".as_slice(), b"wrong".as_slice());
+    let told = "refused: ReservedLength at 0x0\n";
+    expect(rt.alloc(), FROM_LINES, (refused, wrong), 2, b"", told)?;
     let line = "dwframe at --size 8 --order little in 0x401001";
-    let unread = answers_of_two(rt.alloc(), line, PLAIN, wrong, ONE, "")?;
-    assert_eq!(rt; unread, (0, true, true));
-    Ok(())
+    expect(rt.alloc(), line, (PLAIN, wrong), 0, ONE.as_bytes(), "")
 }
 
 #[test]

@@ -120,6 +120,21 @@ pub(crate) fn answers_in_bytes(
     Ok((status, out_is, err_is))
 }
 
+// Fails where a run over two files answers otherwise.
+pub(crate) fn expect(
+    alloc: Global,
+    line: &str,
+    files: (&[u8], &[u8]),
+    status: u8,
+    out: &[u8],
+    err: &str,
+) -> Result<(), Fail> {
+    if answers_in_bytes(alloc, line, files, out, err)? != (status, true, true) {
+        return Err(Fail::new(format_args!("{line}: {err}")));
+    }
+    Ok(())
+}
+
 // A run: its words, the bytes of the file `in`, its status, and the texts on both outputs.
 pub(crate) type Case<'a> = (&'a str, &'a [u8], u8, &'a str, &'a str);
 
@@ -127,16 +142,23 @@ pub(crate) type Case<'a> = (&'a str, &'a [u8], u8, &'a str, &'a str);
 pub(crate) fn all_answer(alloc: Global, cases: &[Case<'_>]) -> Result<(), Fail> {
     for case in cases {
         let (line, bytes, status, out, err) = *case;
-        if answers(alloc, line, bytes, out, err)? != (status, true, true) {
-            return Err(Fail::new(format_args!("{line}")));
-        }
+        expect(alloc, line, (bytes, b""), status, out.as_bytes(), err)?;
     }
     Ok(())
 }
 
-// Fails at the first beginning from one length to another that is not answered so.
-fn beginnings_answer(alloc: Global, case: Case<'_>, first: usize, last: usize) -> Result<(), Fail> {
-    let (line, bytes, status, out, err) = case;
+// The first and the last length of beginnings of a section, the words of the runs over them, the section, and what is printed.
+type Beginnings<'a> = (usize, usize, &'a str, &'a [u8], &'a str);
+
+// Fails at the first beginning that is answered otherwise.
+fn beginnings_answer(alloc: Global, row: Beginnings<'_>) -> Result<(), Fail> {
+    let (first, last, line, bytes, text) = row;
+    let is_refused = text.starts_with("refused");
+    let (status, out, err) = if is_refused {
+        (2, "", text)
+    } else {
+        (0, text, "")
+    };
     for len in first..=last {
         let bytes = bytes.get(..len).ok_or("a beginning")?;
         if answers(alloc, line, bytes, out, err)? != (status, true, true) {
@@ -150,80 +172,31 @@ pub(crate) const ENTRIES: &str = "dwframe entries --size 8 --order little in";
 
 pub(crate) const CHECK: &str = "dwframe check --size 8 --order little in";
 
-// Beginnings of sections by their lengths.
-const BEGINNINGS: [(usize, usize, Case<'static>); 18] = [
-    (0, 0, (ENTRIES, PLAIN, 0, "", "")),
-    (1, 3, (ENTRIES, PLAIN, 2, "", "refused: Truncated at 0x0\n")),
-    (
-        4,
-        23,
-        (ENTRIES, PLAIN, 2, "", "refused: EntryPastEnd at 0x0\n"),
-    ),
-    (24, 24, (ENTRIES, PLAIN, 0, "0x0 cie 32 20\n", "")),
-    (
-        25,
-        27,
-        (ENTRIES, PLAIN, 2, "", "refused: Truncated at 0x18\n"),
-    ),
-    (
-        28,
-        63,
-        (ENTRIES, PLAIN, 2, "", "refused: EntryPastEnd at 0x18\n"),
-    ),
-    (0, 0, (CHECK, PLAIN, 0, "ok cies=0 fdes=0 bytes=0\n", "")),
-    (1, 3, (CHECK, PLAIN, 2, "", "refused: Truncated at 0x0\n")),
-    (
-        4,
-        23,
-        (CHECK, PLAIN, 2, "", "refused: EntryPastEnd at 0x0\n"),
-    ),
-    (24, 24, (CHECK, PLAIN, 0, "ok cies=1 fdes=0 bytes=24\n", "")),
-    (
-        25,
-        27,
-        (CHECK, PLAIN, 2, "", "refused: Truncated at 0x18\n"),
-    ),
-    (
-        28,
-        63,
-        (CHECK, PLAIN, 2, "", "refused: EntryPastEnd at 0x18\n"),
-    ),
-    (
-        0,
-        0,
-        (CHECK, SCRAMBLED, 0, "ok cies=0 fdes=0 bytes=0\n", ""),
-    ),
-    (
-        1,
-        3,
-        (CHECK, SCRAMBLED, 2, "", "refused: Truncated at 0x0\n"),
-    ),
-    (
-        4,
-        39,
-        (CHECK, SCRAMBLED, 2, "", "refused: EntryPastEnd at 0x0\n"),
-    ),
-    (
-        40,
-        40,
-        (CHECK, SCRAMBLED, 2, "", "refused: NoSuchCie at 0x4\n"),
-    ),
-    (
-        41,
-        51,
-        (CHECK, SCRAMBLED, 2, "", "refused: Truncated at 0x28\n"),
-    ),
-    (
-        52,
-        71,
-        (CHECK, SCRAMBLED, 2, "", "refused: EntryPastEnd at 0x28\n"),
-    ),
+const BEGINNINGS: [Beginnings<'static>; 18] = [
+    (0, 0, ENTRIES, PLAIN, ""),
+    (1, 3, ENTRIES, PLAIN, "refused: Truncated at 0x0\n"),
+    (4, 23, ENTRIES, PLAIN, "refused: EntryPastEnd at 0x0\n"),
+    (24, 24, ENTRIES, PLAIN, "0x0 cie 32 20\n"),
+    (25, 27, ENTRIES, PLAIN, "refused: Truncated at 0x18\n"),
+    (28, 63, ENTRIES, PLAIN, "refused: EntryPastEnd at 0x18\n"),
+    (0, 0, CHECK, PLAIN, "ok cies=0 fdes=0 bytes=0\n"),
+    (1, 3, CHECK, PLAIN, "refused: Truncated at 0x0\n"),
+    (4, 23, CHECK, PLAIN, "refused: EntryPastEnd at 0x0\n"),
+    (24, 24, CHECK, PLAIN, "ok cies=1 fdes=0 bytes=24\n"),
+    (25, 27, CHECK, PLAIN, "refused: Truncated at 0x18\n"),
+    (28, 63, CHECK, PLAIN, "refused: EntryPastEnd at 0x18\n"),
+    (0, 0, CHECK, SCRAMBLED, "ok cies=0 fdes=0 bytes=0\n"),
+    (1, 3, CHECK, SCRAMBLED, "refused: Truncated at 0x0\n"),
+    (4, 39, CHECK, SCRAMBLED, "refused: EntryPastEnd at 0x0\n"),
+    (40, 40, CHECK, SCRAMBLED, "refused: NoSuchCie at 0x4\n"),
+    (41, 51, CHECK, SCRAMBLED, "refused: Truncated at 0x28\n"),
+    (52, 71, CHECK, SCRAMBLED, "refused: EntryPastEnd at 0x28\n"),
 ];
 
 #[test]
 fn answers_beginnings(rt: HostRuntime) -> Result<(), Fail> {
-    for (first, last, case) in BEGINNINGS {
-        beginnings_answer(rt.alloc(), case, first, last)?;
+    for row in &BEGINNINGS {
+        beginnings_answer(rt.alloc(), *row)?;
     }
     Ok(())
 }
@@ -388,22 +361,15 @@ fn is_told(alloc: Global, line: &str) -> Result<bool, AllocError> {
 
 #[test]
 fn tells_wrong_words(rt: HostRuntime) -> Result<(), Fail> {
-    for line in WRONG {
+    for line in &WRONG {
         assert!(rt; is_told(rt.alloc(), line)?, "{line}");
     }
     for line in ["dwframe --help", "dwframe help rows", "dwframe eval -h"] {
         let help = answers(rt.alloc(), line, PLAIN, "", "")?;
         assert_eq!(rt; help, (0, false, true), "{line}");
     }
-    let version = answers(
-        rt.alloc(),
-        "dwframe --version",
-        PLAIN,
-        "dwframe 0.1.0\n",
-        "",
-    )?;
-    assert_eq!(rt; version, (0, true, true));
-    Ok(())
+    let (line, files) = ("dwframe --version", (PLAIN, DUMP));
+    expect(rt.alloc(), line, files, 0, b"dwframe 0.1.0\n", "")
 }
 
 // The hint that a file gets.

@@ -319,9 +319,9 @@ fn both_answer(
 
 #[test]
 fn answers_fdes(rt: HostRuntime) -> Result<(), Fail> {
-    for (name, fdes, counts, rows) in SOUND {
+    for (name, fdes, counts, rows) in &SOUND {
         let section = joined(rt.alloc(), CIE, fdes)?;
-        let good = both_answer(rt.alloc(), &section, 0, (counts, rows), "")?;
+        let good = both_answer(rt.alloc(), &section, 0, (*counts, *rows), "")?;
         assert!(rt; good, "{name}");
     }
     Ok(())
@@ -329,7 +329,7 @@ fn answers_fdes(rt: HostRuntime) -> Result<(), Fail> {
 
 #[test]
 fn refuses_sections(rt: HostRuntime) -> Result<(), Fail> {
-    for (name, front, back, wanted) in REFUSED {
+    for (name, front, back, wanted) in &REFUSED {
         let section = joined(rt.alloc(), front, back)?;
         let good = both_answer(rt.alloc(), &section, 2, ("", ""), wanted)?;
         assert!(rt; good, "{name}");

@@ -1,7 +1,7 @@
 //! Worked normal forms, by `normal` and `same`.
 
 use crate::notation::{put_fde, section_of};
-use crate::runs::answers_in_bytes;
+use crate::runs::{answers_in_bytes, expect};
 use std::alloc::Global;
 use std::test::Fail;
 
@@ -224,8 +224,8 @@ fn has_form(alloc: Global, target: &str, case: Form) -> Result<(), Fail> {
 
 #[test]
 fn writes_worked_forms(rt: HostRuntime) -> Result<(), Fail> {
-    for case in FORMS {
-        has_form(rt.alloc(), LITTLE, case)?;
+    for case in &FORMS {
+        has_form(rt.alloc(), LITTLE, *case)?;
     }
     has_form(rt.alloc(), "--size 4 --order big", BIG)
 }
@@ -298,8 +298,8 @@ fn are_compared(alloc: Global, pair: Pair) -> Result<(), Fail> {
 
 #[test]
 fn compares_worked_sections(rt: HostRuntime) -> Result<(), Fail> {
-    for pair in PAIRS {
-        are_compared(rt.alloc(), pair)?;
+    for pair in &PAIRS {
+        are_compared(rt.alloc(), *pair)?;
     }
     Ok(())
 }
@@ -330,11 +330,8 @@ fn writes_much_from_a_little(rt: HostRuntime) -> Result<(), Fail> {
     let files = (section.as_slice(), b"".as_slice());
     let line = "dwframe normal --size 8 --order little in --cap";
     let enough = format!(in alloc; "{line} 25024")?;
-    let answer = answers_in_bytes(alloc, &enough, files, &form, "")?;
-    assert_eq!(rt; answer, (0, true, true));
+    expect(alloc, &enough, files, 0, &form, "")?;
     let short = format!(in alloc; "{line} 25023")?;
     let refused = "refused: NormalTooLong at 0x0\n";
-    let answer = answers_in_bytes(alloc, &short, files, b"", refused)?;
-    assert_eq!(rt; answer, (2, true, true));
-    Ok(())
+    expect(alloc, &short, files, 2, b"", refused)
 }

@@ -272,7 +272,7 @@ fn both_answer(
 
 #[test]
 fn accepts_worked_sections(rt: HostRuntime) -> Result<(), Fail> {
-    for case in ACCEPTED {
+    for case in &ACCEPTED {
         let texts = (case.counts, case.rows);
         both_answer(rt.alloc(), (case.name, case.section), 0, texts, "")?;
     }
@@ -282,7 +282,7 @@ fn accepts_worked_sections(rt: HostRuntime) -> Result<(), Fail> {
 #[test]
 fn refuses_worked_sections(rt: HostRuntime) -> Result<(), Fail> {
     let alloc = rt.alloc();
-    for case in REFUSED {
+    for case in &REFUSED {
         let fault = format!(in alloc; "refused: {}\n", case.fault)?;
         both_answer(alloc, (case.name, case.section), 2, ("", ""), &fault)?;
     }

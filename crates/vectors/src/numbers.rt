@@ -166,14 +166,14 @@ fn unit_length(bytes: &'static [u8]) -> Result<UnitLength, Refusal> {
 
 #[test]
 fn leb_numbers(rt: HostRuntime) {
-    for (bytes, wanted, left) in ULEBS {
-        assert!(rt; uleb(bytes) == (wanted.map_err(at_front), left));
+    for (bytes, wanted, left) in &ULEBS {
+        assert!(rt; uleb(bytes) == (wanted.map_err(at_front), *left));
     }
-    for (bytes, wanted, left) in SLEBS {
-        assert!(rt; sleb(bytes) == (wanted.map_err(at_front), left));
+    for (bytes, wanted, left) in &SLEBS {
+        assert!(rt; sleb(bytes) == (wanted.map_err(at_front), *left));
     }
-    for (bytes, wanted, left) in REGISTERS {
-        assert!(rt; register(bytes) == (wanted.map_err(at_front), left));
+    for (bytes, wanted, left) in &REGISTERS {
+        assert!(rt; register(bytes) == (wanted.map_err(at_front), *left));
     }
 }
 
@@ -200,11 +200,11 @@ fn is_unsigned(alloc: Global, value: u64, spelling: &'static [u8]) -> Result<boo
 
 #[test]
 fn spellings(rt: HostRuntime) -> Result<(), Fail> {
-    for (value, spelling) in SIGNED {
-        assert!(rt; is_signed(rt.alloc(), value, spelling)?);
+    for (value, spelling) in &SIGNED {
+        assert!(rt; is_signed(rt.alloc(), *value, spelling)?);
     }
-    for (value, spelling) in UNSIGNED {
-        assert!(rt; is_unsigned(rt.alloc(), value, spelling)?);
+    for (value, spelling) in &UNSIGNED {
+        assert!(rt; is_unsigned(rt.alloc(), *value, spelling)?);
     }
     Ok(())
 }
