@@ -1,5 +1,5 @@
 -- What is refused where an entry stands is its first fault.
-use Rattle.dw_section.specs.{declared.{standing_fde.LookUpError.{LookUpError, TheVariants.{Refused, BadIndex, OutOfMemory}}, entry.Placed.Placed}, Inner.{StandingFde.of_steps, Pieces.{IsPlaced, item_of}, Reads.Gives}, StandingFde.ItemFault}
+use Rattle.dw_section.specs.{declared.entry.Placed.Placed, Inner.{StandingFde.of_steps, Pieces.{IsPlaced, item_of}, Reads.Gives}, StandingFde.ItemFault}
 use Rattle.dw_section.proofs.Words.{◌≡◌, ℕ, ◌+◌, ◌≤◌, List, [], ◌∷◌, length, drop, take, Some, Err, refl, sym, subst, ◌∙◌, inl, inr, None, take-append-drop, NoSuchCie, Refusal, ReadError, Refuses, Outcome, Target, Input, input_of}
 use Rattle.dw_section.proofs.Words.{Piece, id_width, Head, Has, FdeStuck, cie_at, fde_at, fixed_only, BothStuck, NamesCieAt, RefusesAs, StandsAs, ◌<◌, Option, Result, Ok, ap, arith, IfOk, IfErr, IfSome, MatchOption, MatchResult}
 use Rattle.dw_section.proofs.Words.{length-drop, Read, AreBytes, span_of, address_limit, FoundFde, Item, IsWithin, item_at, cie_fields, fde_fields, StandsIn, RunsSo, run_within, refused_where_fault, one_run, FoundStands, entry_in}
@@ -26,11 +26,6 @@ named_stuck target s own named at h r stands has stuck =
     inr (has_fde target (named.at ∷ []) own h (subst (λ (n : ℕ). Has target (n ∷ []) own h) (sym stands.2) has), (stands.1, cie_faulty target named r stuck))
 
 -- ---- errors
-
-pub refuses_more : (P Q : Refusal → Type 0) (e : LookUpError) → ((r : Refusal) → P r → Q r) → RefusesAs P e → RefusesAs Q e
-refuses_more P Q (Refused r) f h = f r h
-refuses_more P Q BadIndex f h = tt
-refuses_more P Q OutOfMemory f h = tt
 
 pub refuses_so : (P Q : Refusal → Type 0) (e : ReadError) → ((r : Refusal) → P r → Q r) → Refuses P e → RefusesAs Q (of_steps e)
 refuses_so P Q (reading.Refused r) f h = f r h

@@ -48,9 +48,6 @@ limit_is : (size : Size) → address_limit size ≡ 256 ^ byte_count size
 limit_is Four = refl
 limit_is Eight = refl
 
-is_address : (target : Target) (a : ℕ) → a < address_limit target.size → Fixed target.order (byte_count target.size) a (fixed_bytes target.order (byte_count target.size) a)
-is_address target a lt = record { bytes = refl; fits = subst (λ (n : ℕ). a < n) (limit_is target.size) lt }
-
 byte_spelled : (order : Order) (n : ℕ) → n < 256 → Fixed order 1 n (n ∷ [])
 byte_spelled Little n lt = record { bytes = ap (λ (x : ℕ). x ∷ []) (omega (arith, lt)); fits = omega (arith, lt) }
 byte_spelled Big n lt = record { bytes = ap (λ (x : ℕ). x ∷ []) (omega (arith, lt)); fits = omega (arith, lt) }
