@@ -17,8 +17,7 @@ fn is_unset(row: &Row<'_>) -> bool
     matches!(row.cfa_rule(), CfaRule::Unset)
 }
 
-// Whether a row that holds from `low` up to a location covers an address below the end. Out of line: rows seldom lack a
-// rule for the CFA.
+// Whether a row that holds from `low` up to a location covers an address below the end. Out of line: rows seldom lack a rule for the CFA.
 #[inline(never)]
 fn covers_one(end: u128, low: u128, location: u128) -> bool
     ensures { result ≡ leaves_one end low true location }

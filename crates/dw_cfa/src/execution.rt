@@ -14,8 +14,7 @@ use dw_row::Row;
 /// A row of the call frame table (6.4.1, 6.4.3), and the location that it starts at. It holds up to the location of the next row.
 #[derive(Clone, Debug, Drop, PartialEq, Eq)]
 pub struct LocatedRow<'a> {
-    /// Where it starts: `initial_location`, or what `DW_CFA_set_loc` and `DW_CFA_advance_loc` made of it. It is at most 2^N, where
-    /// an address has N bits.
+    /// Where it starts: `initial_location`, or what `DW_CFA_set_loc` and `DW_CFA_advance_loc` made of it. It is at most 2^N, where an address has N bits.
     pub location: u128,
     /// The rules from there on.
     pub row: Row<'a>,

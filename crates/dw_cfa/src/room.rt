@@ -129,8 +129,7 @@ impl<'a> RowRoom<'a> {
     /// Runs two programs (`initial_instructions`, `instructions`), from an address `begin` of the target on (`initial_location`
     /// of the FDE where its row is asked for), by the factors `code_alignment_factor` and `data_alignment_factor` of the CIE, up
     /// to the last row that starts at or below an address, which `row` lends then. `begin` is not above that address. A refusal
-    /// that comes up to there is answered, or want of memory (`OutOfMemory`). Refusals are those of `run`. Behind an error the
-    /// room holds some row.
+    /// that comes up to there is answered, or want of memory (`OutOfMemory`). Refusals are those of `run`. Behind an error the room holds some row.
     #[inline(always)]
     pub fn run_to(
         &mut self,

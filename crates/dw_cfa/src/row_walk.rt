@@ -168,8 +168,7 @@ impl<'a> RowWalk<'a> {
     }
 
     /// Runs the programs to their end, and says whether the rows still to come leave an address below an end without a rule for
-    /// the CFA (6.4.1, 6.4.2.2). No row is to come then. An error is a refusal of `run` or `OutOfMemory`, and is answered from then
-    /// on, until `go_to`.
+    /// the CFA (6.4.1, 6.4.2.2). No row is to come then. An error is a refusal of `run` or `OutOfMemory`, and is answered from then on, until `go_to`.
     pub fn lacks_rule(&mut self, end: u128) -> Result<bool, ReadError>
         requires { self.old.steps.error ≡ None }
         ensures found { IfOk result (λ lacks. (self.old.steps.outcome.fault ≡ None) ×
@@ -275,8 +274,7 @@ impl<'a> RowWalk<'a> {
         self.machine.states.next_difference(behind)
     }
 
-    /// The location (6.4.1) that the next row starts at, which is where the row that is lent ends. None behind the last row, and
-    /// after an error.
+    /// The location (6.4.1) that the next row starts at, which is where the row that is lent ends. None behind the last row, and after an error.
     pub fn next_start(&self) -> Option<u128>
         ensures next { (row : LocatedRow) (rows : List LocatedRow) → self.now.steps.outcome.rows ≡ row ∷ rows → result ≡ Some row.location }
         ensures last { self.now.steps.outcome ≡ finished → result ≡ None }
@@ -289,8 +287,7 @@ impl<'a> RowWalk<'a> {
     }
 
     /// Whether no row is to come, or rows are to come behind one that was gone on to and the CIE's row (that of its
-    /// `initial_instructions`, 6.4.1) specifies every register that a row specifies. Then each row still to come specifies them
-    /// too. Takes no memory.
+    /// `initial_instructions`, 6.4.1) specifies every register that a row specifies. Then each row still to come specifies them too. Takes no memory.
     #[tactic(auto, using(crate::proofs::StaySpecified::walk_keeps))]
     pub fn keeps(&self, row: &Row<'_>) -> bool
         ensures keeps { IsTrue result → AllKeep row.now self.now.steps.outcome.rows }

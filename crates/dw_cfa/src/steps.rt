@@ -30,8 +30,7 @@ impl<'a> Model for RowSteps<'a> {
 }
 
 impl<'a> RowSteps<'a> {
-    /// The rows of two programs, from an address `begin` of the target on. Takes no memory: the CIE's program
-    /// is run at the first `next`.
+    /// The rows of two programs, from an address `begin` of the target on. Takes no memory: the CIE's program is run at the first `next`.
     pub fn new(
         alloc: Global,
         cie_program: Program<'a>,
@@ -51,8 +50,7 @@ impl<'a> RowSteps<'a> {
     }
 
     /// Goes on to the next row, which `row` lends then, and answers the location that it starts at, or none behind
-    /// the last row. No row is copied. An error is a refusal or `OutOfMemory`, and is answered from then on. Refusals are those of
-    /// `run`.
+    /// the last row. No row is copied. An error is a refusal or `OutOfMemory`, and is answered from then on. Refusals are those of `run`.
     #[tactic(auto, using(crate::proofs::Walks::answered_again))]
     pub fn advance(&mut self) -> Result<Option<u128>, ReadError>
         ensures advances { Advances self.old result self.new }
@@ -68,8 +66,7 @@ impl<'a> RowSteps<'a> {
         self.walk.row()
     }
 
-    /// The next row, or none behind the last one. An error is a refusal or `OutOfMemory`, and is answered from then on. Refusals
-    /// are those of `run`.
+    /// The next row, or none behind the last one. An error is a refusal or `OutOfMemory`, and is answered from then on. Refusals are those of `run`.
     pub fn next(&mut self) -> Result<Option<LocatedRow<'a>>, ReadError>
         ensures answers { Answers self.old result self.new }
         ensures again { (e : ReadError) → self.old.error ≡ Some e → result ≡ Err e }

@@ -1,5 +1,4 @@
-//! One turn of the loop that runs a program: an opcode is read, and its instruction applied to what is kept while its
-//! operands are read.
+//! One turn of the loop that runs a program: an opcode is read, and its instruction applied to what is kept while its operands are read.
 
 ghost use Rattle.std.specs.Prelude.{◌<◌, ◌≤◌, length, false};
 ghost use Rattle.dw_num.specs.Target.{address_limit};

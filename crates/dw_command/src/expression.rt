@@ -43,8 +43,7 @@ fn put_lines<W: Write>(out: &mut Listing<W>, ops: &[Op<'_>])
     }
 }
 
-/// Prints a line for each operation of a block, and its least spelling. Nothing is printed where the block is
-/// refused.
+/// Prints a line for each operation of a block, and its least spelling. Nothing is printed where the block is refused.
 pub fn run_expr<'a, W: Write>(
     alloc: Global,
     target: Target,

@@ -292,8 +292,7 @@ impl<W: Write> Listing<W> {
         }
     }
 
-    /// An address or the end of a range, of up to 2 ^ 64, in hexadecimal digits, without leading zeros. Takes up to 17 bytes of
-    /// room, which must be left.
+    /// An address or the end of a range, of up to 2 ^ 64, in hexadecimal digits, without leading zeros. Takes up to 17 bytes of room, which must be left.
     #[tactic(auto, using(crate::proofs::Puts::in_room, crate::proofs::Puts::filled))]
     #[inline(always)]
     pub fn address(&mut self, address: u128)

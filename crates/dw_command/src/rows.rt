@@ -127,8 +127,7 @@ fn lines_in(addresses: &[u64]) -> Option<&'static str>
     addresses.is_empty().then_some(STDIN)
 }
 
-/// Prints the FDE that covers each address, and its rules there. Both files are read before the section and then the lines are
-/// judged.
+/// Prints the FDE that covers each address, and its rules there. Both files are read before the section and then the lines are judged.
 pub fn run_at<'a, L: Load, W: Write>(
     alloc: Global,
     target: Target,

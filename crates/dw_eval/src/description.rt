@@ -165,8 +165,7 @@ impl<'a> Description<'a> {
         self.pending.is_some() || self.stack.len() > 0
     }
 
-    /// The pieces at the end of a list of this length: one whole piece where there is none yet, and nothing
-    /// may be left behind pieces.
+    /// The pieces at the end of a list of this length: one whole piece where there is none yet, and nothing may be left behind pieces.
     pub(crate) fn finish(mut self, len: usize) -> Result<Vec<Piece<'a>>, EvalError>
         ensures { Finishes len self.entry result }
     {

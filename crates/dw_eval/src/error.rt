@@ -95,8 +95,7 @@ impl fmt::Display for Kind {
 /// Why an evaluation has no answer.
 #[derive(Clone, Copy, Debug, PartialEq, Eq, Error)]
 pub enum EvalError {
-    /// A fault. `kind` is what is wrong; `index` is that of the operation which it comes from, counted from 0, or the list's
-    /// length for a fault at the end.
+    /// A fault. `kind` is what is wrong; `index` is that of the operation which it comes from, counted from 0, or the list's length for a fault at the end.
     #[error("{kind} at operation {index}")]
     Fault { kind: Kind, index: usize },
     /// A request for memory was refused.

@@ -24,8 +24,7 @@ pub trait Memory {
     ghost failures: { Self → ℕ };
 
     /// The number that the bytes from an address on spell in an order, where all of them are there. `len` is
-    /// from 1 to 8. `Unreadable` says that a byte is missing; `Device` is answered exactly where the
-    /// count of failures grew.
+    /// from 1 to 8. `Unreadable` says that a byte is missing; `Device` is answered exactly where the count of failures grew.
     fn read(&mut self, address: u64, len: usize, order: Order) -> Result<u64, ReadFault>
         requires some { 1 ≤ len }
         requires most { len ≤ 8 }

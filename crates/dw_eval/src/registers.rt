@@ -136,8 +136,7 @@ impl Registers {
         value_of(&self.known, &self.values, &self.far, register)
     }
 
-    /// Lets a register hold a value, in place of an older one. Takes no memory for one below 128. Where memory is refused all
-    /// registers hold what they held.
+    /// Lets a register hold a value, in place of an older one. Takes no memory for one below 128. Where memory is refused all registers hold what they held.
     pub fn set(&mut self, register: u16, value: u64) -> Result<(), AllocError>
         ensures set { OnOk result ((r : ℕ) → held self.new r ≡ (if r == register then Some value else held self.old r)) }
         ensures end { OnOk result (length self.new ≡ max (length self.old) (register + 1)) }

@@ -32,8 +32,7 @@ pub struct Stop {
     pub reserved: u32,
 }
 
-/// The caller's frame: the CFA, how many registers there are, and the number of the one that holds the return address. All are
-/// 0 where there is no frame.
+/// The caller's frame: the CFA, how many registers there are, and the number of the one that holds the return address. All are 0 where there is no frame.
 #[repr(C)]
 #[derive(Clone, Copy)]
 pub struct Frame {
@@ -48,8 +47,7 @@ pub struct Frame {
 }
 
 /// What is wrong in a column: a register's number or `COLUMN_CFA`, and of an expression its fault, 1 to 12, and the operation's index;
-/// and what was wanted: the address and the length of a read where a byte is missing, or the register that is not given. All are
-/// 0 where nothing is wrong.
+/// and what was wanted: the address and the length of a read where a byte is missing, or the register that is not given. All are 0 where nothing is wrong.
 #[repr(C)]
 #[derive(Clone, Copy, Default)]
 pub struct Fault {
@@ -205,8 +203,7 @@ fn unwound_at(
 
 /// The caller's frame as `dwframe_unwind` tells it, by an index of the section, which is not judged again: the FDE that stands
 /// at the place of the entry that covers the address is read and judged anew, so an index of other bytes is answered by what they
-/// say there, or by a status. Where a byte or a register is missing, `fault` tells which one was wanted first, so a caller can give
-/// it and ask again.
+/// say there, or by a status. Where a byte or a register is missing, `fault` tells which one was wanted first, so a caller can give it and ask again.
 #[unsafe(no_mangle)]
 pub extern "C" fn dwframe_unwind_at(
     alloc: Global,

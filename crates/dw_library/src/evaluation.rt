@@ -14,8 +14,7 @@ use dw_op::{OpList, Profile, decode};
 use dw_unwind::Column;
 use std::alloc::Global;
 
-/// What an expression begins with, and what it may ask for (2.5.1). Each of the first four values counts where what it is named by
-/// is not 0.
+/// What an expression begins with, and what it may ask for (2.5.1). Each of the first four values counts where what it is named by is not 0.
 #[repr(C)]
 #[derive(Clone, Copy)]
 pub struct Context {

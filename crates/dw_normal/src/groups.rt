@@ -18,8 +18,7 @@ use std::collections::BTreeMap;
 // Longer programs are not judged by their lengths.
 const LONG: usize = 1_000_000;
 
-/// Goes on to the changes of an FDE behind its begin, whose row is lent, and lists how that stands to the row of its CIE, where
-/// this is known.
+/// Goes on to the changes of an FDE behind its begin, whose row is lent, and lists how that stands to the row of its CIE, where this is known.
 pub(crate) fn go_behind_first<'a>(
     changes: &mut Changes<'a>,
     table: &Table<'a>,

@@ -50,8 +50,7 @@ impl<'a> Known<'a> {
         }
     }
 
-    /// Makes a set what is known of a CIE and of the group of a return address register. Where there is no memory for it, it is
-    /// forgotten.
+    /// Makes a set what is known of a CIE and of the group of a return address register. Where there is no memory for it, it is forgotten.
     pub(crate) fn put(&mut self, cie_at: u64, register: u16, set: RegisterSet<'a>)
         ensures puts { Puts cie_at (record { register = register; set = set.entry }) self.old.cies self.new.cies }
         ensures changed { self.new.changed ≡ self.old.changed }

@@ -39,8 +39,7 @@ fn same_over<'r, 'a, 'q, 'b>(
     Ok(true)
 }
 
-/// Whether two tables say the same: the same nonempty FDEs with the same return address registers, and the same rules at each
-/// address that they cover.
+/// Whether two tables say the same: the same nonempty FDEs with the same return address registers, and the same rules at each address that they cover.
 pub(crate) fn same_tables(alloc: Global, one: &Ready<'_>, two: &Ready<'_>) -> Result<bool, Stop>
     requires target { one.now.table.target ≡ two.now.table.target }
     requires rows { AreInitial one.now.table one.now.rows.entries }

@@ -56,8 +56,7 @@ pub fn normalise(
     }
 }
 
-/// How many bytes the normal form of a section has, of at most `cap`, where `cap` is at most 2,147,483,647. Errors are those of
-/// `normalise`.
+/// How many bytes the normal form of a section has, of at most `cap`, where `cap` is at most 2,147,483,647. Errors are those of `normalise`.
 pub fn normal_length(
     alloc: Global,
     bytes: &[u8],
@@ -188,8 +187,7 @@ fn same_as_itself(alloc: Global, table: Table<'_>) -> Result<bool, SameError>
 ///
 /// `Refused` has the first fault, as `dw_section::check` has it, and says whose it is: the first section's comes before the
 /// second's. Where neither has one, a section whose normal form has more than 2,147,483,647 bytes is refused too, with
-/// `NormalTooLong` (27) at 0, again the first one before the second. `OutOfMemory` is answered where a request for memory was
-/// refused.
+/// `NormalTooLong` (27) at 0, again the first one before the second. `OutOfMemory` is answered where a request for memory was refused.
 pub fn same(alloc: Global, first: &[u8], second: &[u8], target: Target) -> Result<bool, SameError>
     ensures found { IfOk result (λ b. Accepted target first.now × Accepted target second.now × Decides b (SameMeaning target first.now second.now)) }
     // Where a normal form has more than 2,147,483,647 bytes there is no answer.

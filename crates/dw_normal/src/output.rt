@@ -91,8 +91,7 @@ impl Output {
         Ok(())
     }
 
-    /// Appends the nops that fill the entry up to a multiple of the address size: as many as there may be, of which what is not missing
-    /// goes.
+    /// Appends the nops that fill the entry up to a multiple of the address size: as many as there may be, of which what is not missing goes.
     #[inline(always)]
     pub(crate) fn push_nops(&mut self, size: Size) -> Result<(), Stop>
         requires within { self.old.gone ≤ self.old.room }

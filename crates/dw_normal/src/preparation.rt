@@ -47,8 +47,7 @@ pub(crate) fn measured_section(
     measured_within(alloc, &ready, cap)
 }
 
-/// What a table is written with, where its normal form is within a cap. It is measured only where the lengths of its programs
-/// do not show that.
+/// What a table is written with, where its normal form is within a cap. It is measured only where the lengths of its programs do not show that.
 pub(crate) fn prepared<'a>(
     alloc: Global,
     table: Table<'a>,

@@ -52,8 +52,7 @@ fn is_restored(row: &Row<'_>, initial: &Row<'_>, register: u16) -> bool
     row.has_same_rule(initial, register)
 }
 
-// Appends what gives a register its rule of a row: `Restore` where it is the initial one, and else mostly that it is saved, where no
-// rule is moved about.
+// Appends what gives a register its rule of a row: `Restore` where it is the initial one, and else mostly that it is saved, where no rule is moved about.
 #[inline(always)]
 #[tactic(auto, unfolding(dw_canon::specs::Spelling::instr_bytes))]
 fn push_register<'a>(
@@ -75,8 +74,7 @@ fn push_register<'a>(
     }
 }
 
-/// Appends what leads from one row to another, where a third has the initial rules. It may leave some of it where memory
-/// runs out.
+/// Appends what leads from one row to another, where a third has the initial rules. It may leave some of it where memory runs out.
 #[inline(always)]
 pub(crate) fn push_difference<'a>(
     out: &mut Vec<u8>,

@@ -31,8 +31,7 @@ pub enum Code {
     NoSuchCie,
     /// `initial_location` plus `address_range` is above 2^N, which itself is no fault; the place is the range.
     RangeTooLarge,
-    /// An opcode of no call frame instruction (7.24), or of a vendor's, from `DW_CFA_lo_user` to `DW_CFA_hi_user`; the place
-    /// is the opcode.
+    /// An opcode of no call frame instruction (7.24), or of a vendor's, from `DW_CFA_lo_user` to `DW_CFA_hi_user`; the place is the opcode.
     UnknownInstruction,
     /// An instruction that `initial_instructions` may not hold: an advance, `DW_CFA_set_loc`, `DW_CFA_restore`,
     /// `DW_CFA_restore_extended`, `DW_CFA_remember_state` or `DW_CFA_restore_state`; the place is its opcode.

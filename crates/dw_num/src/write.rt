@@ -71,8 +71,7 @@ pub fn put_sleb(out: &mut Vec<u8>, value: i64) -> Result<(), AllocError>
     result
 }
 
-/// Appends a number as `width` bytes, 1, 2, 4 or 8 of them, in an order (7.5). The number has to be below 256^width. Where memory
-/// runs out nothing is appended.
+/// Appends a number as `width` bytes, 1, 2, 4 or 8 of them, in an order (7.5). The number has to be below 256^width. Where memory runs out nothing is appended.
 pub fn put_fixed(
     out: &mut Vec<u8>,
     order: Order,

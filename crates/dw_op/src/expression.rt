@@ -153,8 +153,7 @@ impl<'a> ExprRef<'a> {
         steps_len(self.steps(), self.target)
     }
 
-    /// Appends the block of the operations' least spellings (7.7.1), or appends nothing where memory runs out. No
-    /// other memory is taken.
+    /// Appends the block of the operations' least spellings (7.7.1), or appends nothing where memory runs out. No other memory is taken.
     #[tactic(auto, using(crate::proofs::LeastSpellings::accepted_appended, crate::proofs::Lent::EncodeLaws::on_ok))]
     pub fn put_least(&self, out: &mut Vec<u8>) -> Result<(), AllocError>
         ensures ok { OnOk result (IsAppended (LeastBlock self.now.target self.now.ops) out.old.items out.new.items) }

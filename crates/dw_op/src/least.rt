@@ -85,8 +85,7 @@ fn register_offset<'a>(register: u16, offset: i64) -> Spelling<'a>
     }
 }
 
-/// The least spelling of an operation, with these sixteen bits for a branch's displacement
-/// (DWARF 5, 7.7.1).
+/// The least spelling of an operation, with these sixteen bits for a branch's displacement (DWARF 5, 7.7.1).
 #[tactic(auto, unfolding(crate::specs::Inner::LeastOf::least_spelling))]
 pub(crate) fn least_spelling<'a>(op: &Op<'a>, displacement: u16, target: Target) -> Spelling<'a>
     ensures { result ≡ least_spelling target displacement op.now }
@@ -170,8 +169,7 @@ fn push_operand(out: &mut Vec<u8>, order: Order, operand: Operand<'_>) -> Result
     }
 }
 
-/// Appends the least spelling of an operation, with these sixteen bits for a branch's displacement. It may leave some of it
-/// where memory runs out.
+/// Appends the least spelling of an operation, with these sixteen bits for a branch's displacement. It may leave some of it where memory runs out.
 pub(crate) fn put_op(
     out: &mut Vec<u8>,
     op: &Op<'_>,

@@ -92,8 +92,7 @@ pub enum Op<'a> {
     /// `DW_OP_breg8`, `DW_OP_breg9`, `DW_OP_breg10`, `DW_OP_breg11`, `DW_OP_breg12`, `DW_OP_breg13`, `DW_OP_breg14`,
     /// `DW_OP_breg15`, `DW_OP_breg16`, `DW_OP_breg17`, `DW_OP_breg18`, `DW_OP_breg19`, `DW_OP_breg20`, `DW_OP_breg21`,
     /// `DW_OP_breg22`, `DW_OP_breg23`, `DW_OP_breg24`, `DW_OP_breg25`, `DW_OP_breg26`, `DW_OP_breg27`, `DW_OP_breg28`,
-    /// `DW_OP_breg29`, `DW_OP_breg30`, `DW_OP_breg31`, `DW_OP_bregx`: push the value of a register plus an offset in bytes
-    /// (2.5.1.2).
+    /// `DW_OP_breg29`, `DW_OP_breg30`, `DW_OP_breg31`, `DW_OP_bregx`: push the value of a register plus an offset in bytes (2.5.1.2).
     Breg(u16, i64),
     /// `DW_OP_fbreg`: push the frame base plus an offset in bytes (2.5.1.2).
     Fbreg(i64),

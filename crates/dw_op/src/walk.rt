@@ -65,8 +65,7 @@ fn named<'a>(branch: Branch, index: usize) -> Op<'a>
 }
 
 /// A walk over a block that can be read, of either profile: what is left, the sum of the operations that were passed, and a
-/// window that begins at an operation not behind the first that a branch can still go back to, with marks for
-/// the goals below a limit.
+/// window that begins at an operation not behind the first that a branch can still go back to, with marks for the goals below a limit.
 #[derive(Drop)]
 pub(crate) struct Walker<'a> {
     pub(crate) measure: Measure,
@@ -244,8 +243,7 @@ impl<'a> Walker<'a> {
         Some(self.window_count + more)
     }
 
-    /// The next operation, or the refusal of a branch that leads nowhere. A branch has what stands before the
-    /// operation that it names.
+    /// The next operation, or the refusal of a branch that leads nowhere. A branch has what stands before the operation that it names.
     #[inline(always)]
     #[tactic(auto, using(crate::proofs::Walkers::walked_plain, crate::proofs::Walkers::room_on, crate::proofs::WalkStarts::never_stuck))]
     pub(crate) fn next_op(&mut self) -> Result<Option<Op<'a>>, Refusal>

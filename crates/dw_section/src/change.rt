@@ -1,5 +1,4 @@
-//! The addresses at which the rules of an FDE change (6.4.3), one at a time, and a row narrowed to the registers that all changes
-//! specify.
+//! The addresses at which the rules of an FDE change (6.4.3), one at a time, and a row narrowed to the registers that all changes specify.
 
 ghost use Rattle.std.specs.Prelude.{◌⊎◌, ◌≡◌, ◌<◌, ◌↔◌, ℕ, List, [], length, slice_index_or, IsTrue, Ok, Some, None, true, false, IsErr, IfOk, IfSome};
 ghost use Rattle.std.specs.Prelude.{OnErr, OnOk, MatchOption};
@@ -103,8 +102,7 @@ fn is_kept_at(steps: &RowWalk<'_>, register: u16) -> bool
     steps.kept().rule(register).is_specified() || !steps.row().rule(register).is_specified()
 }
 
-// Makes a set the registers whose rules are not those of the row that was kept, and says whether that specifies all that the row
-// that is lent specifies.
+// Makes a set the registers whose rules are not those of the row that was kept, and says whether that specifies all that the row that is lent specifies.
 #[tactic(auto, using(crate::proofs::BehindCie::all_kept))]
 fn list_differences(steps: &RowWalk<'_>, changed: &mut RegisterSet<'_>) -> Result<bool, AllocError>
     ensures beside { OnOk result (SameBeside changed.new steps.now.kept steps.now.steps.current) }
@@ -131,8 +129,7 @@ pub struct Behind {
     pub keeps: bool,
 }
 
-// Keeps the row of the CIE at a place, where no row was gone on to yet, and goes on to the first change: then how that stands to
-// the row of the CIE.
+// Keeps the row of the CIE at a place, where no row was gone on to yet, and goes on to the first change: then how that stands to the row of the CIE.
 #[tactic(auto, using(crate::proofs::BehindCie::stands_kept))]
 fn show_behind<'a>(
     steps: &mut RowWalk<'a>,

@@ -30,8 +30,7 @@ pub struct Ranged {
     pub return_register: u16,
 }
 
-/// What judging FDEs finds: the nonempty ones in order of place, and the place of the first one with an address that has no
-/// rule for the CFA.
+/// What judging FDEs finds: the nonempty ones in order of place, and the place of the first one with an address that has no rule for the CFA.
 #[derive(Drop)]
 pub(crate) struct Judged {
     pub(crate) list: Vec<Ranged>,

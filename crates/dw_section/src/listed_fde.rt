@@ -91,8 +91,7 @@ impl<'a> Table<'a> {
         found_fde(self.bytes, self.target, &self.initials, &self.listed(fde))
     }
 
-    /// How many rows the programs of all nonempty FDEs start, one each and one for each instruction that moves the
-    /// location. Takes no memory.
+    /// How many rows the programs of all nonempty FDEs start, one each and one for each instruction that moves the location. Takes no memory.
     pub fn row_starts(&self) -> u64
         ensures { RowStarts self.now.target self.now.bytes result }
     {

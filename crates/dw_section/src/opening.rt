@@ -26,8 +26,7 @@ pub struct Opening {
     pub own: usize,
     /// How many bytes `initial_instructions` of its CIE (6.4.1) has, with the padding.
     pub initial: usize,
-    /// The row at its begin, `initial_location` (6.4.1), where the first instructions of its own program tell it (`first_row` of
-    /// `dw_cfa`).
+    /// The row at its begin, `initial_location` (6.4.1), where the first instructions of its own program tell it (`first_row` of `dw_cfa`).
     pub row: Option<CieRow>,
 }
 

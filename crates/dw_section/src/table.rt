@@ -109,8 +109,7 @@ fn checked<'a>(alloc: Global, bytes: &'a [u8], target: Target) -> Result<Table<'
 /// `BadDerefSize` (23) at the operand; `UnknownInstruction` (12), `NotInCie` (13), `LocationBackwards` (14), `LocationTooLarge`
 /// (15), `EmptyStateStack` (16), `StateStackFull` (17), `CfaNotRegister` (18), `OffsetTooLarge` (19), `UnknownOperation` (20),
 /// `NotInFrame` (21), `BadBranch` (22) at the opcode; then `NoCfaRule` (24) at the FDE, by place; and last `Overlap` (25) at the
-/// first nonempty FDE, in order of begin and place, that begins below the end of one before it. `OutOfMemory` may come in place of
-/// any answer.
+/// first nonempty FDE, in order of begin and place, that begins below the end of one before it. `OutOfMemory` may come in place of any answer.
 pub fn check<'a>(alloc: Global, bytes: &'a [u8], target: Target) -> Result<Table<'a>, ReadError>
     // It is the table of an accepted section.
     ensures found { IfOk result (λ table. (table ≡ record { target = target; bytes = bytes.now }) × Accepted target bytes.now) }

@@ -13,8 +13,7 @@ use std::alloc::Global;
 use std::collections::BTreeMap;
 use std::mem;
 
-// The walk of a CIE whose program has more bytes is put away. A walk takes some kilobytes, and a shorter program is soon run
-// once more.
+// The walk of a CIE whose program has more bytes is put away. A walk takes some kilobytes, and a shorter program is soon run once more.
 const LONG: usize = 256;
 
 /// A walk that goes from FDE to FDE, and those that were put away.

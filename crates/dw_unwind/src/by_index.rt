@@ -22,8 +22,7 @@ use thiserror::Error;
 /// Why there is no frame of the caller by an index.
 #[derive(Clone, Copy, Debug, PartialEq, Eq, Error)]
 pub enum UnwindAtError {
-    /// The index is not that of an accepted section of these bytes: no FDE that covers the address stands where it says, or
-    /// the CFA has no rule there.
+    /// The index is not that of an accepted section of these bytes: no FDE that covers the address stands where it says, or the CFA has no rule there.
     #[error("the index is not the one of these bytes")]
     BadIndex,
     /// What stands there is refused, as `dw_section::look_up` refuses it (1 to 23, 26).

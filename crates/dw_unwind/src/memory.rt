@@ -58,8 +58,7 @@ fn are_apart(alloc: Global, ranges: &[Range]) -> Result<bool, AllocError>
     Ok(ends_rise(&sorted))
 }
 
-/// The place of the first range that shares a byte with one before it, by halving: ranges are apart up to some place, and from
-/// then on they are not.
+/// The place of the first range that shares a byte with one before it, by halving: ranges are apart up to some place, and from then on they are not.
 pub(crate) fn first_overlap(alloc: Global, ranges: &[Range]) -> Result<Option<usize>, AllocError>
     requires { AllByRecursion (λ (r : TheRange). 0 < r.len) ranges.now }
     ensures { IfOk result (λ found. MatchOption found (AreApart ranges.now)

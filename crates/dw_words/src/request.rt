@@ -106,8 +106,7 @@ pub struct Writing<'a> {
     ghost capped: { cap ≤ 2147483647 },
 }
 
-/// A section and a dump, what is taken of registers that no instruction has set, and the most operations that an
-/// expression executes.
+/// A section and a dump, what is taken of registers that no instruction has set, and the most operations that an expression executes.
 #[derive(Drop)]
 pub struct Unwinding<'a> {
     /// `--default`.

@@ -35,8 +35,7 @@ fn run_held<L: Load, W: Write, E: Write>(
     status
 }
 
-// The same over the files of the system, for people: beside the one line of a failure, hints say more. A terminal is told no
-// control characters of a path.
+// The same over the files of the system, for people: beside the one line of a failure, hints say more. A terminal is told no control characters of a path.
 fn run_for_people<W: Write>(rt: &HostRuntime, words: &[String], out: &mut Piped<W>) -> u8
     ensures runs { Runs (λ _ _. ⊤) (W.contents out.old.out) (W.contents out.new.out) (map string_bytes words.now) result }
     ensures most { result ≤ 5 }
