@@ -17,19 +17,19 @@ import sys
 
 # Lines of sources, and of proofs.
 BUDGET = {
-    "dw_num": (967, 1167),
-    "dw_op": (1525, 3947),
-    "dw_eval": (1178, 1097),
+    "dw_num": (965, 1167),
+    "dw_op": (1517, 3947),
+    "dw_eval": (1174, 1097),
     "dw_row": (2210, 1878),
-    "dw_cfa": (2418, 3551),
-    "dw_section": (2306, 5350),
-    "dw_canon": (53, 3330),
-    "dw_normal": (1998, 2704),
-    "dw_unwind": (1375, 2278),
-    "dw_words": (828, 1062),
-    "dw_command": (1925, 1648),
-    "dwframe": (263, 0),
-    "dw_library": (1613, 785),
+    "dw_cfa": (2406, 3551),
+    "dw_section": (2296, 5345),
+    "dw_canon": (53, 3327),
+    "dw_normal": (1988, 2704),
+    "dw_unwind": (1373, 2278),
+    "dw_words": (827, 1062),
+    "dw_command": (1922, 1648),
+    "dwframe": (262, 0),
+    "dw_library": (1609, 785),
 }
 # How many characters a line of sources may have.
 LONGEST = 160
