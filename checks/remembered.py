@@ -3,52 +3,62 @@
 
     remembered.py FOLDER
 
-Each is FOLDER/remembered-DEPTH-SIZE-ORDER.bin, with its target beside it. Its three FDEs save 6, 7 and 8 registers, and remember
-DEPTH rows, 1 to 4. Behind each of these the CFA and all of the registers change, before the next one is remembered or restored.
+Each is FOLDER/remembered-DEPTH-SIZE-ORDER.bin, with its target beside it. Its FDEs remember DEPTH rows, 1 to 4. Behind each of these
+the CFA and all saved registers change, before the next one is remembered or restored. Three FDEs save 6, 7 and 8 registers, near the
+CFA. The last one saves 60, at offsets that need more than 16 bits, and each changes twice.
 """
 import pathlib
 import sys
 
 sys.path.append(str(pathlib.Path(__file__).resolve().parent.parent / "bench"))
-from synth import FIRST_ADDRESS, Writer, uleb
+from synth import FIRST_ADDRESS, Writer, sleb, uleb
 
 # Neither the stack pointer nor the register of the return address.
 SAVED = [3, 5, 6, 11, 12, 13, 14, 15]
+# With these two they are 62 registers.
+MANY = [register for register in [*range(32), *range(96, 128)] if register not in (4, 7, 8, 16)]
 # What an epilogue makes of a saved register: as in the CIE, elsewhere in the frame, or as the caller had it.
-RESTORE, SAME_VALUE = 0xC0, b"\x08"
+RESTORE, SAME_VALUE = b"\x06", b"\x08"
 REMEMBER, RESTORE_STATE = b"\x0a", b"\x0b"
+FAR = 100_000
 
 
 def cfa(register, offset):
     return b"\x0c" + uleb(register) + uleb(offset)
 
 
+def each(registers, code):
+    return b"".join(code + uleb(register) for register in registers)
+
+
 def stored(registers, first):
-    return b"".join(bytes([0x80 | register]) + uleb(first + place) for place, register in enumerate(registers))
+    """By DW_CFA_offset_extended_sf, so many addresses below the CFA, or above it where that is negative."""
+    return b"".join(b"\x11" + uleb(register) + sleb(first + place) for place, register in enumerate(registers))
 
 
-def epilogues(writer, registers):
+def epilogues(writer, registers, first):
     """What is changed behind each row that is remembered, by its depth."""
     stack, size = (7, 8) if writer.size == 8 else (4, 4)
     return [
-        cfa(stack, size) + bytes(RESTORE | register for register in registers),
-        cfa(6, 2 * size) + stored(registers, 20),
-        cfa(stack, 3 * size) + b"".join(SAME_VALUE + uleb(register) for register in registers),
-        cfa(6, 4 * size) + stored(registers, 40),
+        cfa(stack, size) + each(registers, RESTORE),
+        cfa(6, 2 * size) + stored(registers, first + 20),
+        cfa(stack, 3 * size) + each(registers, SAME_VALUE),
+        cfa(6, 4 * size) + stored(registers, first + 40),
     ]
 
 
-def program(writer, count, depth):
+def program(writer, registers, first, times, depth):
     """A row for each address: the frame, a row at each depth, and the same rows back; and how many addresses it takes."""
-    registers, step = SAVED[:count], writer.advance(1)
-    rows = [REMEMBER + changes + step for changes in epilogues(writer, registers)[:depth]]
-    frame = cfa(6, 2 * writer.size) + stored(registers, 3)
+    step = writer.advance(1)
+    rows = [REMEMBER + changes * times + step for changes in epilogues(writer, registers, first)[:depth]]
+    frame = cfa(6, 2 * writer.size) + stored(registers, first)
     return step + frame + step + b"".join(rows) + (RESTORE_STATE + step) * depth, 2 * depth + 3
 
 
 def section(writer, depth):
     cie = writer.cie()
-    programs = [program(writer, count, depth) for count in (6, 7, 8)]
+    programs = [program(writer, SAVED[:count], 3, 1, depth) for count in (6, 7, 8)]
+    programs.append(program(writer, MANY, -FAR // writer.size, 2, depth))
     fdes = [writer.fde(0, FIRST_ADDRESS + 16 * place, length, text) for place, (text, length) in enumerate(programs)]
     return b"".join([cie, *fdes])
 

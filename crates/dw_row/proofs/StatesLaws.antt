@@ -1,11 +1,11 @@
 -- Remembered rows, kept by what was changed since.
-use Rattle.std.proofs.lemmas.List.{nil_from_length, reverse-append}
+use Rattle.std.proofs.{lemmas.List.{nil_from_length, reverse-append}, Math.Seq.take-suc}
 use Rattle.dw_row.specs.declared.{kept_row.KeptRow.KeptRow, states.Undo.{Undo, TheVariants.{Remembered, Register}}}
 use Rattle.dw_row.proofs.Words.{◌≡◌, ℕ, suc, ◌+◌, ◌-◌, ◌<◌, ◌≤◌, Bool, true, false, length-append, List, [], ◌∷◌, ◌++◌, length, reverse, Some, None, Result}
-use Rattle.dw_row.proofs.Words.{OnOk, OnErr, Ok, Err, refl, sym, ap, ◌∙◌, subst, arith, append-nil, AreSpecified, CfaRule, IsTrue, KeptSo, RegRule, Rules}
-use Rattle.dw_row.proofs.Words.{rule_in, with_cfa, with_rule, Held, StatesSo, saved_if, remembering, rows_before, with_row, first_if, shown, held, stacked}
+use Rattle.dw_row.proofs.Words.{OnOk, OnErr, Ok, Err, cases_Bool, inl, inr, nat_eq, eq-eqb, eqb-true, ne_eqb, nat_tests, has_register, get_or, take, ◌||◌, refl, sym, ap, ◌∙◌, subst, arith, append-nil, AreSpecified, CfaRule, IsTrue, KeptSo, RegRule, Rules}
+use Rattle.dw_row.proofs.Words.{put, rule_in, with_cfa, with_rule, Held, StatesSo, saved_if, remembering, rows_before, with_row, first_if, shown, held, stacked}
 use Rattle.dw_row.proofs.Words.{BeganWith, TakenBack, Restored}
-use Rattle.dw_row.proofs.{Lent.RowLists.Entry, WideRows.{put_back, put_same}}
+use Rattle.dw_row.proofs.{Lent.RowLists.{Entry, put_keeps, put_rule}, Slots.is_put, WideRows.{put_back, put_same}}
 
 abbrev Before : Type 0
 Before = List Rules × List Entry
@@ -43,6 +43,56 @@ began false initial row same = tt
 
 abbrev with_registers : CfaRule → List Entry → Rules
 with_registers cfa registers = record { cfa = cfa; registers = registers }
+
+-- ---- a register that is changed once more
+
+-- one more of the last changes is looked at
+pub looked_at : (r q place : ℕ) (older : RegRule) (u : Undo) (items : List Undo) → 1 ≤ place → place ≤ length items → u ≡ get_or items (place - 1) u → u ≡ Register q older
+    → has_register r (reverse (take place items)) ≡ (nat_eq q r || has_register r (reverse (take (place - 1) items)))
+unfolding has_register
+looked_at r q place older u items some within at is =
+    let n = place - 1 in let from : place ≡ suc n = omega (arith, some) in
+    let last : take (suc n) items ≡ take n items ++ (Register q older ∷ []) = take-suc items n u (omega (arith, some, within)) ∙ ap (λ (x : Undo). take n items ++ (x ∷ [])) (sym at ∙ is) in
+    ap (λ (k : ℕ). has_register r (reverse (take k items))) from ∙ ap (has_register r) (last_first (Register q older) (take n items) (take (suc n) items) last)
+
+pub found_at : (r q place : ℕ) (older : RegRule) (u : Undo) (items : List Undo) → 1 ≤ place → place ≤ length items → u ≡ get_or items (place - 1) u → u ≡ Register q older
+    → (has_register r (reverse (take place items)) ≡ true → has_register r (reverse items) ≡ true) → q ≡ r → has_register r (reverse items) ≡ true
+found_at r q place older u items some within at is seen same = seen (looked_at r q place older u items some within at is ∙ rw (eq-eqb q r same) refl)
+
+pub passed_at : (r q place : ℕ) (older : RegRule) (u : Undo) (items : List Undo) → 1 ≤ place → place ≤ length items → u ≡ get_or items (place - 1) u → u ≡ Register q older
+    → (has_register r (reverse (take place items)) ≡ true → has_register r (reverse items) ≡ true) → (q ≡ r → ⊥)
+    → has_register r (reverse (take (place - 1) items)) ≡ true → has_register r (reverse items) ≡ true
+passed_at r q place older u items some within at is seen apart has = seen (looked_at r q place older u items some within at is ∙ rw (ne_eqb q r apart) has)
+
+-- of two rules that a register is given the second stays, and two registers are given theirs in any order
+put_twice : (r : ℕ) (rule later : RegRule) (xs : List Entry) → AreSpecified 0 xs → put r later (put r rule xs) ≡ put r later xs
+put_twice r rule later xs up =
+    let up' = put_keeps r rule 0 xs up (omega arith) in
+    is_put r later xs (put r later (put r rule xs)) up (put_keeps r later 0 (put r rule xs) up' (omega arith)) (λ q. grind (arith, nat_tests, put_rule r later 0 (put r rule xs) q up', put_rule r rule 0 xs q up))
+
+put_apart : (r q : ℕ) (rule older : RegRule) (xs : List Entry) → AreSpecified 0 xs → nat_eq q r ≡ false → put q older (put r rule xs) ≡ put r rule (put q older xs)
+put_apart r q rule older xs up apart =
+    let up-r = put_keeps r rule 0 xs up (omega arith) in let up-q = put_keeps q older 0 xs up (omega arith) in
+    is_put r rule (put q older xs) (put q older (put r rule xs)) up-q (put_keeps q older 0 (put r rule xs) up-r (omega arith))
+        (λ s. grind (arith, nat_tests, put_rule q older 0 (put r rule xs) s up-r, put_rule r rule 0 xs s up, put_rule q older 0 xs s up))
+
+-- what is listed of a register is taken back, whatever rule it has then
+pub known_before : (r : ℕ) (rule : RegRule) (registers : List Entry) (changes : List Undo) → AreSpecified 0 registers → has_register r changes ≡ true
+    → rows_before (put r rule registers) changes ≡ rows_before registers changes
+unfolding rows_before has_register
+known_before r rule registers [] up has = absurd cc
+known_before r rule registers (Remembered cfa ∷ changes) up has = absurd cc
+known_before r rule registers (Register q older ∷ changes) up has = elim (cases_Bool (nat_eq q r)) [
+  inl same ↦ ap (λ (xs : List Entry). rows_before xs changes) (rw (eqb-true q r same) (put_twice r rule older registers up))
+  | inr apart ↦
+    ap (λ (xs : List Entry). rows_before xs changes) (put_apart r q rule older registers up apart)
+    ∙ known_before r rule (put q older registers) changes (put_keeps q older 0 registers up (omega arith)) (rw apart at has)
+]
+
+pub known_behind : {X E : Type 0} (result : Result X E) (r : ℕ) (rule : RegRule) (row row' : Rules) (items : List Undo) → AreSpecified 0 row.registers → has_register r (reverse items) ≡ true
+    → OnOk result (row' ≡ with_rule r rule row) → OnErr result (row' ≡ row) → rows_before row'.registers (reverse items) ≡ rows_before row.registers (reverse items)
+known_behind (Ok x) r rule row row' items up has set err = rw set (known_before r rule row.registers (reverse items) up has)
+known_behind (Err x) r rule row row' items up has set err = rw err refl
 
 -- ---- a register that is changed, or a row that is remembered
 
@@ -197,7 +247,7 @@ module _ {tracked is_listed : Bool} {saved : KeptRow} {row kept : Rules} {items 
             ap (λ (t : Bool). first_if t row''.registers) free ∙ sym (sym (ap (λ (h : Held). h.first) is) ∙ ap (λ (t : Bool). first_if t before.1) free),
           )
 
-pub ruleset changed = (listed_behind, ruled, same_held, same_so, same_states)
+pub ruleset changed = (known_behind, listed_behind, ruled, same_held, same_so, same_states)
 
 -- ---- changes that are taken back
 

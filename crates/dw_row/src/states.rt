@@ -1,8 +1,8 @@
 //! The current row and the remembered ones (6.4.2.4).
 
-ghost use Rattle.std.specs.Prelude.{◌≡◌, ◌<◌, ℕ, ℤ, [], length, reverse, None, OnOk, IfOk, OnErr, IsTrue, ◌↔◌, false};
+ghost use Rattle.std.specs.Prelude.{◌≡◌, ◌<◌, ℕ, ℤ, [], length, reverse, None, OnOk, IfOk, OnErr, IsTrue, ◌↔◌, false, true};
 ghost use Rattle.dw_row.specs.{Difference.{FirstDifference, place_behind}, Rows.{AreSpecified, blank, rule_in, with_cfa, with_rule}};
-ghost use Rattle.dw_row.specs.{Inner.{Kept.KeptSo, States.{TakenBack, rows_before}}, States.{first_if, BeganWith, Restored, remembering, with_row}};
+ghost use Rattle.dw_row.specs.{Inner.{Kept.KeptSo, States.{TakenBack, has_register, rows_before}}, States.{first_if, BeganWith, Restored, remembering, with_row}};
 
 use crate::entries::NEAR;
 use crate::kept_row::KeptRow;
@@ -12,8 +12,10 @@ use smallvec::SmallVec;
 use std::alloc::{AllocError, Global};
 use std::marker::Model;
 
-// So many changes are listed without memory: those of four rows that are remembered at once, as compilers write them.
-const MOST_LISTED: usize = 32;
+// So many changes are listed without memory: of three rows that are remembered above a saved one, each with 64 registers that change.
+const MOST_LISTED: usize = 3 * (1 + MOST_LOOKED_AT);
+// A register that changes again is looked for among so many.
+const MOST_LOOKED_AT: usize = 64;
 
 /// What takes back a change of the current row.
 #[derive(Drop)]
@@ -54,6 +56,28 @@ impl<'a> Model for States<'a> {
 
     ghost invariant = { λ s. KeptSo s.kept s.row.registers
         × StatesSo s.tracked s.is_listed s.saved s.depth (rows_before s.row.registers (reverse s.undo.items)) s.undo.items };
+}
+
+// Whether a register is seen among the last changes, behind the row that was remembered last.
+#[inline(never)]
+fn has_listed(undo: &SmallVec<Undo<'_>, MOST_LISTED>, register: u16) -> bool
+    ensures { IsTrue result → has_register register (reverse undo.now.items) ≡ true }
+{
+    let changes = undo.as_slice();
+    let mut place = changes.len();
+    let first = place.saturating_sub(MOST_LOOKED_AT);
+    'changes: while place > first {
+        place -= 1;
+        match &changes[place] {
+            Undo::Remembered(_) => return false,
+            Undo::Register(changed, _) => {
+                if *changed == register {
+                    return true;
+                }
+            }
+        }
+    }
+    false
 }
 
 // Takes changes back up to the row that was remembered last, and answers the rule that the CFA had there.
@@ -266,7 +290,7 @@ impl<'a> States<'a> {
         self.row.set_cfa_offset(offset)
     }
 
-    // Lists the rule that a register has, and gives it another one.
+    // Lists the rule that a register has, unless one is listed, and gives it another one.
     #[tactic(auto, using(crate::proofs::StatesLaws::changed))]
     #[inline(never)]
     fn change(&mut self, register: u16, rule: RegRule<'a>) -> Result<(), AllocError>
@@ -276,8 +300,10 @@ impl<'a> States<'a> {
     {
         self.is_listed = true;
         self.row.ascends();
-        let older = self.row.rule(register);
-        self.undo.push(Undo::Register(register, older))?;
+        if !has_listed(&self.undo, register) {
+            let older = self.row.rule(register);
+            self.undo.push(Undo::Register(register, older))?;
+        }
         self.kept.set(&mut self.row, register, rule)?;
         Ok(())
     }

@@ -1,5 +1,5 @@
 -- How the code keeps remembered rows: by what was changed since, the last first. Beneath all others there may be one that is saved.
-use Rattle.std.specs.Prelude.{◌≡◌, ℕ, List, [], ◌∷◌, ◌++◌, Bool, true, false, Option, Some, None, IsTrue, length, reverse}
+use Rattle.std.specs.Prelude.{◌≡◌, ℕ, List, [], ◌∷◌, ◌++◌, Bool, true, false, Option, Some, None, IsTrue, length, nat_eq, reverse, ◌||◌}
 use Rattle.dw_row.specs.{Rows.{Rules, put}, States.{Held, first_if}}
 use Rattle.dw_row.specs.declared.{kept_row.KeptRow.KeptRow, rule.{CfaRule.CfaRule, RegRule.RegRule}, states.Undo.{Undo, TheVariants.{Remembered, Register}}}
 use Rattle.dw_row.specs.Inner.Kept.{KeptSo}
@@ -9,6 +9,11 @@ unfoldable pub rows_before : List (ℕ × RegRule) → List Undo → List Rules 
 rows_before registers [] = ([], registers)
 rows_before registers (Remembered cfa ∷ changes) = (record { cfa = cfa; registers = registers } ∷ (rows_before registers changes).0, (rows_before registers changes).1)
 rows_before registers (Register r rule ∷ changes) = rows_before (put r rule registers) changes
+
+-- whether a register was changed since a row was remembered last
+unfoldable pub has_register : ℕ → List Undo → Bool
+has_register r (Register q rule ∷ changes) = nat_eq q r || has_register r changes
+has_register r changes = false
 
 -- the row that is saved, beneath all others
 abbrev pub saved_if : Bool → Rules → List Rules
