@@ -1,5 +1,5 @@
-//! What a look-up keeps: a row, one that is remembered, and a location (6.4.3). What it does not know it leaves to the machine: it says then that memory
-//! ran out, behind which nothing is known.
+//! What a look-up keeps: a row, one that is remembered, and a location (6.4.3). What it does not know it leaves to the machine: it says
+//! then that memory ran out, behind which nothing is known.
 
 ghost use Rattle.std.specs.Prelude.{◌≡◌, ◌≤◌, ◌+◌, [], false, IfSome};
 ghost use Rattle.dw_num.specs.Target.{address_limit};
@@ -14,11 +14,14 @@ use dw_row::{CfaRule, NEAR, RegRule, Row, is_in};
 use std::alloc::Global;
 use std::snapshot::Snapshot;
 
+// How many registers a row may have that is copied where it is remembered.
+const MOST_COPIED: u32 = 32;
+
 /// A row, and what is needed to run an FDE's program from it on.
 #[derive(Drop)]
 pub(crate) struct LookUp<'a> {
     pub(crate) row: Row<'a>,
-    // The row that is remembered. Room for it is made with the first.
+    // The row that is remembered, if one is.
     saved: Option<Row<'a>>,
     // The initial row and the size of an address are not kept, but for clauses.
     initial: Snapshot<Row<'a>>,
@@ -162,10 +165,11 @@ impl<'a> Keep<'a> for LookUp<'a> {
         }
     }
 
-    // Registers from 128 on would be copied each time.
+    // The machine copies a row of many registers once.
     #[inline(never)]
     fn remember(&mut self, _at: u64, _fault: &mut Refusal) -> End {
-        if self.saved.is_some() || self.row.is_wide() {
+        let copied = self.row.near_mask().count_ones();
+        if self.saved.is_some() || copied > MOST_COPIED || self.row.is_wide() {
             return End::OutOfMemory;
         }
         match self.row.copied() {
