@@ -1,10 +1,10 @@
 -- The words of specs and of std that the proofs cite, passed on from one place. Declares nothing.
 pub use Rattle.std.specs.{BTreeMap.{insert_entry, is_at, Range.range_contains}, Bool.one_answer, Int.{bit_at, bit_not, trailing_zeros, w128}}
 pub use Rattle.std.specs.declared.ops.Bound.{Bound, TheVariants.Unbounded}
-pub use Rattle.std.proofs.Common.{All, Bool, Decides, Err, FitsSigned, IsTrue, List, None, Ok, OnErr, OnOk, Option, Result, Some, [], ap, append-nil, arith, ℤ, pos}
-pub use Rattle.std.proofs.Common.{bit_and, bit_or, cond, div-le_self, eq-eqb, eqb-true, false, filter, get_or, get_or-set_other, get_or-set_same}
-pub use Rattle.std.proofs.Common.{if◌then◌else◌, inl, inr, is_some, length, length-append, length-set, ltb-false, ltb-true, nat_cmp, nat_eq, nat_lt, not}
-pub use Rattle.std.proofs.Common.{option_copied, pow-add, refl, reverse, rules, set, shr-shr, subst, suc, sym, true, unwrap_or, w64, zero, ℕ, ◌%◌, ◌*◌, ◌++◌}
+pub use Rattle.std.proofs.Common.{All, Bool, Decides, Err, FitsSigned, IsTrue, List, None, Ok, OnErr, OnOk, Option, Result, Some, [], ap, append-nil, arith}
+pub use Rattle.std.proofs.Common.{bit_and, bit_or, cond, div-le_self, eq-eqb, eqb-true, false, filter, get_or-set_other, get_or-set_same, pos}
+pub use Rattle.std.proofs.Common.{if◌then◌else◌, inl, inr, is_some, length, length-append, ltb-false, ltb-true, nat_cmp, nat_eq, nat_lt, not}
+pub use Rattle.std.proofs.Common.{option_copied, pow-add, refl, reverse, rules, shr-shr, subst, suc, sym, true, unwrap_or, w64, zero, ℕ, ℤ, ◌%◌, ◌*◌, ◌++◌}
 pub use Rattle.std.proofs.Common.{◌+◌, ◌-◌, ◌/◌, ◌<◌, ◌^◌, ◌||◌, ◌↔◌, ◌∙◌, ◌∷◌, ◌≡◌, ◌≤◌, ◌⊎◌}
 pub use Rattle.std.proofs.lemmas.{Bool.{cases_Bool, cases_eq, cases_lt, eqb-false, Decides.{nat_tests, not_from_Decides}}, Int.to_z-of_z}
 pub use Rattle.std.proofs.lemmas.Nat.Bits.{bit_at-lt, bit_at-trailing_zeros, bit_at-zero, bit_at_above, bit_at_and, bit_at_cat_low, bit_at_clear_other}

@@ -1,14 +1,14 @@
 //! The registers of a row with their rules (6.4.1).
 
-ghost use Rattle.std.specs.Prelude.{◌≡◌, ◌<◌, ℤ, [], IfSome, MatchOption, OnOk, OnErr, IsTrue, ◌↔◌};
+ghost use Rattle.std.specs.Prelude.{◌≡◌, ◌<◌, [], IfSome, OnOk, OnErr, IsTrue, ◌↔◌};
 ghost use Rattle.dw_row.specs.{Difference.{FirstDifference, place_behind}, Rows.{rule_in, is_specified, put}};
-ghost use Rattle.dw_row.specs.declared.{rule.{RegRule.{RegRule as TheRule, TheVariants.{Offset, Unspecified}}}, slot.Slot.TheVariants.Beside};
+ghost use Rattle.dw_row.specs.declared.{rule.{RegRule.{RegRule as TheRule, TheVariants.Unspecified}}, slot.Slot.TheVariants.Beside};
 ghost use Rattle.dw_row.specs.Inner.{Difference.{FirstBelow, SameUnset}, Entries.{entries_of, EntriesSo, FindsSlot, HasSlot, IsSlotOf}};
 
 use crate::behind::start_behind;
 use crate::near_slots::{bit_of, is_in, next_in, same_slots};
 use crate::rule::RegRule;
-use crate::slot::{Slot, Slots, offset_in, plain_slot, rule_of};
+use crate::slot::{Slot, Slots, plain_slot, rule_of};
 use crate::tree::{first_difference, rule_in_tree, set_in_tree};
 use std::alloc::AllocError;
 use std::collections::BTreeMap;
@@ -54,19 +54,6 @@ impl<'a> Entries<'a> {
         match self.slot(register) {
             Some(slot) => rule_of(slot, &self.expressions, register),
             None => RegRule::Unspecified,
-        }
-    }
-
-    // The offset of a register that may have a slot, where it is saved.
-    #[inline(always)]
-    pub(crate) fn near_offset(&self, register: u16) -> Option<i64>
-        requires so { EntriesSo self.now }
-        requires near { register < 128 }
-        ensures { MatchOption result ((n : ℤ) → rule_in (entries_of self.now) register ≡ Offset n → ⊥) (λ n. rule_in (entries_of self.now) register ≡ Offset n) }
-    {
-        match self.slot(register) {
-            Some(slot) => offset_in(slot),
-            None => None,
         }
     }
 

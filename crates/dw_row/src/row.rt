@@ -60,7 +60,8 @@ pub struct Specified<'r, 'a> {
 
 impl<'r, 'a> Model for Specified<'r, 'a> {
     ghost use Rattle.std.specs.Prelude.{List, ℕ};
-    ghost use Rattle.dw_row.specs.{Rows.AreSpecified, declared.{rule.{RegRule.{RegRule as Rule}}}, Inner.Entries.{far_behind, listed_near, HasRoom, Holds, NoneHasSlot}};
+    ghost use Rattle.dw_row.specs.{Rows.AreSpecified, declared.rule.RegRule.{RegRule as Rule}};
+    ghost use Rattle.dw_row.specs.Inner.Entries.{far_behind, listed_near, HasRoom, Holds, NoneHasSlot};
 
     ghost Value = { List (ℕ × Rule) };
 
@@ -187,7 +188,7 @@ impl<'a> Row<'a> {
     {
         // Read from its slot where it has one, since a rule is moved about.
         if register < NEAR {
-            return self.entries.near_offset(register);
+            return offset_in(self.entries.slot(register)?);
         }
         match self.rule(register) {
             RegRule::Offset(offset) => Some(offset),
