@@ -1,10 +1,11 @@
 -- A row that becomes a copy of another one: the slots of a mask, outside which all rules are the same.
-use Rattle.std.proofs.lemmas.List.{nil_from_length}
+use Rattle.std.proofs.{Common.ap₂, lemmas.List.nil_from_length}
 use Rattle.dw_row.proofs.Words.{◌≡◌, ℕ, List, refl, sym, ap, ◌∙◌, arith, nat_tests, cases_lt, bit_at, Entries, EntriesSo, entries_of, rule_in, has}
-use Rattle.dw_row.proofs.Words.{CopiedUpTo, SameUnset, ◌<◌, get_or, inl, inr, false, is_specified, length, near_rule, no_slot, subst, IsTrue, RegRule}
-use Rattle.dw_row.proofs.Words.{SameSlots, Slot, bit_at-lt, bit_and, bit_at_and, slot_rule, SameOutside, Unspecified}
+use Rattle.dw_row.proofs.Words.{CopiedUpTo, SameUnset, ◌<◌, inl, inr, false, is_specified, length, near_rule, subst, IsTrue, RegRule, ◌≤◌, ℤ, pos}
+use Rattle.dw_row.proofs.Words.{SameSlots, Slot, Slots, bit_at-lt, bit_and, bit_at_and, slot_rule, SameOutside, Unspecified, HasRoom, slot_at}
 use lib.ListN.{get_or-eq_default}
 use Rattle.dw_row.proofs.{Lent.RowLists.Entry, Slots.{behind_slots, cases_bit, not_set, set_rule, slot_rule_is, unset_rule}}
+use Rattle.dw_row.specs.declared.slot.Slot.TheVariants.{Undefined}
 
 no_rule : (x : RegRule) → is_specified x ≡ false → x ≡ Unspecified
 no_rule Unspecified e = refl
@@ -20,15 +21,22 @@ beside_blank e so r none = elim (cases_lt r 128) [
 -- ---- slots alone
 
 -- those of the registers below a place were copied
-abbrev pub SameBelow : ℕ → ℕ → List Slot → List Slot → Type 0
-SameBelow k mask others near = (q : ℕ) → q < k → bit_at mask q ≡ 1 → get_or near q no_slot ≡ get_or others q no_slot
+abbrev pub SameBelow : ℕ → ℕ → Slots → Slots → Type 0
+SameBelow k mask others near = (q : ℕ) → q < k → bit_at mask q ≡ 1 → slot_at near q ≡ slot_at others q
+
+-- outside there are none
+same_above : (near others : Slots) (q : ℕ) → HasRoom near → HasRoom others → 128 ≤ q → slot_at near q ≡ slot_at others q
+same_above near others q room room' ge =
+    ap₂ (λ (kind : Slot) (n : ℤ). (kind, n))
+    (get_or-eq_default near.kinds Undefined {n = q} (omega (arith, room.0, ge)) ∙ sym (get_or-eq_default others.kinds Undefined {n = q} (omega (arith, room'.0, ge))))
+    (get_or-eq_default near.numbers (pos 0) {n = q} (omega (arith, room.1, ge)) ∙ sym (get_or-eq_default others.numbers (pos 0) {n = q} (omega (arith, room'.1, ge))))
 
 -- ---- the slots of a mask, outside which all rules are the same
 
 unspecified_not : IsTrue (is_specified Unspecified) → ⊥
 unspecified_not e = absurd cc
 
-module _ (old others : Entries) (slots : List Slot) (so : EntriesSo old) (so' : EntriesSo others) (mask : ℕ) (len : length slots ≡ 128) (none : length old.expressions.entries ≡ 0) (none' : length others.expressions.entries ≡ 0)
+module _ (old others : Entries) (slots : Slots) (so : EntriesSo old) (so' : EntriesSo others) (mask : ℕ) (room : HasRoom slots) (none : length old.expressions.entries ≡ 0) (none' : length others.expressions.entries ≡ 0)
     (same : SameUnset mask (entries_of old) (entries_of others)) (copied : SameSlots (bit_and others.used mask) others.slots slots) (stays : SameOutside (bit_and others.used mask) old.slots slots) where
   abbrev new : Entries
   new = record { slots = slots; used = others.used; expressions = old.expressions; far = old.far }
@@ -41,7 +49,7 @@ module _ (old others : Entries) (slots : List Slot) (so : EntriesSo old) (so' : 
   x = nil_from_length old.expressions.entries none ∙ sym (nil_from_length others.expressions.entries none')
 
   -- a register outside the mask had its rule before
-  stayed : (q : ℕ) → q < 128 → bit_at others.used q ≡ 1 → bit_at mask q ≡ 0 → slot_rule (get_or old.slots q no_slot) (rule_in old.expressions.entries q) ≡ wanted q
+  stayed : (q : ℕ) → q < 128 → bit_at others.used q ≡ 1 → bit_at mask q ≡ 0 → slot_rule (slot_at old.slots q) (rule_in old.expressions.entries q) ≡ wanted q
   stayed q lt one out =
       let is : near_rule old.used old.slots old.expressions.entries q ≡ wanted q = sym (slot_rule_is old so q lt) ∙ same q lt out ∙ slot_rule_is others so' q lt in
       elim (cases_bit (bit_at old.used q) (bit_at-lt old.used q)) [
@@ -51,19 +59,19 @@ module _ (old others : Entries) (slots : List Slot) (so : EntriesSo old) (so' : 
       ]
 
   -- and one whose slot is that of the others has it now
-  moved : (q : ℕ) → bit_at others.used q ≡ 1 → get_or slots q no_slot ≡ get_or others.slots q no_slot → slot_rule (get_or slots q no_slot) (rule_in old.expressions.entries q) ≡ wanted q
+  moved : (q : ℕ) → bit_at others.used q ≡ 1 → slot_at slots q ≡ slot_at others.slots q → slot_rule (slot_at slots q) (rule_in old.expressions.entries q) ≡ wanted q
   moved q one is =
-      ap (λ (s : Slot). slot_rule s (rule_in old.expressions.entries q)) is
-      ∙ ap (λ (l : List Entry). slot_rule (get_or others.slots q no_slot) (rule_in l q)) x
+      ap (λ (s : Slot × ℤ). slot_rule s (rule_in old.expressions.entries q)) is
+      ∙ ap (λ (l : List Entry). slot_rule (slot_at others.slots q) (rule_in l q)) x
       ∙ sym (set_rule others.used others.slots others.expressions.entries q one)
 
-  held : (q : ℕ) → bit_at others.used q ≡ 1 → slot_rule (get_or slots q no_slot) (rule_in old.expressions.entries q) ≡ wanted q
+  held : (q : ℕ) → bit_at others.used q ≡ 1 → slot_rule (slot_at slots q) (rule_in old.expressions.entries q) ≡ wanted q
   held q one = elim (cases_lt q 128) [
     | inl lt ↦ elim (cases_bit (bit_at mask q) (bit_at-lt mask q)) [
-      | inl out ↦ ap (λ (s : Slot). slot_rule s (rule_in old.expressions.entries q)) (stays q (omega (arith, out, bit_at_and others.used mask q))) ∙ stayed q lt one out
+      | inl out ↦ ap (λ (s : Slot × ℤ). slot_rule s (rule_in old.expressions.entries q)) (stays q (omega (arith, out, bit_at_and others.used mask q))) ∙ stayed q lt one out
       | inr in_mask ↦ moved q one (copied q (omega (arith, one, in_mask, bit_at_and others.used mask q)))
     ]
-    | inr ge ↦ moved q one (get_or-eq_default slots no_slot {n = q} (omega (arith, len, ge)) ∙ sym (get_or-eq_default others.slots no_slot {n = q} (omega (arith, so'.slots, ge))))
+    | inr ge ↦ moved q one (same_above slots others.slots q room so'.slots ge)
   ]
 
   rules_are : (q : ℕ) → near_rule others.used slots old.expressions.entries q ≡ wanted q
@@ -75,7 +83,7 @@ module _ (old others : Entries) (slots : List Slot) (so : EntriesSo old) (so' : 
   pub masked_so : EntriesSo new
   masked_so = record {
     used = λ q one. subst (λ (r : RegRule). IsTrue (is_specified r)) (sym (rules_are q)) (so'.used q one);
-    slots = len;
+    slots = room;
     expressions = so.expressions;
     beside = so.beside;
     far = so.far;

@@ -2,7 +2,7 @@
 use Rattle.std.proofs.lemmas.List.{nil_from_length}
 use Rattle.dw_row.proofs.Words.{◌≡◌, ℕ, suc, ◌+◌, ◌<◌, ◌≤◌, Bool, true, false, List, [], ◌∷◌, length, Option, Some, None, refl, sym, ap, ◌∙◌, subst, arith}
 use Rattle.dw_row.proofs.Words.{bit_or, bit_at, filter, nat_cmp, range_contains, Bound, Unbounded, if◌then◌else◌, nat_lt, nat_tests, Entries, Unspecified}
-use Rattle.dw_row.proofs.Words.{AreSpecified, BeginsShort, far_behind, rule_in, entries_of, EntriesSo, SameBetween, DiffersFirst, FirstDifference, place_behind, SameUnset}
+use Rattle.dw_row.proofs.Words.{AreSpecified, BeginsWithOffset, far_behind, rule_in, entries_of, EntriesSo, SameBetween, DiffersFirst, FirstDifference, place_behind, SameUnset}
 use Rattle.dw_row.proofs.Words.{start_behind}
 use Rattle.dw_row.proofs.Lent.{RowLists.{Entry, lower, unlisted}, SameRows.{first_rule, not_specified, same_entries}, Narrowed.{filter_keeps, filter_rule}}
 use Rattle.dw_row.proofs.Slots.{behind_slots, neither, not_set}
@@ -129,13 +129,13 @@ all_behind (x ∷ xs) = ap (λ (l : List Entry). x ∷ l) (all_behind xs)
 pub part_up : (p : Entry → Bool) (far part : List Entry) → part ≡ filter p far → AreSpecified 128 far → AreSpecified 0 part
 part_up p far part is up = subst (AreSpecified 0) (sym is) (filter_keeps p 0 far (lower 128 0 far (omega arith) up))
 
-begins_far : (xs : List Entry) → AreSpecified 128 xs → BeginsShort xs → ⊥
-begins_far [] up short = short
-begins_far (x ∷ xs) up short = omega (arith, up.0, short.0)
+begins_far : (xs : List Entry) → AreSpecified 128 xs → BeginsWithOffset xs → ⊥
+begins_far [] up begins = begins
+begins_far (x ∷ xs) up begins = omega (arith, up.0, begins.0)
 
 -- and begins with none below 128
-pub far_short : (behind : Option ℕ) (far : List Entry) → AreSpecified 128 far → BeginsShort (far_behind behind far) → ⊥
-far_short behind far up short = begins_far (far_behind behind far) (filter_keeps (λ (x : Entry). range_contains nat_cmp (start_behind behind) Unbounded x.0) 128 far up) short
+pub none_near : (behind : Option ℕ) (far : List Entry) → AreSpecified 128 far → BeginsWithOffset (far_behind behind far) → ⊥
+none_near behind far up begins = begins_far (far_behind behind far) (filter_keeps (λ (x : Entry). range_contains nat_cmp (start_behind behind) Unbounded x.0) 128 far up) begins
 
 -- ---- all registers
 

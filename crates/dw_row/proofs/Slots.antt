@@ -1,10 +1,10 @@
 -- Registers in slots: what is set in one register's slot is what setting that register leaves.
 use Rattle.dw_row.proofs.Words.{if◌then◌else◌, nat_lt, ◌≡◌, ◌⊎◌, Bool, true, false, inl, inr, cases_Bool, cases_eq, cases_lt, ℕ, zero, suc, ◌+◌, ◌<◌, ◌≤◌, cond, Some}
-use Rattle.dw_row.proofs.Words.{None, List, [], ◌∷◌, length, get_or, refl, sym, ap, ◌∙◌, subst, arith, get_or-set_same, get_or-set_other, nat_tests, IsTrue}
+use Rattle.dw_row.proofs.Words.{None, List, [], ◌∷◌, length, refl, sym, ap, ◌∙◌, subst, arith, get_or-set_same, get_or-set_other, nat_tests, IsTrue}
 use Rattle.dw_row.proofs.Words.{nat_eq, ◌-◌, ◌*◌, ◌/◌, ◌%◌, ◌^◌, bit_or, bit_and, bit_at, bit_not, trailing_zeros, w64, w128, Option, not, div-le_self}
 use Rattle.dw_row.proofs.Words.{bit_at-zero, bit_at_above, bit_at-trailing_zeros, bit_at_set_same, bit_at_set_other, bit_at_clear_other, bit_at_clear_same}
-use Rattle.dw_row.proofs.Words.{bit_at_or, Entries, RegRule, Slot, Unspecified, is_specified, AreSpecified, rule_in, listed, put, EntriesSo, length-set}
-use Rattle.dw_row.proofs.Words.{entries_of, slot_rule, listed_from, listed_near, near_rule, no_slot, rule_if, FirstBit, FirstIn, HasSlot, Holds, IsSlotOf, NoneHasSlot, set}
+use Rattle.dw_row.proofs.Words.{bit_at_or, Entries, RegRule, Slot, Unspecified, is_specified, AreSpecified, rule_in, listed, put, EntriesSo}
+use Rattle.dw_row.proofs.Words.{entries_of, kind_rule, set_at, slot_at, slot_rule, listed_from, listed_near, near_rule, rule_if, FirstBit, FirstIn, HasRoom, HasSlot, Holds, IsSlotOf, NoneHasSlot, Slots, ℤ, pos}
 use Rattle.dw_row.proofs.Words.{pow-add, shr-shr, bit_at-lt, bit_at_and, bit_at_cat_low}
 use Rattle.dw_row.proofs.Lent.RowLists.{Entry, lower, listed_is, listed_keeps, listed_rule, other_rule, put_keeps, put_rule, same_rule_set, unlisted}
 use Rattle.dw_row.proofs.Lent.SameRows.{first_rule, same_entries}
@@ -92,18 +92,18 @@ pub ruleset far_put = (entries_ascend, far_set, put_so)
 
 -- ---- a slot under the mask
 
-pub unset_rule : (used : ℕ) (near : List Slot) (expressions : List Entry) (q : ℕ) → bit_at used q ≡ 0 → near_rule used near expressions q ≡ Unspecified
-unset_rule used near expressions q none = ap (λ (n : ℕ). rule_if n (get_or near q no_slot) (rule_in expressions q)) none
+pub unset_rule : (used : ℕ) (near : Slots) (expressions : List Entry) (q : ℕ) → bit_at used q ≡ 0 → near_rule used near expressions q ≡ Unspecified
+unset_rule used near expressions q none = ap (λ (n : ℕ). rule_if n (slot_at near q) (rule_in expressions q)) none
 
-pub set_rule : (used : ℕ) (near : List Slot) (expressions : List Entry) (q : ℕ) → bit_at used q ≡ 1 → near_rule used near expressions q ≡ slot_rule (get_or near q no_slot) (rule_in expressions q)
-set_rule used near expressions q one = ap (λ (n : ℕ). rule_if n (get_or near q no_slot) (rule_in expressions q)) one
+pub set_rule : (used : ℕ) (near : Slots) (expressions : List Entry) (q : ℕ) → bit_at used q ≡ 1 → near_rule used near expressions q ≡ slot_rule (slot_at near q) (rule_in expressions q)
+set_rule used near expressions q one = ap (λ (n : ℕ). rule_if n (slot_at near q) (rule_in expressions q)) one
 
 -- a register whose bit is not set has no rule
 pub not_set : (e : Entries) → EntriesSo e → (q : ℕ) → q < 128 → bit_at e.used q ≡ 0 → rule_in (entries_of e) q ≡ Unspecified
 not_set e so q lt none = slot_rule_is e so q lt ∙ unset_rule e.used e.slots e.expressions.entries q none
 
 -- and one whose bit is set has its slot's
-pub is_set : (e : Entries) → EntriesSo e → (q : ℕ) → q < 128 → bit_at e.used q ≡ 1 → rule_in (entries_of e) q ≡ slot_rule (get_or e.slots q no_slot) (rule_in e.expressions.entries q)
+pub is_set : (e : Entries) → EntriesSo e → (q : ℕ) → q < 128 → bit_at e.used q ≡ 1 → rule_in (entries_of e) q ≡ slot_rule (slot_at e.slots q) (rule_in e.expressions.entries q)
 is_set e so q lt one = slot_rule_is e so q lt ∙ set_rule e.used e.slots e.expressions.entries q one
 
 pub is_given : (e : Entries) → EntriesSo e → (q : ℕ) → q < 128 → bit_at e.used q ≡ 1 → IsTrue (is_specified (rule_in (entries_of e) q))
@@ -119,10 +119,10 @@ one_in n q b is e = grind (arith, nat_tests, is, e)
 pub ruleset looked_up = (is_given, is_set, not_in, not_set, one_in)
 
 -- no register is held by an empty mask
-pub none_hold : (near : List Slot) (expressions : List Entry) → Holds 0 near expressions
+pub none_hold : (near : Slots) (expressions : List Entry) → Holds 0 near expressions
 none_hold near expressions q one = absurd (omega (arith, one, bit_at-zero q))
 
-pub none_listed : (near : List Slot) (expressions far : List Entry) → far ≡ [] → listed_near 0 0 near expressions far ≡ []
+pub none_listed : (near : Slots) (expressions far : List Entry) → far ≡ [] → listed_near 0 0 near expressions far ≡ []
 none_listed near expressions far none =
     let f = near_rule 0 near expressions in let e = ap (λ (l : List Entry). listed_from 0 128 f l) none in
     e ∙ same_entries 0 (listed_from 0 128 f []) [] (slots_ascend f [] tt) tt (λ q. row_rule f [] tt q ∙ grind (arith, nat_tests, unset_rule 0 near expressions q (bit_at-zero q)))
@@ -158,43 +158,39 @@ module _ (n r b : ℕ) (lt : r < 128) (bit : b ≡ 1 * 2 ^ r % 2 ^ 128) where
 
 -- ---- a slot that is set
 
-module _ (used : ℕ) (near : List Slot) (expressions expressions' : List Entry) (r p : ℕ) (s : Slot) (lt : r < 128) (b : ℕ) (bit : b ≡ 1 * 2 ^ r % 2 ^ 128) (at : p ≡ r) (room : r < length near)
+pub at_set : (near : Slots) (r : ℕ) (s : Slot × ℤ) → HasRoom near → r < 128 → slot_at (set_at near r s) r ≡ s
+at_set near r s room lt =
+    ap₂ (λ (kind : Slot) (n : ℤ). (kind, n)) (get_or-set_same near.kinds r s.0 slots.Undefined (omega (arith, lt, room.0))) (get_or-set_same near.numbers r s.1 (pos 0) (omega (arith, lt, room.1)))
+
+pub at_set_other : (near : Slots) (r q : ℕ) (s : Slot × ℤ) → (q ≡ r → ⊥) → slot_at (set_at near r s) q ≡ slot_at near q
+at_set_other near r q s ne = ap₂ (λ (kind : Slot) (n : ℤ). (kind, n)) (get_or-set_other near.kinds r q s.0 slots.Undefined ne) (get_or-set_other near.numbers r q s.1 (pos 0) ne)
+
+module _ (used : ℕ) (near : Slots) (expressions expressions' : List Entry) (r : ℕ) (s : Slot × ℤ) (lt : r < 128) (b : ℕ) (bit : b ≡ 1 * 2 ^ r % 2 ^ 128) (room : HasRoom near)
     (others : (q : ℕ) → (q ≡ r → ⊥) → rule_in expressions' q ≡ rule_in expressions q) where
-  pub put_rule_is : near_rule (bit_or used b) (set near p s) expressions' r ≡ slot_rule s (rule_in expressions' r)
+  pub put_rule_is : near_rule (bit_or used b) (set_at near r s) expressions' r ≡ slot_rule s (rule_in expressions' r)
   put_rule_is =
-      set_rule (bit_or used b) (set near p s) expressions' r (bit_set_same used r b lt bit)
-      ∙ ap (λ (x : Slot). slot_rule x (rule_in expressions' r)) (ap (λ (n : ℕ). get_or (set near n s) r no_slot) at ∙ get_or-set_same near r s no_slot room)
+      set_rule (bit_or used b) (set_at near r s) expressions' r (bit_set_same used r b lt bit) ∙ ap (λ (x : Slot × ℤ). slot_rule x (rule_in expressions' r)) (at_set near r s room lt)
 
-  pub other_rule_is : (q : ℕ) → (q ≡ r → ⊥) → near_rule (bit_or used b) (set near p s) expressions' q ≡ near_rule used near expressions q
+  pub other_rule_is : (q : ℕ) → (q ≡ r → ⊥) → near_rule (bit_or used b) (set_at near r s) expressions' q ≡ near_rule used near expressions q
   other_rule_is q ne =
-      ap (λ (n : ℕ). rule_if n (get_or (set near p s) q no_slot) (rule_in expressions' q)) (bit_set_other used r b lt bit q ne)
-      ∙ ap (λ (x : Slot). rule_if (bit_at used q) x (rule_in expressions' q)) (get_or-set_other near p q s no_slot (λ e. ne (e ∙ at)))
-      ∙ ap (rule_if (bit_at used q) (get_or near q no_slot)) (others q ne)
+      ap (λ (n : ℕ). rule_if n (slot_at (set_at near r s) q) (rule_in expressions' q)) (bit_set_other used r b lt bit q ne)
+      ∙ ap (λ (x : Slot × ℤ). rule_if (bit_at used q) x (rule_in expressions' q)) (at_set_other near r q s ne)
+      ∙ ap (rule_if (bit_at used q) (slot_at near q)) (others q ne)
 
-  pub put_holds : Holds used near expressions → IsTrue (is_specified (slot_rule s (rule_in expressions' r))) → Holds (bit_or used b) (set near p s) expressions'
+  pub put_holds : Holds used near expressions → IsTrue (is_specified (slot_rule s (rule_in expressions' r))) → Holds (bit_or used b) (set_at near r s) expressions'
   put_holds holds given q one = elim (cases_eq q r) [
-    | inl e ↦ subst (λ (n : ℕ). IsTrue (is_specified (near_rule (bit_or used b) (set near p s) expressions' n))) (sym e) (subst (λ (rule : RegRule). IsTrue (is_specified rule)) (sym put_rule_is) given)
+    | inl e ↦ subst (λ (n : ℕ). IsTrue (is_specified (near_rule (bit_or used b) (set_at near r s) expressions' n))) (sym e) (subst (λ (rule : RegRule). IsTrue (is_specified rule)) (sym put_rule_is) given)
     | inr ne ↦
         subst (λ (rule : RegRule). IsTrue (is_specified rule)) (sym (other_rule_is q ne)) (holds q (sym (bit_set_other used r b lt bit q ne) ∙ one))
   ]
 
 -- ---- as the code sets them
 
-held_rule : (s : Slot) (rule : RegRule) → (s ≡ slots.Beside → ⊥) → IsSlotOf rule s → (block : RegRule) → slot_rule s block ≡ rule
-held_rule slots.Beside rule not is block = absurd (not refl)
-held_rule s rule not is block = is block
+plain_given : (kind : Slot) (n : ℤ) (block : RegRule) → (kind ≡ slots.Beside → ⊥) → IsTrue (is_specified (kind_rule kind n block))
+plain_given slots.Beside n block not = absurd (not refl)
+plain_given kind n block not = refl
 
-plain_given : (s : Slot) (block : RegRule) → (s ≡ slots.Beside → ⊥) → IsTrue (is_specified (slot_rule s block))
-plain_given slots.Beside block not = absurd (not refl)
-plain_given s block not = refl
-
-pub set_length : (near : List Slot) (p : ℕ) (s : Slot) → length near ≡ 128 → length (set near p s) ≡ 128
-set_length near p s e = length-set near p s ∙ e
-
-module _ (e : Entries) (so : EntriesSo e) (r : ℕ) (s : Slot) (new : List Slot) (lt : r < 128) (b : ℕ) (bit : b ≡ 1 * 2 ^ r % 2 ^ 128) (stored : new ≡ set e.slots r s) where
-  room : r < length e.slots
-  room = omega (arith, lt, so.slots)
-
+module _ (e : Entries) (so : EntriesSo e) (r : ℕ) (s : Slot × ℤ) (new : Slots) (lt : r < 128) (b : ℕ) (bit : b ≡ 1 * 2 ^ r % 2 ^ 128) (stored : new ≡ set_at e.slots r s) where
   abbrev with_bit : ℕ
   with_bit = bit_or e.used b
 
@@ -202,39 +198,41 @@ module _ (e : Entries) (so : EntriesSo e) (r : ℕ) (s : Slot) (new : List Slot)
     slot_put : (rule : RegRule) → slot_rule s (rule_in expressions' r) ≡ rule → listed_near 0 with_bit new expressions' e.far.entries ≡ put r rule (entries_of e)
     slot_put rule here =
         let x = e.expressions.entries in
-        ap (λ (l : List Slot). listed_near 0 with_bit l expressions' e.far.entries) stored
-        ∙ rules_put (near_rule e.used e.slots x) (near_rule with_bit (set e.slots r s) expressions') e.far.entries so.far r rule lt
-        (put_rule_is e.used e.slots x expressions' r r s lt b bit refl room stay ∙ here)
-        (λ q low. other_rule_is e.used e.slots x expressions' r r s lt b bit refl room stay q)
+        ap (λ (l : Slots). listed_near 0 with_bit l expressions' e.far.entries) stored
+        ∙ rules_put (near_rule e.used e.slots x) (near_rule with_bit (set_at e.slots r s) expressions') e.far.entries so.far r rule lt
+        (put_rule_is e.used e.slots x expressions' r s lt b bit so.slots stay ∙ here)
+        (λ q low. other_rule_is e.used e.slots x expressions' r s lt b bit so.slots stay q)
 
     slot_holds : IsTrue (is_specified (slot_rule s (rule_in expressions' r))) → Holds with_bit new expressions'
-    slot_holds given = subst (λ (l : List Slot). Holds with_bit l expressions') (sym stored) (put_holds e.used e.slots e.expressions.entries expressions' r r s lt b bit refl room stay so.used given)
+    slot_holds given = subst (λ (l : Slots). Holds with_bit l expressions') (sym stored) (put_holds e.used e.slots e.expressions.entries expressions' r s lt b bit so.slots stay so.used given)
 
-  pub plain_put : (s ≡ slots.Beside → ⊥) → (rule : RegRule) → IsSlotOf rule s → listed_near 0 (bit_or e.used b) new e.expressions.entries e.far.entries ≡ put r rule (entries_of e)
-  plain_put not rule is = slot_put e.expressions.entries (λ q ne. refl) rule (held_rule s rule not is (rule_in e.expressions.entries r))
+  pub plain_put : (rule : RegRule) → IsSlotOf rule s → listed_near 0 (bit_or e.used b) new e.expressions.entries e.far.entries ≡ put r rule (entries_of e)
+  plain_put rule is = slot_put e.expressions.entries (λ q ne. refl) rule (is (rule_in e.expressions.entries r))
 
-  pub plain_holds : (s ≡ slots.Beside → ⊥) → Holds (bit_or e.used b) new e.expressions.entries
-  plain_holds not = slot_holds e.expressions.entries (λ q ne. refl) (plain_given s (rule_in e.expressions.entries r) not)
+  pub plain_holds : (s.0 ≡ slots.Beside → ⊥) → Holds (bit_or e.used b) new e.expressions.entries
+  plain_holds not = slot_holds e.expressions.entries (λ q ne. refl) (plain_given s.0 s.1 (rule_in e.expressions.entries r) not)
 
-  module _ (rule : RegRule) (expressions' : List Entry) (is : s ≡ slots.Beside) (put_in : expressions' ≡ put r rule e.expressions.entries) where
-    others : (q : ℕ) → (q ≡ r → ⊥) → rule_in expressions' q ≡ rule_in e.expressions.entries q
-    others q ne = rw put_in (other_rule r q rule e.expressions.entries so.expressions ne)
+-- and a rule beside its slot
+module _ (e : Entries) (so : EntriesSo e) (r : ℕ) (n : ℤ) (new : Slots) (lt : r < 128) (b : ℕ) (bit : b ≡ 1 * 2 ^ r % 2 ^ 128) (stored : new ≡ set_at e.slots r (slots.Beside, n)) (rule : RegRule) (expressions' : List Entry)
+    (put_in : expressions' ≡ put r rule e.expressions.entries) where
+  others : (q : ℕ) → (q ≡ r → ⊥) → rule_in expressions' q ≡ rule_in e.expressions.entries q
+  others q ne = rw put_in (other_rule r q rule e.expressions.entries so.expressions ne)
 
-    here : slot_rule s (rule_in expressions' r) ≡ rule
-    here = rw (is, put_in) (same_rule_set r r rule e.expressions.entries so.expressions refl)
+  here : rule_in expressions' r ≡ rule
+  here = rw put_in (same_rule_set r r rule e.expressions.entries so.expressions refl)
 
-    pub expression_put : listed_near 0 (bit_or e.used b) new expressions' e.far.entries ≡ put r rule (entries_of e)
-    expression_put = slot_put expressions' others rule here
+  pub expression_put : listed_near 0 (bit_or e.used b) new expressions' e.far.entries ≡ put r rule (entries_of e)
+  expression_put = slot_put e so r (slots.Beside, n) new lt b bit stored expressions' others rule here
 
-    pub expression_holds : IsTrue (is_specified rule) → Holds (bit_or e.used b) new expressions'
-    expression_holds given = slot_holds expressions' others (subst (λ (x : RegRule). IsTrue (is_specified x)) (sym here) given)
+  pub expression_holds : IsTrue (is_specified rule) → Holds (bit_or e.used b) new expressions'
+  expression_holds given = slot_holds e so r (slots.Beside, n) new lt b bit stored expressions' others (subst (λ (x : RegRule). IsTrue (is_specified x)) (sym here) given)
 
-pub ruleset kept_beside = (expression_put, expression_holds, more_beside, put_so, set_length)
+pub ruleset kept_beside = (expression_put, expression_holds, more_beside, put_so)
 
 -- ---- registers that are taken out of the mask
 
 -- a mask with fewer bits
-module _ (used used' : ℕ) (near : List Slot) (expressions : List Entry) (holds : Holds used near expressions) (fewer : (q : ℕ) → bit_at used' q ≡ 1 → bit_at used q ≡ 1) where
+module _ (used used' : ℕ) (near : Slots) (expressions : List Entry) (holds : Holds used near expressions) (fewer : (q : ℕ) → bit_at used' q ≡ 1 → bit_at used q ≡ 1) where
   pub fewer_rule : (q : ℕ) → bit_at used' q ≡ 1 → near_rule used' near expressions q ≡ near_rule used near expressions q
   fewer_rule q one = set_rule used' near expressions q one ∙ sym (set_rule used near expressions q (fewer q one))
 
@@ -249,7 +247,7 @@ module _ (e : Entries) (so : EntriesSo e) (r : ℕ) (lt : r < 128) (b : ℕ) (bi
   dropped_put =
       let x = e.expressions.entries in let near = e.slots in
       rules_put (near_rule e.used near x) (near_rule dropped near x) e.far.entries so.far r Unspecified lt (unset_rule dropped near x r (bit_clear_same e.used r b lt bit))
-      (λ q low ne. ap (λ (n : ℕ). rule_if n (get_or near q no_slot) (rule_in x q)) (bit_clear_other e.used r b lt bit q low ne))
+      (λ q low ne. ap (λ (n : ℕ). rule_if n (slot_at near q) (rule_in x q)) (bit_clear_other e.used r b lt bit q low ne))
 
   pub dropped_holds : Holds (bit_and e.used (bit_not w128 b)) e.slots e.expressions.entries
   dropped_holds =
@@ -369,7 +367,7 @@ one_from : (k c m : ℕ) (f : ℕ → RegRule) (far : List Entry) → c ≡ suc 
 unfolding listed_from
 one_from k c m f far e = ap (λ (n : ℕ). listed_from k n f far) e
 
-module _ (used : ℕ) (near : List Slot) (expressions far : List Entry) where
+module _ (used : ℕ) (near : Slots) (expressions far : List Entry) where
   skipped : (r : ℕ) → r ≤ 128 → ((q : ℕ) → q < r → bit_at used q ≡ 0) → listed_near 0 used near expressions far ≡ listed_near r used near expressions far
   skipped r within none = skip_many r 0 r 128 (128 - r) (near_rule used near expressions) far (omega arith) (omega arith) (λ q low high. unset_rule used near expressions q (none q high))
 
@@ -378,17 +376,17 @@ module _ (used : ℕ) (near : List Slot) (expressions far : List Entry) where
   unfolding listed_from
   none_used none = skipped 128 (omega arith) (λ q lt. none q (omega arith) lt)
 
-module _ (used rest : ℕ) (near : List Slot) (expressions : List Entry) (holds : Holds used near expressions) (is_rest : rest ≡ bit_and used (used - 1)) where
+module _ (used rest : ℕ) (near : Slots) (expressions : List Entry) (holds : Holds used near expressions) (is_rest : rest ≡ bit_and used (used - 1)) where
   pub rest_holds : Holds rest near expressions
   rest_holds = fewer_holds used rest near expressions holds (λ q one. omega (arith, one, ap (λ (n : ℕ). bit_at n q) is_rest, bit_at_and used (used - 1) q, bit_at-lt used q))
 
-  pub next_used : (far : List Entry) (r : ℕ) → FirstBit (Some r) used 0 → (s : Slot) → s ≡ get_or near r no_slot → (rule : RegRule) → rule ≡ slot_rule s (rule_in expressions r)
+  pub next_used : (far : List Entry) (r : ℕ) → FirstBit (Some r) used 0 → (s : Slot × ℤ) → s ≡ slot_at near r → (rule : RegRule) → rule ≡ slot_rule s (rule_in expressions r)
       → listed_near 0 used near expressions far ≡ (r, rule) ∷ listed_near 0 rest near expressions far
   next_used far r first s at rule e =
       let f = near_rule used near expressions in let g = near_rule rest near expressions in
-      let is : rule ≡ f r = e ∙ ap (λ (x : Slot). slot_rule x (rule_in expressions r)) at ∙ sym (set_rule used near expressions r first.2) in
+      let is : rule ≡ f r = e ∙ ap (λ (x : Slot × ℤ). slot_rule x (rule_in expressions r)) at ∙ sym (set_rule used near expressions r first.2) in
       let bit = λ (q : ℕ). ap (λ (n : ℕ). bit_at n q) is_rest ∙ rest_bit used r first q in
-      let stays = λ (q : ℕ) (le : suc r ≤ q). let e : bit_at used q ≡ bit_at rest q = grind (arith, nat_tests, bit q) in ap (λ (n : ℕ). rule_if n (get_or near q no_slot) (rule_in expressions q)) e in
+      let stays = λ (q : ℕ) (le : suc r ≤ q). let e : bit_at used q ≡ bit_at rest q = grind (arith, nat_tests, bit q) in ap (λ (n : ℕ). rule_if n (slot_at near q) (rule_in expressions q)) e in
       skipped used near expressions far r (omega (arith, first.1)) (λ q. first.3 q (omega arith))
       ∙ one_from r (128 - r) (128 - suc r) f far (omega (arith, first.1))
       ∙ listed_is r (f r) (listed_from (suc r) (128 - suc r) f far) (holds r first.2)

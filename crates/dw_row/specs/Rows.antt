@@ -1,6 +1,5 @@
 -- Rows of rules: DWARF 5, 6.4.1. A row says how to find the canonical frame address and each register.
-use Rattle.std.specs.Prelude.{ℕ, suc, ◌<◌, ◌≤◌, FitsSigned, List, [], ◌∷◌, Bool, true, false, IsTrue, nat_eq, nat_lt, if◌then◌else◌}
-use Rattle.std.specs.Int.{w16}
+use Rattle.std.specs.Prelude.{ℕ, suc, ◌<◌, ◌≤◌, List, [], ◌∷◌, Bool, true, false, IsTrue, nat_eq, nat_lt, if◌then◌else◌}
 use Rattle.dw_row.specs.declared.rule.{CfaRule.{CfaRule, TheVariants.Unset}, RegRule.{RegRule, TheVariants.{Offset, Unspecified}}}
 
 -- the CFA's rule, and the registers that are not Unspecified with their rules
@@ -27,15 +26,15 @@ rule_in (entry ∷ rest) r = if nat_eq entry.0 r then entry.1 else rule_in rest 
 abbrev pub rule : Rules → ℕ → RegRule
 rule row r = rule_in row.registers r
 
--- it is saved at an offset of 16 bits
-abbrev pub IsShortOffset : RegRule → Type 0
-IsShortOffset (Offset n) = FitsSigned w16 n
-IsShortOffset rule = ⊥
+-- it is saved at an offset
+abbrev pub IsOffset : RegRule → Type 0
+IsOffset (Offset n) = Unit {0}
+IsOffset rule = ⊥
 
--- the first register is below 128, and saved at such an offset
-abbrev pub BeginsShort : List (ℕ × RegRule) → Type 0
-BeginsShort [] = ⊥
-BeginsShort (entry ∷ rest) = (entry.0 < 128) × IsShortOffset entry.1
+-- the first register is below 128, and saved at an offset
+abbrev pub BeginsWithOffset : List (ℕ × RegRule) → Type 0
+BeginsWithOffset [] = ⊥
+BeginsWithOffset (entry ∷ rest) = (entry.0 < 128) × IsOffset entry.1
 
 -- nothing is set
 abbrev pub blank : Rules

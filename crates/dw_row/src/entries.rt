@@ -8,7 +8,7 @@ ghost use Rattle.dw_row.specs.Inner.{Difference.{FirstBelow, SameUnset}, Entries
 use crate::behind::start_behind;
 use crate::near_slots::{bit_of, is_in, next_in, same_slots};
 use crate::rule::RegRule;
-use crate::slot::{Slot, plain_slot, rule_of};
+use crate::slot::{Slot, Slots, plain_slot, rule_of};
 use crate::tree::{first_difference, rule_in_tree, set_in_tree};
 use std::alloc::AllocError;
 use std::collections::BTreeMap;
@@ -16,11 +16,11 @@ use std::ops::Bound;
 
 /// The registers below this have slots.
 pub const NEAR: u16 = 128;
-/// The registers that are not Unspecified, with their rules: those below 128 in slots under a mask, with the
-/// rules of theirs that no slot holds in a tree, and all others in another tree.
+/// The registers that are not Unspecified, with their rules: those below 128 in slots under a mask, with their
+/// expressions in a tree, and all others in another tree.
 #[derive(Drop)]
 pub(crate) struct Entries<'a> {
-    pub(crate) slots: [Slot; 128],
+    pub(crate) slots: Slots,
     pub(crate) used: u128,
     pub(crate) expressions: BTreeMap<u16, RegRule<'a>>,
     pub(crate) far: BTreeMap<u16, RegRule<'a>>,
@@ -30,7 +30,7 @@ impl<'a> Entries<'a> {
     // The slot of a register that is specified.
     #[tactic(auto, using(crate::proofs::Slots::looked_up))]
     #[inline(always)]
-    pub(crate) fn slot(&self, register: u16) -> Option<Slot>
+    pub(crate) fn slot(&self, register: u16) -> Option<(Slot, i64)>
         requires so { EntriesSo self.now }
         requires near { register < 128 }
         ensures rule { FindsSlot self.now register result }
@@ -39,7 +39,7 @@ impl<'a> Entries<'a> {
         if !is_in(self.used, register) {
             return None;
         }
-        Some(self.slots[usize::from(register)])
+        Some(self.slots.get(register))
     }
 
     #[inline(always)]
@@ -139,16 +139,16 @@ impl<'a> Entries<'a> {
     }
 
     // Gives a register that has a slot a rule that is no expression.
-    #[tactic(auto, using(crate::proofs::Slots::plain_put, crate::proofs::Slots::plain_holds, crate::proofs::Slots::set_length))]
+    #[tactic(auto, using(crate::proofs::Slots::plain_put, crate::proofs::Slots::plain_holds))]
     #[inline(always)]
-    fn put_plain(&mut self, register: u16, slot: Slot)
+    fn put_plain(&mut self, register: u16, slot: (Slot, i64))
         requires so { EntriesSo self.old }
         requires near { register < 128 }
-        requires kind { slot ≡ Beside → ⊥ }
+        requires kind { slot.0 ≡ Beside → ⊥ }
         ensures entries { (rule : TheRule) → IsSlotOf rule slot → entries_of self.new ≡ put register rule (entries_of self.old) }
         ensures so { EntriesSo self.new }
     {
-        self.slots[usize::from(register)] = slot;
+        self.slots.set(register, slot);
         self.used |= bit_of(register);
     }
 
@@ -165,7 +165,7 @@ impl<'a> Entries<'a> {
         ensures err { OnErr result (entries_of self.new ≡ entries_of self.old) }
     {
         set_in_tree(&mut self.expressions, register, rule)?;
-        self.slots[usize::from(register)] = Slot::Beside;
+        self.slots.set(register, (Slot::Beside, 0));
         self.used |= bit_of(register);
         Ok(())
     }
@@ -223,7 +223,7 @@ impl<'a> Entries<'a> {
             self.drop_near(register);
             return Ok(());
         };
-        if let Slot::Beside = slot {
+        if let Slot::Beside = slot.0 {
             return self.copy_beside(others, register);
         }
         self.put_plain(register, slot);

@@ -1,10 +1,10 @@
 //! Slots of registers under a mask: a slot that the mask has not is never read.
 
-ghost use Rattle.std.specs.{Prelude.{◌≡◌, ◌<◌, ◌≤◌, ◌↔◌, ◌-◌, ◌*◌, ◌^◌, ◌%◌, IsTrue, bit_and, length, nat_eq}, Int.bit_at};
-ghost use Rattle.dw_row.specs.{Rows.rule_in, Inner.Entries.{FirstBit, FirstIn, SameOutside, SameSlots, slot_rule}};
+ghost use Rattle.std.specs.{Prelude.{◌≡◌, ◌<◌, ◌≤◌, ◌↔◌, ◌-◌, ◌*◌, ◌^◌, ◌%◌, IsTrue, bit_and, nat_eq}, Int.bit_at};
+ghost use Rattle.dw_row.specs.{Rows.rule_in, Inner.Entries.{FirstBit, FirstIn, HasRoom, SameOutside, SameSlots, slot_rule}};
 
 use crate::rule::RegRule;
-use crate::slot::{Slot, rule_of};
+use crate::slot::{Slot, Slots, register_in, rule_of};
 use std::collections::BTreeMap;
 
 // What stands before the upper half of a mask.
@@ -96,16 +96,16 @@ pub(crate) fn without_first(mask: u128) -> u128
 
 /// Copies the slots of the registers in a mask.
 #[inline(always)]
-pub(crate) fn copy_slots(slots: &mut [Slot; 128], others: &[Slot; 128], mask: u128)
-    requires slots { length slots.old ≡ 128 }
-    requires others { length others.now ≡ 128 }
-    ensures slots { length slots.new ≡ 128 }
+pub(crate) fn copy_slots(slots: &mut Slots, others: &Slots, mask: u128)
+    requires slots { HasRoom slots.old }
+    requires others { HasRoom others.now }
+    ensures slots { HasRoom slots.new }
     ensures copied { SameSlots mask others.now slots.new }
     ensures stays { SameOutside mask slots.old slots.new }
 {
     let mut place = 0;
     'slots: while let Some(register) = next_in(mask, place) {
-        slots[register as usize] = others[register as usize];
+        slots.set(register as u16, others.get(register as u16));
         place = register + 1;
     }
 }
@@ -113,8 +113,8 @@ pub(crate) fn copy_slots(slots: &mut [Slot; 128], others: &[Slot; 128], mask: u1
 // Whether two slots of a register give it the same rule, whatever they hold.
 #[inline(never)]
 fn same_rules(
-    slot: Slot,
-    other: Slot,
+    slot: (Slot, i64),
+    other: (Slot, i64),
     expressions: &BTreeMap<u16, RegRule<'_>>,
     others: &BTreeMap<u16, RegRule<'_>>,
     register: u16,
@@ -127,15 +127,15 @@ fn same_rules(
 /// The same, with no look at the trees where neither holds an expression.
 #[inline(always)]
 pub(crate) fn same_slots(
-    slot: Slot,
-    other: Slot,
+    slot: (Slot, i64),
+    other: (Slot, i64),
     expressions: &BTreeMap<u16, RegRule<'_>>,
     others: &BTreeMap<u16, RegRule<'_>>,
     register: u16,
 ) -> bool
     ensures { IsTrue result ↔ (slot_rule slot (rule_in expressions.now.entries register) ≡ slot_rule other (rule_in others.now.entries register)) }
 {
-    match (slot, other) {
+    match (slot.0, other.0) {
         (Slot::Beside, _) | (_, Slot::Beside) => same_rules(
             slot,
             other,
@@ -145,9 +145,9 @@ pub(crate) fn same_slots(
         ),
         (Slot::Undefined, Slot::Undefined) => true,
         (Slot::SameValue, Slot::SameValue) => true,
-        (Slot::Offset(offset), Slot::Offset(n)) => offset == n,
-        (Slot::ValOffset(offset), Slot::ValOffset(n)) => offset == n,
-        (Slot::Register(register), Slot::Register(r)) => register == r,
+        (Slot::Offset, Slot::Offset) => slot.1 == other.1,
+        (Slot::ValOffset, Slot::ValOffset) => slot.1 == other.1,
+        (Slot::Register, Slot::Register) => register_in(slot.1) == register_in(other.1),
         _ => false,
     }
 }

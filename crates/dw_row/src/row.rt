@@ -3,14 +3,14 @@
 ghost use Rattle.std.specs.Prelude.{◌≡◌, ◌<◌, ◌≤◌, ℕ, ℤ, ◌∷◌, IfOk, OnOk, OnErr, MatchOption, IsTrue, ◌↔◌, false};
 ghost use Rattle.std.specs.{Int.bit_at, Iterator.{YieldsFirst, item_count}};
 ghost use Rattle.dw_row.specs.{Agreement.{kept, without}, Difference.{FirstDifference, place_behind}};
-ghost use Rattle.dw_row.specs.{RegisterSets.SpecifiesIn, Rows.{AreSpecified, BeginsShort, is_specified, rule, rule_in, blank, with_cfa, with_rule}};
+ghost use Rattle.dw_row.specs.{RegisterSets.SpecifiesIn, Rows.{AreSpecified, BeginsWithOffset, is_specified, rule, rule_in, blank, with_cfa, with_rule}};
 ghost use Rattle.dw_row.specs.declared.rule.RegRule.TheVariants.{Offset, Unspecified};
 
 use crate::behind::place_behind;
 use crate::entries::{Entries, NEAR};
 use crate::near_slots::{next_in, without_first};
 use crate::rule::{CfaRule, RegRule};
-use crate::slot::{Slot, offset_in, rule_of};
+use crate::slot::{Slot, Slots, offset_in, rule_of};
 use crate::tree::{next_in_tree, set_in_tree};
 use std::alloc::{AllocError, Global};
 use std::collections::BTreeMap;
@@ -50,7 +50,7 @@ impl<'a> Clone for Row<'a> {
 /// An iterator over the registers that a row specifies, ascending, with their rules. Takes no memory.
 #[derive(Drop)]
 pub struct Specified<'r, 'a> {
-    pub(crate) slots: &'r [Slot; 128],
+    pub(crate) slots: &'r Slots,
     pub(crate) used: u128,
     pub(crate) expressions: &'r BTreeMap<u16, RegRule<'a>>,
     pub(crate) far: &'r BTreeMap<u16, RegRule<'a>>,
@@ -59,26 +59,27 @@ pub struct Specified<'r, 'a> {
 }
 
 impl<'r, 'a> Model for Specified<'r, 'a> {
-    ghost use Rattle.std.specs.Prelude.{◌≡◌, List, ℕ, length};
-    ghost use Rattle.dw_row.specs.{Rows.AreSpecified, declared.{rule.{RegRule.{RegRule as Rule}}}, Inner.Entries.{far_behind, listed_near, Holds, NoneHasSlot}};
+    ghost use Rattle.std.specs.Prelude.{List, ℕ};
+    ghost use Rattle.dw_row.specs.{Rows.AreSpecified, declared.rule.RegRule.{RegRule as Rule}};
+    ghost use Rattle.dw_row.specs.Inner.Entries.{far_behind, listed_near, HasRoom, Holds, NoneHasSlot};
 
     ghost Value = { List (ℕ × Rule) };
 
     ghost view = { λ s. listed_near 0 s.used s.slots.now s.expressions.now.entries (far_behind s.last s.far.now.entries) };
 
-    ghost invariant = { λ s. (length s.slots.now ≡ 128) × Holds s.used s.slots.now s.expressions.now.entries
+    ghost invariant = { λ s. HasRoom s.slots.now × Holds s.used s.slots.now s.expressions.now.entries
         × AreSpecified 128 s.far.now.entries × NoneHasSlot s.expressions.now.entries };
 }
 
 impl<'r, 'a> Specified<'r, 'a> {
-    /// The next register with its offset, where it is below 128 and its rule an `Offset` of 16 bits; else none, and it stays.
+    /// The next register with its offset, where it is below 128 and its rule an `Offset`; else none, and it stays.
     #[inline(always)]
     pub fn next_offset(&mut self) -> Option<(u16, i64)>
         ensures next { MatchOption result (self.new ≡ self.old) (λ found. self.old ≡ (found.0, Offset found.1) ∷ self.new) }
-        ensures exact { MatchOption result (BeginsShort self.old → ⊥) (λ _. BeginsShort self.old) }
+        ensures exact { MatchOption result (BeginsWithOffset self.old → ⊥) (λ _. BeginsWithOffset self.old) }
     {
         let register = next_in(self.used, 0)? as u16;
-        let offset = offset_in(self.slots[usize::from(register)])?;
+        let offset = offset_in(self.slots.get(register))?;
         self.used = without_first(self.used);
         Some((register, offset))
     }
@@ -96,7 +97,7 @@ impl<'r, 'a> Iterator for Specified<'r, 'a> {
     fn next(&mut self) -> Option<(u16, RegRule<'a>)> {
         if let Some(next) = next_in(self.used, 0) {
             let register = next as u16;
-            let slot = self.slots[usize::from(register)];
+            let slot = self.slots.get(register);
             self.used = without_first(self.used);
             return Some((register, rule_of(slot, self.expressions, register)));
         }
@@ -118,7 +119,10 @@ impl<'a> Row<'a> {
         ensures { result ≡ blank }
     {
         let entries = Entries {
-            slots: [Slot::Undefined; 128],
+            slots: Slots {
+                kinds: [Slot::Undefined; 128],
+                numbers: [0; 128],
+            },
             used: 0,
             expressions: BTreeMap::new(alloc),
             far: BTreeMap::new(alloc),
@@ -184,12 +188,7 @@ impl<'a> Row<'a> {
     {
         // Read from its slot where it has one, since a rule is moved about.
         if register < NEAR {
-            if let Some(slot) = self.entries.slot(register) {
-                let found = offset_in(slot);
-                if found.is_some() {
-                    return found;
-                }
-            }
+            return offset_in(self.entries.slot(register)?);
         }
         match self.rule(register) {
             RegRule::Offset(offset) => Some(offset),
