@@ -3,9 +3,8 @@
  *     requests SIZE ORDER FILE
  *
  * FILE is a well formed section. It is linked with --wrap=malloc and --wrap=realloc. At addresses of each plain FDE dwframe_row_at and
- * dwframe_unwind_at are called: one in whose rows all registers are below 128, and no rule is an expression or has an offset beyond 16
- * bits. Printed is how many look-ups there were, and how many of them asked for memory; and the same of frames, where at most 64
- * registers are told. */
+ * dwframe_unwind_at are called: one in whose rows all registers are below 128, and no rule is an expression. Printed is how many
+ * look-ups there were, and how many of them asked for memory; and the same of frames, where at most 64 registers are told. */
 #include <stdio.h>
 #include <stdlib.h>
 #include <string.h>
@@ -43,7 +42,7 @@ static int is_plain(const dwframe_row *row, const dwframe_rule *rules)
     if (row->cfa_kind != DWFRAME_CFA_REGISTER || row->count > RULES)
         return 0;
     for (size_t i = 0; i < row->count; i++)
-        if (rules[i].number >= 128 || rules[i].kind >= DWFRAME_RULE_EXPRESSION || rules[i].offset != (int16_t)rules[i].offset)
+        if (rules[i].number >= 128 || rules[i].kind >= DWFRAME_RULE_EXPRESSION)
             return 0;
     return 1;
 }
