@@ -263,7 +263,7 @@ while read -r size order section; do ./refused-sanitized "$size" "$order" "$sect
 echo "library: $(awk '{ calls += $1; requests += $3 } END { print calls " calls, " requests " requests for memory refused, each once" }' requests)"
 
 # ---- requests for memory that are made: none by a look-up or a frame in a plain FDE, also behind up to four rows that are remembered one
-# above the other, whatever is changed behind each
+# above the other, with 6 to 8 registers changed behind each
 
 gcc "${flags[@]}" -o requests -Wl,--wrap=malloc,--wrap=realloc "$root/checks/requests.c" "$library"
 mkdir remembered

@@ -1,10 +1,10 @@
-//! What a look-up keeps: a row, one that is remembered, and a location (6.4.3). What it does not know it leaves to the machine: it says
-//! then that memory ran out, behind which nothing is known.
+//! What a look-up keeps: a row and a location (6.4.3). What it does not know it leaves to the machine: it says then that memory
+//! ran out, behind which nothing is known.
 
-ghost use Rattle.std.specs.Prelude.{◌≡◌, ◌≤◌, ◌+◌, [], false, IfSome};
+ghost use Rattle.std.specs.Prelude.{◌≡◌, ◌≤◌, ◌+◌, false, IfSome};
 ghost use Rattle.dw_num.specs.Target.{address_limit};
 ghost use Rattle.dw_row.specs.{Rows.blank, RegisterSets.SpecifiesIn};
-ghost use Rattle.dw_cfa.specs.Inner.{LookUp.{look_up_at, remembered}, Turns.Did};
+ghost use Rattle.dw_cfa.specs.Inner.{LookUp.look_up_at, Turns.Did};
 
 use crate::instr::Instr;
 use crate::keep::{Keep, cfa_behind};
@@ -14,15 +14,10 @@ use dw_row::{CfaRule, NEAR, RegRule, Row, is_in};
 use std::alloc::Global;
 use std::snapshot::Snapshot;
 
-// How many registers a row may have that is copied where it is remembered.
-const MOST_COPIED: u32 = 32;
-
 /// A row, and what is needed to run an FDE's program from it on.
 #[derive(Drop)]
 pub(crate) struct LookUp<'a> {
     pub(crate) row: Row<'a>,
-    // The row that is remembered, if one is.
-    saved: Option<Row<'a>>,
     // The initial row and the size of an address are not kept, but for clauses.
     initial: Snapshot<Row<'a>>,
     size: Snapshot<Size>,
@@ -62,7 +57,6 @@ impl<'a> LookUp<'a> {
         let initial = Snapshot::of(&row);
         LookUp {
             row,
-            saved: None,
             initial,
             size: Snapshot::of(&Size::Eight),
             specified: 0,
@@ -74,9 +68,8 @@ impl<'a> LookUp<'a> {
     /// Begins an FDE's program at an address, with the row that it has as the initial one.
     #[inline(always)]
     pub(crate) fn begin(&mut self, location: u64, size: Size)
-        ensures { ⟦<LookUp<'a> as Keep<'a>>⟧.machine self.new ≡ look_up_at self.old.row (address_limit size) self.old.row [] location }
+        ensures { ⟦<LookUp<'a> as Keep<'a>>⟧.machine self.new ≡ look_up_at self.old.row (address_limit size) self.old.row location }
     {
-        self.saved = None;
         self.initial = Snapshot::of(&self.row);
         self.size = Snapshot::of(&size);
         self.specified = self.row.near_mask();
@@ -86,11 +79,11 @@ impl<'a> LookUp<'a> {
 }
 
 impl<'a> Keep<'a> for LookUp<'a> {
-    ghost machine = { λ k. look_up_at k.initial.value (address_limit k.size.value) k.row (remembered k.saved) k.location };
+    ghost machine = { λ k. look_up_at k.initial.value (address_limit k.size.value) k.row k.location };
 
     ghost takes = { λ k i at end fault k'. Did false i at
-        (look_up_at k.initial.value (address_limit k.size.value) k.row (remembered k.saved) k.location) end fault
-        (look_up_at k'.initial.value (address_limit k'.size.value) k'.row (remembered k'.saved) k'.location) };
+        (look_up_at k.initial.value (address_limit k.size.value) k.row k.location) end fault
+        (look_up_at k'.initial.value (address_limit k'.size.value) k'.row k'.location) };
 
     #[inline(always)]
     fn take(&mut self, instr: Instr<'a>, at: u64, fault: &mut Refusal) -> End {
@@ -165,31 +158,14 @@ impl<'a> Keep<'a> for LookUp<'a> {
         }
     }
 
-    // The machine copies a row of many registers once.
-    #[inline(never)]
+    #[inline(always)]
     fn remember(&mut self, _at: u64, _fault: &mut Refusal) -> End {
-        let copied = self.row.near_mask().count_ones();
-        if self.saved.is_some() || copied > MOST_COPIED || self.row.is_wide() {
-            return End::OutOfMemory;
-        }
-        match self.row.copied() {
-            Ok(row) => {
-                self.saved = Some(row);
-                End::On
-            }
-            Err(_) => End::OutOfMemory,
-        }
+        End::OutOfMemory
     }
 
-    #[inline(never)]
+    #[inline(always)]
     fn recall(&mut self, at: u64, fault: &mut Refusal) -> End {
-        match self.saved.take() {
-            Some(row) => {
-                self.row = row;
-                End::On
-            }
-            None => refuse(Code::EmptyStateStack, at, fault),
-        }
+        refuse(Code::EmptyStateStack, at, fault)
     }
 
     #[inline(always)]

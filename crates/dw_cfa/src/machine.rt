@@ -1,6 +1,6 @@
 //! The machine that runs call frame instructions (6.4.2), and how the run of one ends.
 
-ghost use Rattle.std.specs.Prelude.{◌≡◌, []};
+ghost use Rattle.std.specs.Prelude.{◌≡◌};
 ghost use Rattle.dw_num.specs.Target.{address_limit};
 ghost use Rattle.dw_row.specs.Rows.{blank};
 ghost use Rattle.dw_cfa.specs.Inner.LookUp.{look_up_at};
@@ -23,7 +23,7 @@ impl<'a> Machine<'a> {
     /// Before a CIE's program: its rows are blank.
     #[inline(always)]
     pub(crate) fn new(alloc: Global, location: u64, target: Target) -> Machine<'a>
-        ensures { result ≡ look_up_at blank (address_limit target.size) blank [] location }
+        ensures { result ≡ look_up_at blank (address_limit target.size) blank location }
     {
         Machine {
             initial: Row::blank(alloc),

@@ -1,6 +1,6 @@
 //! Room in which two programs are run up to the row of an address (6.4.3).
 
-ghost use Rattle.std.specs.Prelude.{◌≡◌, ◌<◌, ◌≤◌, Some, IfErr, OnOk};
+ghost use Rattle.std.specs.Prelude.{◌≡◌, ◌+◌, ◌<◌, ◌≤◌, Some, IfErr, OnOk, length};
 ghost use Rattle.dw_num.specs.{Refusals.Refuses, Target.address_limit};
 ghost use Rattle.dw_row.specs.Rows.{blank};
 ghost use Rattle.dw_cfa.specs.{Faults.{FaultUpTo, NoFaultUpTo}, Gives.RunsTo, RowSteps.program_input, RuleAt.last_at, Runs.Outcome};
@@ -15,6 +15,7 @@ use dw_num::{Cursor, Program, ReadError, Target, are_bytes};
 use dw_row::Row;
 use std::alloc::Global;
 use std::marker::Model;
+use std::mem;
 
 // Runs a CIE's program, and an FDE's up to the end of the last row that starts at or below an address.
 #[tactic(auto, using(crate::proofs::LookUps::ends))]
@@ -44,11 +45,11 @@ fn run_look_up<'a>(
     begin: u64,
     address: u64,
 ) -> Result<(), ReadError>
+    requires blank { look.old.row ≡ blank }
     requires begin { begin < address_limit fde.old.target.size }
     requires start { begin ≤ address }
     ensures { FoundAt address leading.now.factors (program_input leading.now.program leading.now.target) fde.old begin look.new.row result }
 {
-    look.row.clear();
     run_initial(leading, &mut look.row)?;
     look.begin(begin, fde.target().size);
     run_to(fde, leading.factors, look, address)
@@ -59,15 +60,20 @@ fn run_look_up<'a>(
 #[derive(Drop)]
 pub struct RowRoom<'a> {
     look: LookUp<'a>,
+    // Before the first run the row is blank, and is not cleared.
+    was_run: bool,
     alloc: Global,
 }
 
 impl<'a> Model for RowRoom<'a> {
-    ghost use Rattle.dw_row.specs.Rows.{Rules};
+    ghost use Rattle.std.specs.Prelude.{◌≡◌, false};
+    ghost use Rattle.dw_row.specs.Rows.{Rules, blank};
 
     ghost Value = { Rules };
 
     ghost view = { λ r. r.look.row };
+
+    ghost invariant = { λ r. r.was_run ≡ false → r.look.row ≡ blank };
 }
 
 impl<'a> RowRoom<'a> {
@@ -78,6 +84,7 @@ impl<'a> RowRoom<'a> {
     {
         RowRoom {
             look: LookUp::new(alloc),
+            was_run: false,
             alloc,
         }
     }
@@ -86,20 +93,24 @@ impl<'a> RowRoom<'a> {
     #[inline(never)]
     fn run(
         &mut self,
-        leading: Leading<'a>,
-        fde_program: Program<'a>,
+        leading: &Leading<'a>,
+        bytes: &'a [u8],
+        at: u64,
         begin: u64,
         address: u64,
     ) -> Result<(), ReadError>
-        requires begin { begin < address_limit leading.target.size }
+        requires place { at + length bytes.now ≤ 2147483647 }
+        requires begin { begin < address_limit leading.now.target.size }
         requires start { begin ≤ address }
-        ensures { FoundBehind address leading.entry fde_program.entry begin self.new result }
+        ensures { FoundAt address leading.now.factors (program_input leading.now.program leading.now.target)
+            (record { at = at; bytes = bytes.now; target = leading.now.target }) begin self.new result }
     {
         let target = leading.target;
         let mut machine = Machine::new(self.alloc, begin, target);
-        let mut fde = Cursor::new(fde_program.bytes, fde_program.at, target);
-        let result = run_both(&leading, &mut fde, &mut machine, address);
+        let mut fde = Cursor::new(bytes, at, target);
+        let result = run_both(leading, &mut fde, &mut machine, address);
         self.look.row = machine.states.into_row();
+        self.was_run = true;
         result
     }
 
@@ -116,12 +127,17 @@ impl<'a> RowRoom<'a> {
         requires start { begin ≤ address }
         ensures { FoundBehind address leading.entry fde_program.entry begin self.new result }
     {
-        let mut fde = Cursor::new(fde_program.bytes, fde_program.at, leading.target);
+        let look = &mut self.look;
+        if mem::replace(&mut self.was_run, true) {
+            look.row.clear();
+        }
+        let Program { bytes, at, .. } = fde_program;
+        let mut fde = Cursor::new(bytes, at, leading.target);
         let Err(error) = run_look_up(&leading, &mut fde, &mut self.look, begin, address) else {
             return Ok(());
         };
         match error {
-            ReadError::OutOfMemory => self.run(leading, fde_program, begin, address),
+            ReadError::OutOfMemory => self.run(&leading, bytes, at, begin, address),
             refused => Err(refused),
         }
     }

@@ -74,7 +74,7 @@ put_apart : (r q : ℕ) (rule older : RegRule) (xs : List Entry) → AreSpecifie
 put_apart r q rule older xs up apart =
     let up-r = put_keeps r rule 0 xs up (omega arith) in let up-q = put_keeps q older 0 xs up (omega arith) in
     is_put r rule (put q older xs) (put q older (put r rule xs)) up-q (put_keeps q older 0 (put r rule xs) up-r (omega arith))
-        (λ s. grind (arith, nat_tests, put_rule q older 0 (put r rule xs) s up-r, put_rule r rule 0 xs s up, put_rule q older 0 xs s up))
+    (λ s. grind (arith, nat_tests, put_rule q older 0 (put r rule xs) s up-r, put_rule r rule 0 xs s up, put_rule q older 0 xs s up))
 
 -- what is listed of a register is taken back, whatever rule it has then
 pub known_before : (r : ℕ) (rule : RegRule) (registers : List Entry) (changes : List Undo) → AreSpecified 0 registers → has_register r changes ≡ true
@@ -83,10 +83,10 @@ unfolding rows_before has_register
 known_before r rule registers [] up has = absurd cc
 known_before r rule registers (Remembered cfa ∷ changes) up has = absurd cc
 known_before r rule registers (Register q older ∷ changes) up has = elim (cases_Bool (nat_eq q r)) [
-  inl same ↦ ap (λ (xs : List Entry). rows_before xs changes) (rw (eqb-true q r same) (put_twice r rule older registers up))
+  | inl same ↦ ap (λ (xs : List Entry). rows_before xs changes) (rw (eqb-true q r same) (put_twice r rule older registers up))
   | inr apart ↦
-    ap (λ (xs : List Entry). rows_before xs changes) (put_apart r q rule older registers up apart)
-    ∙ known_before r rule (put q older registers) changes (put_keeps q older 0 registers up (omega arith)) (rw apart at has)
+      ap (λ (xs : List Entry). rows_before xs changes) (put_apart r q rule older registers up apart)
+      ∙ known_before r rule (put q older registers) changes (put_keeps q older 0 registers up (omega arith)) (rw apart at has)
 ]
 
 pub known_behind : {X E : Type 0} (result : Result X E) (r : ℕ) (rule : RegRule) (row row' : Rules) (items : List Undo) → AreSpecified 0 row.registers → has_register r (reverse items) ≡ true

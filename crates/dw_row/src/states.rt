@@ -13,10 +13,8 @@ use smallvec::SmallVec;
 use std::alloc::{AllocError, Global};
 use std::marker::Model;
 
-// So many changes are listed without memory: of three rows that are remembered above a saved one, each with 64 registers that change.
-const MOST_LISTED: usize = 3 * (1 + MOST_LOOKED_AT);
-// A register that changes again is looked for among so many.
-const MOST_LOOKED_AT: usize = 64;
+// So many changes are listed without memory: those of four rows that are remembered at once, as compilers write them.
+const MOST_LISTED: usize = 32;
 
 /// What takes back a change of the current row.
 #[derive(Drop)]
@@ -66,7 +64,7 @@ fn has_listed(undo: &SmallVec<Undo<'_>, MOST_LISTED>, register: u16) -> bool
 {
     let changes = undo.as_slice();
     let mut place = changes.len();
-    let first = place.saturating_sub(MOST_LOOKED_AT);
+    let first = place.saturating_sub(MOST_LISTED);
     'changes: while place > first {
         place -= 1;
         match &changes[place] {
