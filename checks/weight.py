@@ -29,7 +29,7 @@ BUDGET = {
     "dw_words": (827, 1062),
     "dw_command": (1922, 1648),
     "dwframe": (262, 0),
-    "dw_library": (1609, 785),
+    "dw_library": (1626, 790),
 }
 # How many characters a line of sources may have.
 LONGEST = 160

@@ -4,7 +4,7 @@ ghost use Rattle.std.specs.Prelude.{◌≡◌, ◌+◌, ◌^◌, ◌<◌, ℕ, I
 ghost use Rattle.dw_op.specs.Faults.{IsWithin};
 ghost use Rattle.dw_section.specs.{Ranges.IsTable, StandingFde.{LookUpFault, Misleads, RefusesAs}, declared.standing_fde.LookUpError.TheVariants.BadIndex};
 ghost use Rattle.dw_library.specs.{Answers.target_of, Index.{HasSize, IsAnyRow, IsIndexed, IsRow, IsTold}};
-ghost use Rattle.dw_library.specs.{Index.{Told, no_row, over, row_of, rule_of}, Inner.Index.{TellsAny, TellsOwn}};
+ghost use Rattle.dw_library.specs.{Index.{Told, cfa_kind_of, over, row_of, rule_of}, Inner.Index.{TellsAny, TellsOwn}};
 
 use crate::answer::{Refused, Section, put_at, put_front, refuse, target_of};
 use crate::names::Status;
@@ -151,6 +151,18 @@ fn put_rules(row: &CfaRow<'_>, out: &mut [Rule]) -> usize
     }
 }
 
+// The kind of a rule for the CFA. Out of line, as most are a register plus an offset.
+#[inline(never)]
+fn other_kind(cfa: &CfaRule<'_>) -> u32
+    ensures { result ≡ cfa_kind_of cfa.now }
+{
+    match cfa {
+        CfaRule::Unset => 0,
+        CfaRule::Register { .. } => 1,
+        CfaRule::Expression(_) => 2,
+    }
+}
+
 /// What is told of an FDE and of a row of it, whose rules are written to the front of a buffer, as many as fit.
 #[inline(always)]
 pub(crate) fn told_row(fde: Fde, row: &CfaRow<'_>, out: &mut [Rule]) -> Row
@@ -160,10 +172,10 @@ pub(crate) fn told_row(fde: Fde, row: &CfaRow<'_>, out: &mut [Rule]) -> Row
     ensures rules { out.new ≡ over (map rule_of row.now.registers) out.old }
 {
     let count = put_rules(row, out);
-    let (cfa_kind, cfa_register, cfa_offset) = match row.cfa_rule() {
-        CfaRule::Unset => (0, 0, 0),
+    let cfa = row.cfa_rule();
+    let (cfa_kind, cfa_register, cfa_offset) = match cfa {
         CfaRule::Register { register, offset } => (1, *register, *offset),
-        CfaRule::Expression(_) => (2, 0, 0),
+        _ => (other_kind(cfa), 0, 0),
     };
     Row {
         begin: fde.begin,
@@ -176,7 +188,7 @@ pub(crate) fn told_row(fde: Fde, row: &CfaRow<'_>, out: &mut [Rule]) -> Row
     }
 }
 
-// Writes the row of an address, or answers why there is none.
+// Writes the row of an address, or the empty row where no FDE covers it, or answers why there is none.
 fn put_row(
     alloc: Global,
     bytes: &[u8],
@@ -186,8 +198,8 @@ fn put_row(
     out: &mut [Rule],
     row: &mut Row,
 ) -> Result<u32, LookUpError>
-    ensures own { IsTable target bytes.now index.now → row.old ≡ no_row → TellsOwn target bytes.now address out.old row.new out.new result }
-    ensures any { row.old ≡ no_row → TellsAny target bytes.now index.now address out.old row.new out.new result }
+    ensures own { IsTable target bytes.now index.now → TellsOwn target bytes.now address out.old row.new out.new result }
+    ensures any { TellsAny target bytes.now index.now address out.old row.new out.new result }
     ensures bad { IfErr result (λ e. e ≡ BadIndex → Misleads target bytes.now index.now address) }
     ensures within { IfErr result (RefusesAs (IsWithin bytes.now)) }
     ensures refused { IfErr result (RefusesAs (LookUpFault target bytes.now index.now address)) }
@@ -195,6 +207,7 @@ fn put_row(
 {
     let mut room = RowRoom::new(alloc);
     let Some(found) = fde_by_index(bytes, target, index, address)? else {
+        *row = Row::default();
         return Ok(Status::NoFde as u32);
     };
     found.run(&mut room)?;
@@ -224,15 +237,19 @@ pub extern "C" fn dwframe_row_at(
     ensures any { let told : Told = record { status = result; row = row.new; rules = rules.new } in
         IsAnyRow (target_of section.now.address_size section.now.byte_order) section.now.bytes.now index.now address rules.old told refused.new }
 {
-    *row = Row::default();
     *refused = Refused::default();
     let Some(target) = target_of(section.address_size, section.byte_order) else {
+        *row = Row::default();
         return Status::BadArgument as u32;
     };
-    match put_row(alloc, section.bytes, target, index, address, rules, row) {
-        Ok(status) => status,
-        Err(LookUpError::Refused(refusal)) => refuse(refused, 1, refusal),
-        Err(LookUpError::BadIndex) => Status::BadIndex as u32,
-        Err(LookUpError::OutOfMemory) => Status::OutOfMemory as u32,
+    let error = match put_row(alloc, section.bytes, target, index, address, rules, row) {
+        Ok(status) => return status,
+        Err(error) => error,
+    };
+    *row = Row::default();
+    match error {
+        LookUpError::Refused(refusal) => refuse(refused, 1, refusal),
+        LookUpError::BadIndex => Status::BadIndex as u32,
+        LookUpError::OutOfMemory => Status::OutOfMemory as u32,
     }
 }

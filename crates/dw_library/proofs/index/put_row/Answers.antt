@@ -26,7 +26,7 @@ tells c status e =
     )
 
 pub returns-in_default-clause-any : goal.returns-in_default-clause-any
-returns-in_default-clause-any c = λ none. inr (rw c.in_default.is at c.in_ok-found.ensures.found, rw none refl)
+returns-in_default-clause-any c = inr (rw c.in_default.is at c.in_ok-found.ensures.found, search rules)
 
 pub returns-in_err-run-clause-refused : goal.returns-in_err-run-clause-refused
 returns-in_err-run-clause-refused c =
@@ -34,13 +34,13 @@ returns-in_err-run-clause-refused c =
     search (rules, rw (is.0, is.1, is.2) at (c.in_err-run.ensures.refused c.args.index.now (rw (sym is.2) at is.3)))
 
 pub returns-then-row-out-clause-own : goal.returns-then-row-out-clause-own
-returns-then-row-out-clause-own c = let w = tells (goal.at.returns-then-row-out-clause-own c).After-told_row 0 (rw (le-leb c.told_row.result.count (length c.args.out.now) (omega (arith, c.if-row-out.true))) refl) in λ t none. w.0 t
+returns-then-row-out-clause-own c = let w = tells (goal.at.returns-then-row-out-clause-own c).After-told_row 0 (rw (le-leb c.told_row.result.count (length c.args.out.now) (omega (arith, c.if-row-out.true))) refl) in λ t. w.0 t
 
 pub returns-then-row-out-clause-any : goal.returns-then-row-out-clause-any
-returns-then-row-out-clause-any c = let w = tells (goal.at.returns-then-row-out-clause-any c).After-told_row 0 (rw (le-leb c.told_row.result.count (length c.args.out.now) (omega (arith, c.if-row-out.true))) refl) in λ none. w.1
+returns-then-row-out-clause-any c = let w = tells (goal.at.returns-then-row-out-clause-any c).After-told_row 0 (rw (le-leb c.told_row.result.count (length c.args.out.now) (omega (arith, c.if-row-out.true))) refl) in w.1
 
 pub returns-clause-own : goal.returns-clause-own
-returns-clause-own c = let w = tells (goal.at.returns-clause-own c).After-told_row 4 (rw (lt-leb c.told_row.result.count (length c.args.out.now) (omega (arith, c.if-row-out.false))) refl) in λ t none. w.0 t
+returns-clause-own c = let w = tells (goal.at.returns-clause-own c).After-told_row 4 (rw (lt-leb c.told_row.result.count (length c.args.out.now) (omega (arith, c.if-row-out.false))) refl) in λ t. w.0 t
 
 pub returns-clause-any : goal.returns-clause-any
-returns-clause-any c = let w = tells (goal.at.returns-clause-any c).After-told_row 4 (rw (lt-leb c.told_row.result.count (length c.args.out.now) (omega (arith, c.if-row-out.false))) refl) in λ none. w.1
+returns-clause-any c = let w = tells (goal.at.returns-clause-any c).After-told_row 4 (rw (lt-leb c.told_row.result.count (length c.args.out.now) (omega (arith, c.if-row-out.false))) refl) in w.1
