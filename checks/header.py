@@ -40,7 +40,7 @@ NUMBERED = [
     ("crates/dw_num/src/refusal.rt", r'Code::(?P<name>\w+) => "(?P=name)"', "REFUSAL_", {}),
     ("crates/dw_eval/src/error.rt", r"Kind::(?P<name>\w+)(?: \{ \.\. \})? => \((?P<number>\d+),", "FAULT_", {}),
     ("crates/dw_library/src/index.rt", r"RegRule::(?P<name>\w+)(?:\(\w+\))? => told_rule\(number, (?P<number>\d+),", "RULE_", {}),
-    ("crates/dw_library/src/index.rt", r"CfaRule::(?P<name>\w+)(?: \{[^}]*\}|\(_\))? => \((?P<number>\d+),", "CFA_", {}),
+    ("crates/dw_library/src/index.rt", r"CfaRule::(?P<name>\w+)(?: \{ \.\. \}|\(_\))? => (?P<number>\d+),", "CFA_", {}),
     ("crates/dw_library/src/answer.rt", r"\(\d+, (?P<number>\d+)\) => \(Size::\w+, Order::(?P<name>\w+)\),", "", {}),
     ("crates/dw_library/src/names.rt", r"(?P<number>\d+) => Status::(?P<name>\w+),", "", {}),
     ("crates/dw_library/src/caller.rt", r"(?P<number>\d+) => Some\(Policy::(?P<name>\w+)\)", "UNSET_", {"SameValue": "Unchanged"}),
