@@ -5,7 +5,7 @@
 
 Each is FOLDER/remembered-DEPTH-SIZE-ORDER.bin, with its target beside it. Its FDEs remember DEPTH rows, 1 to 4. Behind each of these
 the CFA and all saved registers change, before the next one is remembered or restored. Three FDEs save 6, 7 and 8 registers, near the
-CFA. The last one saves 8, at offsets that need more than 16 bits, and each of them changes twice.
+CFA. Others save 8, 62 and 64, at offsets that need more than 16 bits, and each of them changes twice.
 """
 import pathlib
 import sys
@@ -14,7 +14,7 @@ sys.path.append(str(pathlib.Path(__file__).resolve().parent.parent / "bench"))
 from synth import FIRST_ADDRESS, Writer, sleb, uleb
 
 # Neither the stack pointer nor the register of the return address.
-SAVED = [3, 5, 6, 11, 12, 13, 14, 15]
+SAVED = [3, 5, 6, 11, 12, 13, 14, 15, *range(17, 73)]
 # What an epilogue makes of a saved register: as in the CIE, elsewhere in the frame, or as the caller had it.
 RESTORE, SAME_VALUE = b"\x06", b"\x08"
 REMEMBER, RESTORE_STATE = b"\x0a", b"\x0b"
@@ -56,7 +56,7 @@ def program(writer, registers, first, times, depth):
 def section(writer, depth):
     cie = writer.cie()
     programs = [program(writer, SAVED[:count], 3, 1, depth) for count in (6, 7, 8)]
-    programs.append(program(writer, SAVED, -FAR // writer.size, 2, depth))
+    programs += [program(writer, SAVED[:count], -FAR // writer.size, 2, depth) for count in (8, 62, 64)]
     fdes = [writer.fde(0, FIRST_ADDRESS + 16 * place, length, text) for place, (text, length) in enumerate(programs)]
     return b"".join([cie, *fdes])
 

@@ -17,12 +17,12 @@ import sys
 
 # Lines of sources, and of proofs.
 BUDGET = {
-    "dw_num": (965, 1167),
-    "dw_op": (1517, 3947),
-    "dw_eval": (1174, 1097),
-    "dw_row": (2268, 1959),
-    "dw_cfa": (2422, 3551),
-    "dw_section": (2296, 5345),
+    "dw_num": (964, 1167),
+    "dw_op": (1509, 3947),
+    "dw_eval": (1169, 1097),
+    "dw_row": (2368, 2082),
+    "dw_cfa": (2306, 3551),
+    "dw_section": (2295, 5345),
     "dw_canon": (53, 3327),
     "dw_normal": (1988, 2704),
     "dw_unwind": (1373, 2278),

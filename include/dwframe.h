@@ -25,8 +25,8 @@
  *   own lets the three be of one allocator, and aligns each block for any type: to 16 bytes, or where 16 does not divide its size
  *   to the greatest power of two that does. No call is made in a signal handler, nor in the child of a fork of a process with
  *   threads, where these may not be called, but for dwframe_row_at and dwframe_unwind_at where they ask for no memory: where the
- *   rules up to the address are for registers below 128 and have no expression, at most four rows are remembered at once, with up to
- *   eight registers changed behind each, and the frame has at most 64 registers, all below 128. No clause says so: the requests are
+ *   rules up to the address are for registers below 128 and have no expression, at most four rows are remembered at once and at most
+ *   64 registers change behind each, and the frame has at most 64 registers, all below 128. No clause says so: the requests are
  *   counted. Where malloc answers null, the status is DWFRAME_OUT_OF_MEMORY.
  * - There is stack, in KB at most: 4 for dwframe_evaluate, 14 for dwframe_row_at and dwframe_expressions_at, 17 for
  *   dwframe_unwind_at, 26 for dwframe_check, dwframe_index_size, dwframe_index and dwframe_unwind, 31 for dwframe_rows_at, 38 for

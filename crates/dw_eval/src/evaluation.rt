@@ -30,7 +30,6 @@ pub(crate) fn reached(answer: Answer, index: usize) -> Result<usize, EvalError>
     }
 }
 
-// The stack at the start.
 fn begin(alloc: Global, start: Option<u64>, size: Size) -> Result<Stack, EvalError>
     ensures { MatchResult result (λ s. s ≡ first_stack size start) (λ e. e ≡ OutOfMemory) }
 {
@@ -43,7 +42,6 @@ fn begin(alloc: Global, start: Option<u64>, size: Size) -> Result<Stack, EvalErr
     Ok(stack)
 }
 
-// Runs the operations from the first one on.
 fn run<M: Memory>(
     ops: &[Op<'_>],
     stack: &mut Stack,

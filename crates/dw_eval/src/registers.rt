@@ -37,7 +37,6 @@ fn far_value(far: &Vec<Option<u64>>, place: usize) -> Option<u64>
     far.get(place).copied().flatten()
 }
 
-// And any one.
 #[tactic(auto, unfolding(crate::specs::Inner::Registers::any_held))]
 #[inline(always)]
 fn value_of(
@@ -71,7 +70,6 @@ fn hold_near(known: &mut [bool; 128], values: &mut [u64; 128], index: usize, val
     known[index] = true;
 }
 
-// And one that has none.
 fn hold_far(far: &mut Vec<Option<u64>>, place: usize, value: u64) -> Result<(), AllocError>
     requires { place < 65536 }
     ensures held { OnOk result (IsHeld place value (held far.old.items) (held far.new.items)) }
@@ -84,7 +82,6 @@ fn hold_far(far: &mut Vec<Option<u64>>, place: usize, value: u64) -> Result<(), 
     Ok(())
 }
 
-// And any one.
 #[inline(always)]
 fn hold(
     known: &mut [bool; 128],

@@ -33,7 +33,6 @@ fn four_in(order: Order, bytes: &[u8]) -> u64
     }
 }
 
-// The number that the first eight bytes spell.
 #[inline(always)]
 fn eight_in(order: Order, bytes: &[u8]) -> u64
     requires { 8 ≤ length bytes.now }

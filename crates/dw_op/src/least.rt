@@ -111,8 +111,6 @@ pub(crate) fn least_spelling<'a>(op: &Op<'a>, displacement: u16, target: Target)
     }
 }
 
-// ---- its length
-
 fn operand_len(operand: Operand<'_>) -> usize
     ensures len { (order : Order) → result ≡ length (operand_bytes order operand.entry) }
     ensures most { result < 2 ^ 64 - 1 }
@@ -137,8 +135,6 @@ pub(crate) fn op_least_len(op: &Op<'_>, target: Target) -> usize
 {
     1 + operand_len(least_spelling(op, 0, target).1)
 }
-
-// ---- writing it
 
 // Appends an operand, and may leave some of it where memory runs out.
 #[tactic(auto, using(dw_num::proofs::Lent::Shortest::puts_uleb, dw_num::proofs::Lent::Shortest::puts_sleb, std::proofs::Common::append_assoc))]

@@ -11,14 +11,14 @@ use crate::profile::Profile;
 use dw_num::{Code, Cursor, Refusal, Size};
 
 /// Which of the two branches.
-#[derive(Clone, Copy, Debug)]
+#[derive(Clone, Copy)]
 pub(crate) enum Branch {
     Bra,
     Skip,
 }
 
 /// An operation as its bytes have it: a branch with the two bytes behind its code as a number.
-#[derive(Clone, Copy, Debug)]
+#[derive(Clone, Copy)]
 pub(crate) enum Step<'a> {
     Plain(Op<'a>),
     Jump(Branch, u16),
@@ -39,8 +39,6 @@ pub(crate) fn refused<T>(code: Code, at: u64) -> Result<T, Refusal>
 {
     Err(Refusal { code, at })
 }
-
-// ---- numbers
 
 // The last number that is an address.
 pub(crate) fn last_address(size: Size) -> u64
@@ -65,8 +63,6 @@ fn constant<'a>(size: Size, number: i64) -> Step<'a>
 {
     natural(size, number.cast_unsigned())
 }
-
-// ---- operands
 
 // A size is from 1 to that of an address.
 fn read_deref_size<'a>(cursor: &mut Cursor<'a>) -> Result<Step<'a>, Refusal>

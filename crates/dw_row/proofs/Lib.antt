@@ -6,4 +6,5 @@ pub mod Marked
 pub mod RegisterSets
 pub mod Copied
 pub mod StatesLaws
+pub mod UndoLaws
 pub mod Lent

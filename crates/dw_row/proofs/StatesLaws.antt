@@ -1,8 +1,8 @@
 -- Remembered rows, kept by what was changed since.
-use Rattle.std.proofs.{lemmas.List.{nil_from_length, reverse-append}, Math.Seq.take-suc}
-use Rattle.dw_row.specs.declared.{kept_row.KeptRow.KeptRow, states.Undo.{Undo, TheVariants.{Remembered, Register}}}
-use Rattle.dw_row.proofs.Words.{◌≡◌, ℕ, suc, ◌+◌, ◌-◌, ◌<◌, ◌≤◌, Bool, true, false, length-append, List, [], ◌∷◌, ◌++◌, length, reverse, Some, None, Result}
-use Rattle.dw_row.proofs.Words.{OnOk, OnErr, Ok, Err, cases_Bool, inl, inr, nat_eq, eq-eqb, eqb-true, ne_eqb, nat_tests, has_register, get_or, take, ◌||◌, refl, sym, ap, ◌∙◌, subst, arith, append-nil, AreSpecified, CfaRule, IsTrue, KeptSo, RegRule, Rules}
+use Rattle.std.proofs.lemmas.List.{nil_from_length, reverse-append}
+use Rattle.dw_row.specs.declared.{kept_row.KeptRow.KeptRow, undo.Undo.{Undo, TheVariants.{Remembered, Register}}}
+use Rattle.dw_row.proofs.Words.{◌≡◌, ℕ, suc, ◌+◌, ◌-◌, ◌≤◌, Bool, true, false, length-append, List, [], ◌∷◌, ◌++◌, length, reverse, Some, None, Result}
+use Rattle.dw_row.proofs.Words.{OnOk, OnErr, Ok, Err, cases_Bool, inl, inr, nat_eq, eqb-true, nat_tests, has_register, refl, sym, ap, ◌∙◌, subst, arith, AreSpecified, CfaRule, IsTrue, KeptSo, RegRule, Rules}
 use Rattle.dw_row.proofs.Words.{put, rule_in, with_cfa, with_rule, Held, StatesSo, saved_if, remembering, rows_before, with_row, first_if, shown, held, stacked}
 use Rattle.dw_row.proofs.Words.{BeganWith, TakenBack, Restored}
 use Rattle.dw_row.proofs.{Lent.RowLists.{Entry, put_keeps, put_rule}, Slots.is_put, WideRows.{put_back, put_same}}
@@ -45,24 +45,6 @@ abbrev with_registers : CfaRule → List Entry → Rules
 with_registers cfa registers = record { cfa = cfa; registers = registers }
 
 -- ---- a register that is changed once more
-
--- one more of the last changes is looked at
-pub looked_at : (r q place : ℕ) (older : RegRule) (u : Undo) (items : List Undo) → 1 ≤ place → place ≤ length items → u ≡ get_or items (place - 1) u → u ≡ Register q older
-    → has_register r (reverse (take place items)) ≡ (nat_eq q r || has_register r (reverse (take (place - 1) items)))
-unfolding has_register
-looked_at r q place older u items some within at is =
-    let n = place - 1 in let from : place ≡ suc n = omega (arith, some) in
-    let last : take (suc n) items ≡ take n items ++ (Register q older ∷ []) = take-suc items n u (omega (arith, some, within)) ∙ ap (λ (x : Undo). take n items ++ (x ∷ [])) (sym at ∙ is) in
-    ap (λ (k : ℕ). has_register r (reverse (take k items))) from ∙ ap (has_register r) (last_first (Register q older) (take n items) (take (suc n) items) last)
-
-pub found_at : (r q place : ℕ) (older : RegRule) (u : Undo) (items : List Undo) → 1 ≤ place → place ≤ length items → u ≡ get_or items (place - 1) u → u ≡ Register q older
-    → (has_register r (reverse (take place items)) ≡ true → has_register r (reverse items) ≡ true) → q ≡ r → has_register r (reverse items) ≡ true
-found_at r q place older u items some within at is seen same = seen (looked_at r q place older u items some within at is ∙ rw (eq-eqb q r same) refl)
-
-pub passed_at : (r q place : ℕ) (older : RegRule) (u : Undo) (items : List Undo) → 1 ≤ place → place ≤ length items → u ≡ get_or items (place - 1) u → u ≡ Register q older
-    → (has_register r (reverse (take place items)) ≡ true → has_register r (reverse items) ≡ true) → (q ≡ r → ⊥)
-    → has_register r (reverse (take (place - 1) items)) ≡ true → has_register r (reverse items) ≡ true
-passed_at r q place older u items some within at is seen apart has = seen (looked_at r q place older u items some within at is ∙ rw (ne_eqb q r apart) has)
 
 -- of two rules that a register is given the second stays, and two registers are given theirs in any order
 put_twice : (r : ℕ) (rule later : RegRule) (xs : List Entry) → AreSpecified 0 xs → put r later (put r rule xs) ≡ put r later xs
@@ -250,10 +232,6 @@ module _ {tracked is_listed : Bool} {saved : KeptRow} {row kept : Rules} {items 
 pub ruleset changed = (known_behind, listed_behind, ruled, same_held, same_so, same_states)
 
 -- ---- changes that are taken back
-
-pub no_items : (items items' : List Undo) → (0 < length items → false ≡ true) → items ≡ items' ++ [] → (items ≡ []) × (items' ≡ [])
-no_items [] items' none same = (refl, sym (append-nil items') ∙ sym same)
-no_items (u ∷ items) items' none same = let e : false ≡ true = none (omega arith) in absurd cc
 
 -- one remembered row fewer lies behind, and what all began with is the same
 pub taken_row : (cfa : CfaRule) (row row' : Rules) (changes changes' : List Undo) → TakenBack (Some cfa) row changes row' changes'

@@ -6,3 +6,4 @@ pub mod Entries
 pub mod Kept
 pub mod RowEquality
 pub mod States
+pub mod Undos

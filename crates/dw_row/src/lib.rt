@@ -16,6 +16,7 @@ mod rule;
 mod slot;
 mod states;
 mod tree;
+mod undo;
 
 pub use entries::NEAR;
 pub use near_slots::is_in;

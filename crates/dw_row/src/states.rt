@@ -2,34 +2,16 @@
 
 ghost use Rattle.std.specs.Prelude.{◌≡◌, ◌<◌, ℕ, ℤ, [], length, reverse, None, OnOk, IfOk, OnErr, IsTrue, ◌↔◌, false, true};
 ghost use Rattle.dw_row.specs.{Difference.{FirstDifference, place_behind}, Rows.{AreSpecified, blank, rule_in, with_cfa, with_rule}};
-ghost use Rattle.dw_row.specs.Inner.{Kept.KeptSo, States.{TakenBack, has_register, rows_before}};
+ghost use Rattle.dw_row.specs.Inner.{Kept.KeptSo, States.{TakenBack, rows_before}};
 ghost use Rattle.dw_row.specs.States.{first_if, BeganWith, Restored, remembering, with_row};
 
 use crate::entries::NEAR;
 use crate::kept_row::KeptRow;
 use crate::row::Row;
 use crate::rule::{CfaRule, RegRule};
-use smallvec::SmallVec;
+use crate::undo::{Undo, UndoList};
 use std::alloc::{AllocError, Global};
 use std::marker::Model;
-
-// So many changes are listed without memory: those of four rows that are remembered at once, as compilers write them.
-const MOST_LISTED: usize = 32;
-
-/// What takes back a change of the current row.
-#[derive(Drop)]
-pub(crate) enum Undo<'a> {
-    /// A row was remembered, with this rule for the CFA.
-    Remembered(CfaRule<'a>),
-    /// A register had this rule.
-    Register(u16, RegRule<'a>),
-}
-
-impl<'a> Default for Undo<'a> {
-    fn default() -> Undo<'a> {
-        Undo::Remembered(CfaRule::Unset)
-    }
-}
 
 /// The current row and the remembered ones. Most programs remember one row at a time: that one is saved, and beneath all others.
 /// Of any other, what was changed since is listed, and taken back. So is what was changed since the beginning, where that is
@@ -38,7 +20,7 @@ impl<'a> Default for Undo<'a> {
 pub struct States<'a> {
     row: Row<'a>,
     kept: KeptRow<'a>,
-    undo: SmallVec<Undo<'a>, MOST_LISTED>,
+    undo: UndoList<'a>,
     saved: KeptRow<'a>,
     depth: usize,
     tracked: bool,
@@ -57,35 +39,13 @@ impl<'a> Model for States<'a> {
         × StatesSo s.tracked s.is_listed s.saved s.depth (rows_before s.row.registers (reverse s.undo.items)) s.undo.items };
 }
 
-// Whether a register is seen among the last changes, behind the row that was remembered last.
-#[inline(never)]
-fn has_listed(undo: &SmallVec<Undo<'_>, MOST_LISTED>, register: u16) -> bool
-    ensures { IsTrue result → has_register register (reverse undo.now.items) ≡ true }
-{
-    let changes = undo.as_slice();
-    let mut place = changes.len();
-    let first = place.saturating_sub(MOST_LISTED);
-    'changes: while place > first {
-        place -= 1;
-        match &changes[place] {
-            Undo::Remembered(_) => return false,
-            Undo::Register(changed, _) => {
-                if *changed == register {
-                    return true;
-                }
-            }
-        }
-    }
-    false
-}
-
 // Takes changes back up to the row that was remembered last, and answers the rule that the CFA had there.
 #[inline(never)]
-#[tactic(auto, using(crate::proofs::StatesLaws::change_behind, crate::proofs::StatesLaws::last_first, crate::proofs::StatesLaws::no_items))]
+#[tactic(auto, using(crate::proofs::StatesLaws::change_behind, crate::proofs::StatesLaws::last_first))]
 fn take_back<'a>(
     row: &mut Row<'a>,
     kept: &mut KeptRow<'a>,
-    undo: &mut SmallVec<Undo<'a>, MOST_LISTED>,
+    undo: &mut UndoList<'a>,
 ) -> Result<Option<CfaRule<'a>>, AllocError>
     requires { KeptSo kept.old row.old.registers }
     ensures ok { IfOk result (λ found. TakenBack found row.old (reverse undo.old.items) row.new (reverse undo.new.items)) }
@@ -107,7 +67,7 @@ fn take_listed<'a>(
     is_listed: bool,
     row: &mut Row<'a>,
     kept: &mut KeptRow<'a>,
-    undo: &mut SmallVec<Undo<'a>, MOST_LISTED>,
+    undo: &mut UndoList<'a>,
 ) -> Result<Option<CfaRule<'a>>, AllocError>
     requires listed { is_listed ≡ false → undo.old.items ≡ [] }
     requires so { KeptSo kept.old row.old.registers }
@@ -127,7 +87,7 @@ fn first_again<'a>(
     tracked: bool,
     row: &mut Row<'a>,
     kept: &mut KeptRow<'a>,
-    undo: &mut SmallVec<Undo<'a>, MOST_LISTED>,
+    undo: &mut UndoList<'a>,
     initial: &Row<'a>,
 ) -> Result<(), AllocError>
     requires began { BeganWith initial.now (first_if tracked (rows_before row.old.registers (reverse undo.old.items)).1) }
@@ -145,43 +105,15 @@ fn first_again<'a>(
     row.become_copy(initial)
 }
 
-// Empties the list, which is mostly empty.
-#[inline(always)]
-fn unlist(is_listed: bool, undo: &mut SmallVec<Undo<'_>, MOST_LISTED>)
-    requires { is_listed ≡ false → undo.old.items ≡ [] }
-    ensures { undo.new.items ≡ [] }
-{
-    if is_listed {
-        undo.clear();
-    }
-}
-
-// Whether changes are listed behind one of the rows.
-#[inline(always)]
-fn lists(tracked: bool, undo: &SmallVec<Undo<'_>, MOST_LISTED>) -> bool
-    ensures { result ≡ false → (tracked ≡ false) × (undo.now.items ≡ []) }
-{
-    tracked || !undo.is_empty()
-}
-
-// Whether a row that is remembered now is saved: nothing is there to go back to, and it is copied without memory.
-#[inline(always)]
-fn saves(tracked: bool, depth: usize, row: &Row<'_>) -> bool
-    ensures { IsTrue result → (tracked ≡ false) × (depth ≡ 0) }
-{
-    !tracked && depth == 0 && row.is_narrow()
-}
-
 impl<'a> States<'a> {
     /// The row alone. Where changes are tracked, `rewind` brings it back in as many steps as it was changed.
-    #[tactic(auto, using(crate::proofs::StatesLaws::begun_held))]
     pub fn new(alloc: Global, row: Row<'a>, tracked: bool) -> States<'a>
         ensures { result ≡ record { row = row.entry; stack = []; first = first_if tracked row.entry.registers; kept = blank } }
     {
         States {
             row,
             kept: KeptRow::none(alloc),
-            undo: SmallVec::new(alloc),
+            undo: UndoList::new(alloc),
             saved: KeptRow::none(alloc),
             depth: 0,
             tracked,
@@ -299,12 +231,11 @@ impl<'a> States<'a> {
     {
         self.is_listed = true;
         self.row.ascends();
-        if !has_listed(&self.undo, register) {
+        if !self.undo.has_listed(register) {
             let older = self.row.rule(register);
             self.undo.push(Undo::Register(register, older))?;
         }
-        self.kept.set(&mut self.row, register, rule)?;
-        Ok(())
+        self.kept.set(&mut self.row, register, rule)
     }
 
     /// Gives a register a rule, or answers want of memory, and is as before then.
@@ -380,14 +311,15 @@ impl<'a> States<'a> {
         ensures remembered { OnOk result (self.new ≡ remembering self.old) }
         ensures err { OnErr result (self.new ≡ self.old) }
     {
-        if !saves(self.tracked, self.depth, &self.row) {
-            return self.list_row();
+        // It is saved where nothing is there to go back to, and it is copied without memory.
+        if !self.tracked && self.depth == 0 && self.row.is_narrow() {
+            self.undo.clear();
+            self.is_listed = false;
+            self.saved.keep(&self.row)?;
+            self.depth = 1;
+            return Ok(());
         }
-        unlist(self.is_listed, &mut self.undo);
-        self.is_listed = false;
-        self.saved.keep(&self.row)?;
-        self.depth = 1;
-        Ok(())
+        self.list_row()
     }
 
     /// Goes back to the row that was remembered last, and tells whether there was one. Behind want of memory none is remembered.
@@ -406,7 +338,7 @@ impl<'a> States<'a> {
             Ok(Some(cfa)) => {
                 self.row.set_cfa(cfa);
                 self.depth -= 1;
-                self.is_listed = lists(self.tracked, &self.undo);
+                self.is_listed = self.tracked || !self.undo.is_empty();
                 Ok(true)
             }
             Ok(None) => {

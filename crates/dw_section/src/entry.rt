@@ -154,7 +154,6 @@ pub(crate) struct EntryPlaces {
     pub(crate) fdes: usize,
 }
 
-// One entry more.
 fn keep_entry(places: &mut EntryPlaces, piece: &Placed<'_>) -> Result<(), AllocError>
     requires { places.old.fdes ≤ 2147483647 }
     ensures { (ps : List Piece) → ArePlaced ps places.old → OnOk result (ArePlaced (ps ++ piece_in piece.now ∷ []) places.new) }

@@ -252,8 +252,8 @@ impl<'a> IndexedFde<'a> {
     }
 
     /// Runs the programs of the CIE and of the FDE up to the row of the address (6.4.3), which `room` lends then. Takes memory only for
-    /// registers above 127, expressions, and more than 32 changes behind rows that are remembered one above the other, of which each
-    /// register counts once behind a row.
+    /// registers above 127 and expressions, and where more than four rows are remembered at once, or more than 64 registers change
+    /// behind one of them.
     ///
     /// `Refused` has the first fault of the CIE's program and then of the FDE's up to the row (1, 8, 9, 12 to 23, as `dw_cfa::run` has
     /// it). `OutOfMemory` is answered where a request for memory was refused, and `BadIndex` never. Behind an error the room holds some

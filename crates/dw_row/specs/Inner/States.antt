@@ -1,7 +1,7 @@
 -- How the code keeps remembered rows: by what was changed since, the last first. Beneath all others there may be one that is saved.
 use Rattle.std.specs.Prelude.{◌≡◌, ℕ, List, [], ◌∷◌, ◌++◌, Bool, true, false, Option, Some, None, IsTrue, length, nat_eq, reverse, ◌||◌}
 use Rattle.dw_row.specs.{Rows.{Rules, put}, States.{Held, first_if}}
-use Rattle.dw_row.specs.declared.{kept_row.KeptRow.KeptRow, rule.{CfaRule.CfaRule, RegRule.RegRule}, states.Undo.{Undo, TheVariants.{Remembered, Register}}}
+use Rattle.dw_row.specs.declared.{kept_row.KeptRow.KeptRow, rule.{CfaRule.CfaRule, RegRule.RegRule}, undo.Undo.{Undo, TheVariants.{Remembered, Register}}}
 use Rattle.dw_row.specs.Inner.Kept.{KeptSo}
 
 -- the remembered rows and the registers before all changes: what was changed since is taken back from the current registers

@@ -1,5 +1,7 @@
+use Rattle.std.proofs.lemmas.List.{nil_from_length}
 use Rattle.dw_row.specs.declared.kept_row.KeptRow.{KeptRow}
-use Rattle.dw_row.proofs.{Words.{err_from_is_err_and, false, refl}, StatesLaws.{back_held, back_so, begun_so, found_count, found_held, found_so, none_held, none_left, none_since, none_stacked}}
+use Rattle.dw_row.proofs.{Words.{◌≡◌, ◌∙◌, [], arith, err_from_is_err_and, false, nat_tests, refl, sym, true}, StatesLaws.{back_held, back_so, begun_so, found_count, found_held, found_so, none_held, none_left, none_since, none_stacked}}
+use Rattle.dw_row.proofs.states.States.restore.Goals.{then-self, else-self}
 use Rattle.dw_row.proofs.states.States.restore.Goals as goal
 
 pub overflow_sub-self : goal.overflow_sub-self
@@ -7,11 +9,15 @@ overflow_sub-self c = let new = c.take_listed.new in (found_count c.self.view_is
 
 pub invariant_of-self : goal.invariant_of-self
 invariant_of-self c =
-    let new = c.take_listed.new in
-    rw c.set_cfa.ensures (c.take_listed.ensures.so, found_so c.self.view_is c.self.invariant.1 new.row new.kept.row new.undo.items c.in-Ok-Some.cfa c.lists-self-inside.result (rw c.in-Ok-Some.field-0-is at c.in-Ok-Some.ensures.ok) c.lists-self-inside.ensures)
+    let new = c.take_listed.new in let items = new.undo.items in
+    let unlisted : c.if-self.self ≡ false → (c.self.inside.tracked ≡ false) × (items ≡ []) = elim c.if-self.branch [
+      | then-self w ↦ λ off. let e : true ≡ false = sym w.if-self.true ∙ sym w.self-is ∙ off in absurd cc
+      | else-self w ↦ λ off. (w.if-self.false, nil_from_length items (grind (arith, nat_tests, w.is_empty.ensures, w.self-is, off)))
+    ] in
+    rw c.set_cfa.ensures (c.take_listed.ensures.so, found_so c.self.view_is c.self.invariant.1 new.row new.kept.row items c.in-Ok-Some.cfa c.if-self.self (rw c.in-Ok-Some.field-0-is at c.in-Ok-Some.ensures.ok) unlisted)
 
-pub returns-in-Ok-Some-clause-restored : goal.returns-in-Ok-Some-clause-restored
-returns-in-Ok-Some-clause-restored c =
+pub returns-after-self-clause-restored : goal.returns-after-self-clause-restored
+returns-after-self-clause-restored c =
     let new = c.take_listed.new in
     found_held c.self.view_is c.self.invariant.1 new.row new.kept.row new.undo.items c.in-Ok-Some.cfa c.set_cfa.new.self (rw c.in-Ok-Some.field-0-is at c.in-Ok-Some.ensures.ok) c.set_cfa.ensures
 
@@ -47,7 +53,7 @@ returns-in_ok-back-in-Ok-None-clause-restored c =
 pub invariant_of-self-in-Err : goal.invariant_of-self-in-Err
 invariant_of-self-in-Err c =
     let tracked = c.self.inside.tracked in
-    (c.take_listed.ensures.so, begun_so tracked tracked (λ off. off) _ c.take_listed.new.row.registers c.clear.new.self.items c.clear.ensures.items refl)
+    (c.take_listed.ensures.so, begun_so tracked tracked (λ off. off) _ c.take_listed.new.row.registers c.clear.new.self.items c.clear.ensures refl)
 
 pub returns-in_err-back-in-Ok-None-clause-none : goal.returns-in_err-back-in-Ok-None-clause-none
 returns-in_err-back-in-Ok-None-clause-none c =
@@ -58,4 +64,4 @@ returns-in_err-back-in-Ok-None-clause-none c =
 pub returns-in-Err-clause-none : goal.returns-in-Err-clause-none
 returns-in-Err-clause-none c =
     let own = c.self.inside.saved in let saved : KeptRow = record { row = own.row; changed = own.changed; watched = false } in
-    none_stacked saved c.take_listed.new.row.registers c.clear.new.self.items c.clear.ensures.items refl
+    none_stacked saved c.take_listed.new.row.registers c.clear.new.self.items c.clear.ensures refl
