@@ -92,10 +92,11 @@ impl<'a> UndoList<'a> {
     pub(crate) fn new(alloc: Global) -> UndoList<'a>
         ensures { result.items ≡ [] }
     {
+        // Zeros would be cleared in one piece with the rows beside them, byte by byte.
         UndoList {
-            kinds: [Kind::Unset; IN_PLACE],
-            registers: [0; IN_PLACE],
-            numbers: [0; IN_PLACE],
+            kinds: [Kind::Register; IN_PLACE],
+            registers: [255; IN_PLACE],
+            numbers: [-1; IN_PLACE],
             count: 0,
             rest: Vec::new(alloc),
         }
