@@ -6,6 +6,7 @@
 Each crate is proved from its text and the statements of those below it, as `rt ci` does, and what is made stands where `rt ci` leaves it, so
 behind the gate nothing is proved again. `rt lib` and `rt run` first read all sources, and then load the proofs of the crates below.
 """
+import fcntl
 import os
 import shutil
 import subprocess
@@ -96,9 +97,11 @@ def crates_below(name, crates):
 
 
 def main(top):
+    crates_txt = open(ROOT / "crates.txt")
+    # One run at a time works in a tree.
+    fcntl.flock(crates_txt, fcntl.LOCK_EX)
     began = time.time_ns()
-    lines = (ROOT / "crates.txt").read_text().splitlines()
-    crates = {it.name: it for it in (Crate(line) for line in lines if line and line[0] != "#")}
+    crates = {it.name: it for it in (Crate(line) for line in crates_txt.read().splitlines() if line and line[0] != "#")}
     room = threading.Semaphore(int(said_by("sh", ROOT / "checks/jobs.sh")))
     done = {}
 
