@@ -3,7 +3,7 @@
 ghost use Rattle.dw_num.specs.{Fixed.IsWidth};
 ghost use Rattle.dw_cfa.specs.Inner.{ByOpcode.{advance_at, def_cfa_at, def_cfa_offset_at, def_cfa_offset_sf_at, offset_at}, Turns.{IsWithinLimit, Taken}};
 
-use crate::instr::{Factors, Instr};
+use crate::instr::Factors;
 use crate::keep::Keep;
 use crate::machine::{End, refused};
 use crate::opcode::{distance, factored, plain, signed};
@@ -91,7 +91,7 @@ pub(crate) fn run_def_cfa<'a, K: Keep<'a>>(
         Ok(offset) => offset,
         Err(refusal) => return refused(refusal, fault),
     };
-    keep.take(Instr::DefCfa { register, offset }, at, fault)
+    keep.def_cfa(register, offset, at, fault)
 }
 
 /// A register is saved at the CFA plus an offset, which is factored.

@@ -32,8 +32,18 @@ impl<'a> Keep<'a> for Noted<'a> {
     }
 
     #[inline(always)]
+    fn nop(&mut self, at: u64, fault: &mut Refusal) -> End {
+        self.take(Instr::Nop, at, fault)
+    }
+
+    #[inline(always)]
     fn advance(&mut self, distance: u128, at: u64, fault: &mut Refusal) -> End {
         self.take(Instr::Advance(distance), at, fault)
+    }
+
+    #[inline(always)]
+    fn def_cfa(&mut self, register: u16, offset: i64, at: u64, fault: &mut Refusal) -> End {
+        self.take(Instr::DefCfa { register, offset }, at, fault)
     }
 
     #[inline(always)]
@@ -44,6 +54,21 @@ impl<'a> Keep<'a> for Noted<'a> {
     #[inline(always)]
     fn set(&mut self, register: u16, rule: RegRule<'a>, at: u64, fault: &mut Refusal) -> End {
         self.take(Instr::Set(register, rule), at, fault)
+    }
+
+    #[inline(always)]
+    fn restore(&mut self, register: u16, at: u64, fault: &mut Refusal) -> End {
+        self.take(Instr::Restore(register), at, fault)
+    }
+
+    #[inline(always)]
+    fn remember(&mut self, at: u64, fault: &mut Refusal) -> End {
+        self.take(Instr::RememberState, at, fault)
+    }
+
+    #[inline(always)]
+    fn recall(&mut self, at: u64, fault: &mut Refusal) -> End {
+        self.take(Instr::RestoreState, at, fault)
     }
 
     #[inline(always)]

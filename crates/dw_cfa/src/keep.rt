@@ -3,7 +3,7 @@
 ghost use Rattle.std.specs.Prelude.{◌≡◌, ℕ, ◌≤◌, false, nat_lt, true};
 ghost use Rattle.dw_num.specs.declared.refusal.{Refusal.{Refusal}};
 ghost use Rattle.dw_cfa.specs.declared.{instr.Instr.Instr, machine.{End.End, Machine.Machine}};
-ghost use Rattle.dw_cfa.specs.declared.instr.Instr.TheVariants.{Advance, DefCfaOffset, RememberState, RestoreState, Set, SetLoc};
+ghost use Rattle.dw_cfa.specs.declared.instr.Instr.TheVariants.{Advance, DefCfa, DefCfaOffset, Nop, RememberState, Restore, RestoreState, Set, SetLoc};
 ghost use Rattle.dw_cfa.specs.Inner.{Machine.IsCfaBehind, Steps.InLimit, Turns.{Did, IsWithinLimit, cie_machine}};
 
 use crate::instr::Instr;
@@ -27,10 +27,20 @@ pub(crate) trait Keep<'a> {
         requires limit { InLimit (machine self.old).limit instr }
         ensures { takes self.old instr.entry at result fault.new self.new };
 
+    /// Takes one that does nothing (6.4.2.5).
+    fn nop(&mut self, at: u64, fault: &mut Refusal) -> End
+        requires { IsWithinLimit (machine self.old) }
+        ensures { takes self.old Nop at result fault.new self.new };
+
     /// Takes one that moves the location on.
     fn advance(&mut self, distance: u128, at: u64, fault: &mut Refusal) -> End
         requires { IsWithinLimit (machine self.old) }
         ensures { takes self.old (Advance distance) at result fault.new self.new };
+
+    /// Takes one by which the CFA is a register plus an offset.
+    fn def_cfa(&mut self, register: u16, offset: i64, at: u64, fault: &mut Refusal) -> End
+        requires { IsWithinLimit (machine self.old) }
+        ensures { takes self.old (DefCfa register offset) at result fault.new self.new };
 
     /// Takes one by which the CFA is the same register plus another offset.
     fn def_cfa_offset(&mut self, offset: i64, at: u64, fault: &mut Refusal) -> End
@@ -41,6 +51,21 @@ pub(crate) trait Keep<'a> {
     fn set(&mut self, register: u16, rule: RegRule<'a>, at: u64, fault: &mut Refusal) -> End
         requires { IsWithinLimit (machine self.old) }
         ensures { takes self.old (Set register rule.entry) at result fault.new self.new };
+
+    /// Takes one that gives a register the rule that it has in the initial row.
+    fn restore(&mut self, register: u16, at: u64, fault: &mut Refusal) -> End
+        requires { IsWithinLimit (machine self.old) }
+        ensures { takes self.old (Restore register) at result fault.new self.new };
+
+    /// Takes one that remembers the row (6.4.2.4).
+    fn remember(&mut self, at: u64, fault: &mut Refusal) -> End
+        requires { IsWithinLimit (machine self.old) }
+        ensures { takes self.old RememberState at result fault.new self.new };
+
+    /// Takes one that goes back to the row that was remembered last (6.4.2.4).
+    fn recall(&mut self, at: u64, fault: &mut Refusal) -> End
+        requires { IsWithinLimit (machine self.old) }
+        ensures { takes self.old RestoreState at result fault.new self.new };
 
     /// Whether the location is above an address.
     fn is_above(&self, address: u64) -> bool
@@ -86,34 +111,6 @@ impl<'a> Machine<'a> {
         self.location = address;
         End::Moved
     }
-
-    // Remembers the row (6.4.2.4).
-    #[inline(always)]
-    fn remember(&mut self, at: u64, fault: &mut Refusal) -> End
-        requires { IsWithinLimit self.old }
-        ensures { Did false RememberState at self.old result fault.new self.new }
-    {
-        if self.states.depth() >= MOST_REMEMBERED {
-            return refuse(Code::StateStackFull, at, fault);
-        }
-        match self.states.remember() {
-            Ok(()) => End::On,
-            Err(_) => End::OutOfMemory,
-        }
-    }
-
-    // Goes back to the row that was remembered last (6.4.2.4).
-    #[inline(always)]
-    fn recall(&mut self, at: u64, fault: &mut Refusal) -> End
-        requires { IsWithinLimit self.old }
-        ensures { Did false RestoreState at self.old result fault.new self.new }
-    {
-        match self.states.restore() {
-            Ok(true) => End::On,
-            Ok(false) => refuse(Code::EmptyStateStack, at, fault),
-            Err(_) => End::OutOfMemory,
-        }
-    }
 }
 
 impl<'a> Keep<'a> for Machine<'a> {
@@ -128,10 +125,7 @@ impl<'a> Keep<'a> for Machine<'a> {
             Instr::SetLoc(address) => self.go(address, at, fault),
             Instr::Advance(distance) => self.advance(distance, at, fault),
             Instr::Set(register, rule) => self.set(register, rule, at, fault),
-            Instr::Restore(register) => match self.states.set_as(&self.initial, register) {
-                Ok(()) => End::On,
-                Err(_) => End::OutOfMemory,
-            },
+            Instr::Restore(register) => self.restore(register, at, fault),
             Instr::RememberState => self.remember(at, fault),
             Instr::RestoreState => self.recall(at, fault),
             definition => match cfa_behind(definition, self.states.row().cfa_rule()) {
@@ -144,6 +138,12 @@ impl<'a> Keep<'a> for Machine<'a> {
         }
     }
 
+    // What most programs have is taken in line.
+    #[inline(always)]
+    fn nop(&mut self, _at: u64, _fault: &mut Refusal) -> End {
+        End::On
+    }
+
     #[inline(always)]
     fn advance(&mut self, distance: u128, at: u64, fault: &mut Refusal) -> End {
         if distance > self.limit - self.location {
@@ -151,6 +151,12 @@ impl<'a> Keep<'a> for Machine<'a> {
         }
         self.location += distance;
         End::Moved
+    }
+
+    #[inline(always)]
+    fn def_cfa(&mut self, register: u16, offset: i64, _at: u64, _fault: &mut Refusal) -> End {
+        self.states.set_cfa(CfaRule::Register { register, offset });
+        End::On
     }
 
     #[inline(always)]
@@ -165,6 +171,34 @@ impl<'a> Keep<'a> for Machine<'a> {
     fn set(&mut self, register: u16, rule: RegRule<'a>, _at: u64, _fault: &mut Refusal) -> End {
         match self.states.set(register, rule) {
             Ok(()) => End::On,
+            Err(_) => End::OutOfMemory,
+        }
+    }
+
+    #[inline(always)]
+    fn restore(&mut self, register: u16, _at: u64, _fault: &mut Refusal) -> End {
+        match self.states.set_as(&self.initial, register) {
+            Ok(()) => End::On,
+            Err(_) => End::OutOfMemory,
+        }
+    }
+
+    #[inline(always)]
+    fn remember(&mut self, at: u64, fault: &mut Refusal) -> End {
+        if self.states.depth() >= MOST_REMEMBERED {
+            return refuse(Code::StateStackFull, at, fault);
+        }
+        match self.states.remember() {
+            Ok(()) => End::On,
+            Err(_) => End::OutOfMemory,
+        }
+    }
+
+    #[inline(always)]
+    fn recall(&mut self, at: u64, fault: &mut Refusal) -> End {
+        match self.states.restore() {
+            Ok(true) => End::On,
+            Ok(false) => refuse(Code::EmptyStateStack, at, fault),
             Err(_) => End::OutOfMemory,
         }
     }
@@ -205,8 +239,18 @@ impl<'a> Keep<'a> for Row<'a> {
     }
 
     #[inline(always)]
+    fn nop(&mut self, at: u64, fault: &mut Refusal) -> End {
+        self.take(Instr::Nop, at, fault)
+    }
+
+    #[inline(always)]
     fn advance(&mut self, distance: u128, at: u64, fault: &mut Refusal) -> End {
         self.take(Instr::Advance(distance), at, fault)
+    }
+
+    #[inline(always)]
+    fn def_cfa(&mut self, register: u16, offset: i64, at: u64, fault: &mut Refusal) -> End {
+        self.take(Instr::DefCfa { register, offset }, at, fault)
     }
 
     #[inline(always)]
@@ -217,6 +261,21 @@ impl<'a> Keep<'a> for Row<'a> {
     #[inline(always)]
     fn set(&mut self, register: u16, rule: RegRule<'a>, at: u64, fault: &mut Refusal) -> End {
         self.take(Instr::Set(register, rule), at, fault)
+    }
+
+    #[inline(always)]
+    fn restore(&mut self, register: u16, at: u64, fault: &mut Refusal) -> End {
+        self.take(Instr::Restore(register), at, fault)
+    }
+
+    #[inline(always)]
+    fn remember(&mut self, at: u64, fault: &mut Refusal) -> End {
+        self.take(Instr::RememberState, at, fault)
+    }
+
+    #[inline(always)]
+    fn recall(&mut self, at: u64, fault: &mut Refusal) -> End {
+        self.take(Instr::RestoreState, at, fault)
     }
 
     fn is_above(&self, _address: u64) -> bool {

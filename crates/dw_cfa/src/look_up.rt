@@ -98,14 +98,9 @@ impl<'a> Keep<'a> for LookUp<'a> {
             }
             Instr::Advance(distance) => self.advance(distance, at, fault),
             Instr::Set(register, rule) => self.set(register, rule, at, fault),
-            Instr::Restore(register) => {
-                if register >= NEAR || is_in(self.specified, register) {
-                    return End::OutOfMemory;
-                }
-                self.set(register, RegRule::Unspecified, at, fault)
-            }
-            Instr::RememberState => End::OutOfMemory,
-            Instr::RestoreState => refuse(Code::EmptyStateStack, at, fault),
+            Instr::Restore(register) => self.restore(register, at, fault),
+            Instr::RememberState => self.remember(at, fault),
+            Instr::RestoreState => self.recall(at, fault),
             definition => match cfa_behind(definition, self.row.cfa_rule()) {
                 Some(rule) => {
                     self.row.set_cfa(rule);
@@ -117,12 +112,23 @@ impl<'a> Keep<'a> for LookUp<'a> {
     }
 
     #[inline(always)]
+    fn nop(&mut self, _at: u64, _fault: &mut Refusal) -> End {
+        End::On
+    }
+
+    #[inline(always)]
     fn advance(&mut self, distance: u128, _at: u64, _fault: &mut Refusal) -> End {
         let Some(next) = next_location(self.location, distance, self.last) else {
             return End::OutOfMemory;
         };
         self.location = next;
         End::Moved
+    }
+
+    #[inline(always)]
+    fn def_cfa(&mut self, register: u16, offset: i64, _at: u64, _fault: &mut Refusal) -> End {
+        self.row.set_cfa(CfaRule::Register { register, offset });
+        End::On
     }
 
     #[inline(always)]
@@ -139,6 +145,27 @@ impl<'a> Keep<'a> for LookUp<'a> {
             Ok(()) => End::On,
             Err(_) => End::OutOfMemory,
         }
+    }
+
+    #[inline(always)]
+    fn restore(&mut self, register: u16, _at: u64, _fault: &mut Refusal) -> End {
+        if register >= NEAR || is_in(self.specified, register) {
+            return End::OutOfMemory;
+        }
+        match self.row.set(register, RegRule::Unspecified) {
+            Ok(()) => End::On,
+            Err(_) => End::OutOfMemory,
+        }
+    }
+
+    #[inline(always)]
+    fn remember(&mut self, _at: u64, _fault: &mut Refusal) -> End {
+        End::OutOfMemory
+    }
+
+    #[inline(always)]
+    fn recall(&mut self, at: u64, fault: &mut Refusal) -> End {
+        refuse(Code::EmptyStateStack, at, fault)
     }
 
     #[inline(always)]

@@ -7,7 +7,7 @@ ghost use Rattle.dw_cfa.specs.Inner.{ByOpcode.operands_at, FrontInstr.instr_at, 
 use crate::common::{
     run_def_cfa, run_def_cfa_offset, run_def_cfa_offset_sf, run_fixed_advance, run_offset,
 };
-use crate::instr::{Factors, Instr};
+use crate::instr::Factors;
 use crate::keep::Keep;
 use crate::machine::{End, refuse, refused};
 use crate::opcode::{Opcode, distance, known_opcode};
@@ -30,7 +30,7 @@ fn apply<'a, K: Keep<'a>>(
     ensures { Taken K.takes (operands_at factors at opcode cursor.old) at keep.old result fault.new cursor.new keep.new }
 {
     match opcode {
-        Opcode::Nop => keep.take(Instr::Nop, at, fault),
+        Opcode::Nop => keep.nop(at, fault),
         Opcode::AdvanceLoc(delta) => {
             keep.advance(distance(u64::from(delta), factors), at, fault)
         }
@@ -40,9 +40,9 @@ fn apply<'a, K: Keep<'a>>(
         Opcode::DefCfaOffset => run_def_cfa_offset(cursor, keep, at, fault),
         Opcode::DefCfaOffsetSf => run_def_cfa_offset_sf(cursor, factors, keep, at, fault),
         Opcode::Offset(register) => run_offset(cursor, factors, keep, at, register, fault),
-        Opcode::Restore(register) => keep.take(Instr::Restore(register), at, fault),
-        Opcode::RememberState => keep.take(Instr::RememberState, at, fault),
-        Opcode::RestoreState => keep.take(Instr::RestoreState, at, fault),
+        Opcode::Restore(register) => keep.restore(register, at, fault),
+        Opcode::RememberState => keep.remember(at, fault),
+        Opcode::RestoreState => keep.recall(at, fault),
         _ => apply_rare(opcode, cursor, factors, keep, at, fault),
     }
 }
