@@ -263,7 +263,7 @@ while read -r size order section; do ./refused-sanitized "$size" "$order" "$sect
 echo "library: $(awk '{ calls += $1; requests += $3 } END { print calls " calls, " requests " requests for memory refused, each once" }' requests)"
 
 # ---- requests for memory that are made: none by a look-up or a frame in a plain FDE, also behind up to four rows that are remembered one
-# above the other, with 6 to 8 registers changed behind each
+# above the other, with 6 to 64 registers changed behind each
 
 gcc "${flags[@]}" -o requests -Wl,--wrap=malloc,--wrap=realloc "$root/checks/requests.c" "$library"
 mkdir remembered
@@ -280,8 +280,8 @@ done <plain >counted
 awk '
     { look_ups += $1; frames += $3 }
     $2 || $4 { print "library: with requests for memory: " $2 " of " $1 " look-ups, " $4 " of " $3 " frames: " $5; wrong = 1 }
-    # Each address of these has a row and a frame.
-    $5 ~ /remembered-/ && (!$1 || $1 != $3) { print "library: " $1 " look-ups, " $3 " frames: " $5; wrong = 1 }
+    # Each address of these has a row, and three quarters have a frame: 64 registers and that of the return address are too many.
+    $5 ~ /remembered-/ && (!$1 || 4 * $3 < 3 * $1) { print "library: " $1 " look-ups, " $3 " frames: " $5; wrong = 1 }
     END {
         if (wrong || !frames) exit 1
         print "library: " look_ups " look-ups and " frames " frames in plain FDEs, none of them with a request for memory"
