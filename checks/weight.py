@@ -17,19 +17,19 @@ import sys
 
 # Lines of sources, and of proofs.
 BUDGET = {
-    "dw_num": (964, 1167),
-    "dw_op": (1509, 3947),
-    "dw_eval": (1169, 1097),
-    "dw_row": (2369, 2082),
-    "dw_cfa": (2422, 3551),
-    "dw_section": (2295, 5345),
+    "dw_num": (960, 1167),
+    "dw_op": (1499, 3947),
+    "dw_eval": (1163, 1097),
+    "dw_row": (2360, 2082),
+    "dw_cfa": (2412, 3551),
+    "dw_section": (2288, 5345),
     "dw_canon": (53, 3327),
-    "dw_normal": (1988, 2704),
-    "dw_unwind": (1373, 2278),
-    "dw_words": (827, 1062),
-    "dw_command": (1922, 1648),
+    "dw_normal": (1978, 2704),
+    "dw_unwind": (1363, 2278),
+    "dw_words": (822, 1062),
+    "dw_command": (1916, 1648),
     "dwframe": (262, 0),
-    "dw_library": (1626, 790),
+    "dw_library": (1620, 790),
 }
 # How many characters a line of sources may have.
 LONGEST = 160

@@ -10,7 +10,6 @@ use crate::turn::turn;
 use dw_num::{Code, Cursor, ReadError, Refusal};
 use dw_row::{CfaRule, Row};
 
-// Whether a row has no rule for the CFA.
 fn is_unset(row: &Row<'_>) -> bool
     ensures { result ≡ is_unset row.now.cfa }
 {

@@ -137,7 +137,6 @@ impl<'a> Instructions<'a> {
         }
     }
 
-    // The next answer, or none behind the last one.
     #[tactic(auto, using(crate::proofs::Lent::Listings::yields), unfolding(crate::specs::Inner::Listing::left_of))]
     fn step(&mut self) -> Option<Result<Instr<'a>, Refusal>>
         ensures { Yields self.old result self.new }

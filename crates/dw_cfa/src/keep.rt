@@ -11,7 +11,6 @@ use crate::machine::{End, Machine, refuse};
 use dw_num::{Code, Refusal};
 use dw_row::{CfaRule, RegRule, Row};
 
-// How many states can be remembered at once.
 const MOST_REMEMBERED: usize = 64;
 
 /// What takes the instructions of a program: a run, which is that of a machine, or a note of the last one.

@@ -47,7 +47,6 @@ pub(crate) enum End {
     OutOfMemory,
 }
 
-/// Ends with a refusal.
 #[inline(always)]
 pub(crate) fn refused(refusal: Refusal, fault: &mut Refusal) -> End
     ensures end { result ≡ End.Refused }

@@ -76,8 +76,6 @@ pub(crate) fn known_opcode(code: u8) -> Option<Opcode>
     Some(opcode)
 }
 
-// ---- operands
-
 // A product as an offset of the instruction at this place.
 #[tactic(auto, unfolding(crate::specs::Inner::ByOpcode::offset_in))]
 fn checked_offset(offset: i128, at: u64) -> Result<i64, Refusal>
@@ -153,8 +151,6 @@ pub(crate) fn block<'a>(cursor: &mut Cursor<'a>) -> Result<ExprRef<'a>, Refusal>
     let block = cursor.take(len as usize)?;
     accept_at(block, at, target)
 }
-
-// ---- advances
 
 #[tactic(auto, using(crate::proofs::Products::distance_fits))]
 pub(crate) fn distance(delta: u64, factors: Factors) -> u128

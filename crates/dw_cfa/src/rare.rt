@@ -92,7 +92,6 @@ fn read_other<'a>(
     }
 }
 
-// Reads the operands of one, and applies it.
 #[tactic(auto, using(crate::proofs::Turns::in_greater_limit), unfolding(crate::specs::Inner::ByOpcode::rare_at))]
 fn run_rare<'a, K: Keep<'a>>(
     opcode: Opcode,
@@ -136,7 +135,6 @@ pub(crate) fn apply_rare<'a, K: Keep<'a>>(
     end
 }
 
-/// Another cursor at the same place.
 #[inline(always)]
 pub(crate) fn copied<'a>(cursor: &Cursor<'a>) -> Cursor<'a>
     ensures { result ≡ cursor.now }

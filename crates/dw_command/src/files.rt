@@ -80,7 +80,6 @@ fn bytes_of<R: Read + Drop>(alloc: Global, reader: R, room: usize) -> io::Result
     Ok(bytes)
 }
 
-// The first bytes of a file.
 fn bytes_at<R: Files + AllocGlobal>(rt: &R, path: &str) -> io::Result<Vec<u8>>
     ensures bound { IfOk result (λ bytes. length bytes.items ≤ 2_147_483_648) }
 {

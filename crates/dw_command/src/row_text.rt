@@ -84,7 +84,6 @@ fn put_rule<W: Write>(listing: &mut Listing<W>, rule: &RegRule<'_>)
     }
 }
 
-// A register and its rule.
 #[inline(always)]
 fn put_column<W: Write>(listing: &mut Listing<W>, register: u16, rule: &RegRule<'_>)
     ensures { Adds W.contents listing.old listing.new (column_text (register, rule.now)) }

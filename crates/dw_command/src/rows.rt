@@ -81,7 +81,6 @@ pub fn run_rows<'a, L: Load, W: Write>(
     out.finish()
 }
 
-// Puts what the section says of an address.
 fn put_at<'a, W: Write>(
     out: &mut Listing<W>,
     table: &Table<'a>,
@@ -101,7 +100,6 @@ fn put_at<'a, W: Write>(
     Ok(())
 }
 
-// Puts what the section says of each address.
 fn put_each<'a, W: Write>(
     out: &mut Listing<W>,
     table: &Table<'a>,

@@ -46,7 +46,6 @@ fn read<M: Memory>(stack: &mut Stack, len: usize, env: &Env<'_>, memory: &mut M)
     }
 }
 
-/// Executes an operation.
 #[tactic(auto, using(crate::proofs::Steps::acts_so, crate::proofs::Steps::one_does, crate::proofs::Steps::two_does))]
 pub(crate) fn act<M: Memory>(
     op: &Op<'_>,

@@ -53,7 +53,6 @@ pub(crate) fn quotient(s: u64, t: u64, size: Size) -> u64
     unsigned(signed(s, size).wrapping_div(signed(t, size)), size)
 }
 
-/// How many bits a value has.
 fn bit_count(size: Size) -> u64
     ensures { result ≡ bit_count size }
 {

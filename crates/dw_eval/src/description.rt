@@ -184,7 +184,6 @@ impl<'a> Description<'a> {
     }
 }
 
-// Runs the operations from the first one on.
 fn run<'a, M: Memory>(
     alloc: Global,
     ops: &[Op<'a>],

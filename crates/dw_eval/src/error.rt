@@ -44,7 +44,6 @@ pub enum Kind {
 }
 
 impl Kind {
-    // Number and name.
     fn entry(self) -> (u8, &'static str)
         ensures { (result.0 ≡ (kind_entry self).0) × (result.1.now ≡ (kind_entry self).1) }
     {

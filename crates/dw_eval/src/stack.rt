@@ -28,7 +28,6 @@ pub(crate) enum Stop {
     OutOfMemory,
 }
 
-/// What an operation answers.
 pub(crate) type Answer = Result<Flow, Stop>;
 
 /// A stack of values. A contract sees the top first.
@@ -60,7 +59,6 @@ impl Stack {
         self.values.len()
     }
 
-    /// Takes all entries.
     pub(crate) fn clear(&mut self)
         ensures { self.new ≡ [] }
     {

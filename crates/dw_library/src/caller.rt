@@ -103,7 +103,6 @@ pub(crate) fn fault_of_kind(kind: Kind, index: usize, column: Column) -> Fault
     }
 }
 
-// There is no frame.
 const NO_FRAME: Frame = Frame {
     cfa: 0,
     count: 0,

@@ -50,7 +50,6 @@ fn known_if(has: u8, value: u64) -> Option<u64>
     (has != 0).then_some(value)
 }
 
-// The value over what a machine held.
 fn value_of(
     alloc: Global,
     list: &OpList<'_>,

@@ -84,7 +84,6 @@ fn byte_of(window: &Window, bytes: &[u8], address: u128) -> Option<u8>
     None
 }
 
-// The byte at an address.
 fn byte_at(windows: &[Window], bytes: &[u8], address: u128) -> Option<u8>
     ensures { result ≡ byte_among bytes.now windows.now address }
 {

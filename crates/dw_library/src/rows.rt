@@ -144,7 +144,6 @@ fn put_change(
     }
 }
 
-// Writes the changes that are still to come.
 fn put_changes(
     changes: &mut Changes<'_>,
     entry: &Ranged,
@@ -174,7 +173,6 @@ fn fitting(totals: Totals, out: usize, rules: usize) -> u32
     Status::TooShort as u32
 }
 
-// Writes the changes of the FDE that covers an address.
 fn put_covering(
     table: &Table<'_>,
     address: u64,

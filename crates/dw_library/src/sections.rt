@@ -36,7 +36,6 @@ pub extern "C" fn dwframe_check(
     }
 }
 
-// The most bytes of a normal form.
 const LIMIT: u64 = 2_147_483_647;
 
 /// Writes the normal form of a section to the front of `out`, and its length to `needed`. Where `out` is shorter it answers

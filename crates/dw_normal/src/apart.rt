@@ -47,7 +47,6 @@ pub(crate) struct Apart<'a> {
     pub(crate) known: Known<'a>,
 }
 
-// Lists the registers to which two rows give different rules.
 fn list_differences<'a>(
     registers: &mut RegisterSet<'a>,
     shared: &Row<'a>,

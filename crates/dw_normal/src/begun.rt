@@ -83,7 +83,6 @@ pub(crate) fn room_for<'r, 'a>(
     }
 }
 
-/// Begins an FDE of the table.
 #[inline(always)]
 pub(crate) fn begin_fde<'r, 'a>(begun: &mut Begun<'r, 'a>, fde: FdeRef) -> Result<(), AllocError>
     requires place { IsListed begun.old.ready.now.table fde.place }

@@ -21,7 +21,6 @@ use std::alloc::AllocError;
 // Changes that are counted alone are written up to so many bytes at a time.
 const CHUNK: usize = 65_536;
 
-/// Makes the entry a CIE with an initial row.
 pub(crate) fn fill_cie<'a>(
     out: &mut Output,
     register: u16,
@@ -121,7 +120,6 @@ fn push_changes<'a>(
     Ok(())
 }
 
-/// Makes the entry an FDE.
 pub(crate) fn fill_fde(
     out: &mut Output,
     begun: &mut Begun<'_, '_>,

@@ -84,7 +84,6 @@ fn write_all<'r, 'a, S: Sink>(
     Ok(())
 }
 
-/// Puts all entries of a table's normal form.
 pub(crate) fn write_entries<'a, S: Sink>(
     alloc: Global,
     sink: &mut S,

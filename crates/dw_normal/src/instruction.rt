@@ -22,7 +22,6 @@ fn push_long_uleb(out: &mut Vec<u8>, value: u64) -> Result<(), AllocError>
     put_uleb(out, value)
 }
 
-/// Appends the shortest spelling of an unsigned number.
 #[inline(always)]
 #[tactic(auto, using(crate::proofs::OneByte::one_byte))]
 pub(crate) fn push_uleb(out: &mut Vec<u8>, value: u64) -> Result<(), AllocError>
@@ -124,7 +123,6 @@ pub(crate) fn push_move(
     push_far_move(out, from, to, target)
 }
 
-// Appends an expression behind its length.
 fn push_expression(
     out: &mut Vec<u8>,
     expression: &ExprRef<'_>,
@@ -196,7 +194,6 @@ pub(crate) fn push_rule(
     }
 }
 
-/// Appends what gives the CFA another offset.
 #[inline(always)]
 #[tactic(auto, unfolding(dw_canon::specs::Spelling::instr_bytes))]
 pub(crate) fn push_cfa_offset(
@@ -214,7 +211,6 @@ pub(crate) fn push_cfa_offset(
     push_with(out, 0x0e, offset.unsigned_abs())
 }
 
-// Whether nothing has to be changed.
 #[inline(always)]
 fn stays(old: &CfaRule<'_>, new: &CfaRule<'_>) -> bool
     ensures { result ≡ same_cfa old.now new.now }

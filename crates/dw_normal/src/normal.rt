@@ -146,7 +146,6 @@ fn blamed(which: Which, error: ReadError) -> SameError
     }
 }
 
-// Whether two checked sections say the same.
 fn compared(alloc: Global, first: Table<'_>, second: Table<'_>) -> Result<bool, SameError>
     requires target { first.target ≡ second.target }
     ensures found { IfOk result (λ b. Decides b (SameMeaning first.entry.target first.entry.bytes second.entry.bytes)) }

@@ -195,7 +195,6 @@ impl<'a> Cursor<'a> {
         self.read_fixed(n)
     }
 
-    // Goes on by bytes that are there.
     #[inline(always)]
     fn pass(&mut self, n: usize)
         requires { n ≤ length self.old.bytes }

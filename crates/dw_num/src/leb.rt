@@ -33,7 +33,6 @@ fn add_to(total: Option<u64>, place: usize, group: u8) -> Option<u64>
     add_group(total?, place, group)
 }
 
-// How many bytes the number at the front has.
 fn count_bytes(bytes: &[u8]) -> Option<usize>
     ensures found { result ≡ leb_len bytes.now }
     ensures within { MatchOption result ⊤ (λ n. (0 < n) × (n ≤ length bytes.now)) }
@@ -68,7 +67,6 @@ fn sum_turned(is_turned: bool, bytes: &[u8]) -> Option<u64>
     total
 }
 
-// Whether the sign bit of the last byte is set.
 fn has_sign(spelling: &[u8]) -> bool
     requires { 0 < length spelling.now }
     ensures { result ≡ is_negative spelling.now }
@@ -76,7 +74,6 @@ fn has_sign(spelling: &[u8]) -> bool
     spelling[spelling.len() - 1] % 128 >= 64
 }
 
-// The sum of at most nine groups.
 fn short_sum(spelling: &[u8]) -> u64
     requires { length spelling.now ≤ 9 }
     ensures { result ≡ groups spelling.now }

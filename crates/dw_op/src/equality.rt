@@ -53,7 +53,6 @@ pub(crate) fn same_steps(mut a: OpSteps<'_>, mut b: OpSteps<'_>) -> bool
     }
 }
 
-/// Feeds the operations of a walk.
 pub(crate) fn feed_steps<H: Hasher>(mut steps: OpSteps<'_>, state: &mut H)
     ensures { state.new ≡ fold H.write state.old (lines_fed (map op_line steps.entry)) }
 {

@@ -60,7 +60,6 @@ impl<'a> Model for OpSteps<'a> {
 }
 
 impl<'a> OpSteps<'a> {
-    // The next operation, or none at the end.
     #[tactic(auto, using(crate::proofs::Judgement::steps_after, crate::proofs::Judgement::steps_answer))]
     pub(crate) fn step(&mut self) -> Option<Op<'a>>
         ensures { MatchOption result ((self.old ≡ []) × (self.new ≡ [])) (λ op. self.old ≡ bare op ∷ self.new) }

@@ -129,7 +129,6 @@ fn operand_len(operand: Operand<'_>) -> usize
     }
 }
 
-/// How many bytes the least spelling of an operation has.
 pub(crate) fn op_least_len(op: &Op<'_>, target: Target) -> usize
     ensures { (bits : ℕ) → result ≡ length (least_bytes target bits (bare op.now)) }
 {

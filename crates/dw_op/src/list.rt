@@ -51,7 +51,6 @@ fn fits(op: &Op<'_>, target: Target, len: usize) -> bool
     }
 }
 
-// Whether an operation of a list of this length is in range.
 #[tactic(auto, using(crate::proofs::Lent::Ranges::in_range, crate::proofs::Lent::Ranges::fits))]
 fn is_in_range(op: &Op<'_>, target: Target, len: usize) -> bool
     ensures { IsTrue result ↔ InRange target len (bare op.now) }

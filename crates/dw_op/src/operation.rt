@@ -10,7 +10,6 @@ use crate::op::Op;
 use crate::profile::Profile;
 use dw_num::{Code, Cursor, Refusal, Size};
 
-/// Which of the two branches.
 #[derive(Clone, Copy)]
 pub(crate) enum Branch {
     Bra,
@@ -40,7 +39,6 @@ pub(crate) fn refused<T>(code: Code, at: u64) -> Result<T, Refusal>
     Err(Refusal { code, at })
 }
 
-// The last number that is an address.
 pub(crate) fn last_address(size: Size) -> u64
     ensures { result + 1 ≡ address_limit size }
 {
@@ -147,7 +145,6 @@ fn read_operands<'a>(cursor: &mut Cursor<'a>, code: u8, at: u64) -> Result<Step<
     }
 }
 
-/// The operation at the front.
 #[tactic(auto, using(crate::proofs::Barred::barred, crate::proofs::Barred::passed), unfolding(crate::specs::Inner::FrontOp::step_at))]
 pub(crate) fn next_step<'a>(cursor: &mut Cursor<'a>, profile: Profile) -> Result<Step<'a>, Refusal>
     ensures { Gives bare_step result (step_at profile cursor.old) cursor.new }

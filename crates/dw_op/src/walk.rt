@@ -13,9 +13,8 @@ use crate::profile::Profile;
 use arrayvec::ArrayVec;
 use dw_num::{Code, Cursor, Refusal, Target, are_bytes};
 
-/// How many bytes marks are apart.
 pub(crate) const APART: u64 = 512;
-/// How many marks there are room for.
+
 pub(crate) const ROOM: u64 = 192;
 
 /// An operation, by how many bytes are before it, and by what the operations there add.
@@ -78,7 +77,6 @@ pub(crate) struct Walker<'a> {
     pub(crate) limit: u64,
 }
 
-/// A second cursor at the same place.
 fn copied<'a>(cursor: &Cursor<'a>) -> Cursor<'a>
     ensures { result ≡ cursor.now }
 {

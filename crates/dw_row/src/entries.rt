@@ -127,7 +127,6 @@ impl<'a> Entries<'a> {
         self.expressions.is_empty() && self.far.is_empty()
     }
 
-    // Empties both trees.
     #[inline(never)]
     pub(crate) fn clear_trees(&mut self)
         ensures expressions { self.new.expressions.entries ≡ [] }

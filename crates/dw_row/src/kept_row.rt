@@ -147,7 +147,6 @@ impl<'a> KeptRow<'a> {
         self.next_difference(current, None).is_none()
     }
 
-    /// Whether the current row is the kept one.
     #[tactic(auto, using(crate::proofs::Marked::kept_exactly))]
     #[inline(always)]
     pub(crate) fn is_same(&self, current: &Row<'_>) -> bool

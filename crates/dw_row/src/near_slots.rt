@@ -94,7 +94,6 @@ pub(crate) fn without_first(mask: u128) -> u128
     u128::from(high & high.wrapping_sub(1)) << 64
 }
 
-/// Copies the slots of the registers in a mask.
 #[inline(always)]
 pub(crate) fn copy_slots(slots: &mut Slots, others: &Slots, mask: u128)
     requires slots { HasRoom slots.old }

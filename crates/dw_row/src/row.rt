@@ -207,7 +207,6 @@ impl<'a> Row<'a> {
         self.entries.has_same_near(&other.entries, register)
     }
 
-    // Whether another row has the same registers with the same rules.
     fn has_same_registers(&self, other: &Row<'_>) -> bool
         ensures { IsTrue result ↔ (self.now.registers ≡ other.now.registers) }
     {
@@ -289,7 +288,6 @@ impl<'a> Row<'a> {
         true
     }
 
-    /// Takes the CFA's rule of another row.
     #[inline(always)]
     pub(crate) fn copy_cfa(&mut self, other: &Row<'a>)
         ensures { self.new ≡ with_cfa other.now.cfa self.old }

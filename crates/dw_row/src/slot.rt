@@ -27,7 +27,6 @@ pub(crate) struct Slots {
 }
 
 impl Slots {
-    /// The slot of a register: its kind and its number.
     #[inline(always)]
     pub(crate) fn get(&self, register: u16) -> (Slot, i64)
         requires room { HasRoom self.now }
@@ -38,7 +37,6 @@ impl Slots {
         (self.kinds[place], self.numbers[place])
     }
 
-    /// Gives a register a slot.
     #[inline(always)]
     pub(crate) fn set(&mut self, register: u16, slot: (Slot, i64))
         requires room { HasRoom self.old }

@@ -102,14 +102,12 @@ impl<'a> UndoList<'a> {
         }
     }
 
-    /// Whether there is none.
     pub(crate) fn is_empty(&self) -> bool
         ensures { result ≡ (length self.now.items == 0) }
     {
         self.count == 0 && self.rest.is_empty()
     }
 
-    /// Forgets all.
     #[inline(always)]
     pub(crate) fn clear(&mut self)
         ensures { self.new.items ≡ [] }

@@ -49,10 +49,8 @@ pub(crate) fn refusal(code: Code, at: u64) -> Refusal
     Refusal { code, at }
 }
 
-// The longest section that is read.
 pub(crate) const MOST: usize = 2_147_483_647;
 
-// The width of the first field.
 pub(crate) fn width_of(form: Form) -> usize
     ensures { result ≡ id_width form }
 {

@@ -9,7 +9,6 @@ ghost use Rattle.dw_section.specs.declared.fields.CieFields.{CieFields as TheCie
 use crate::entry::refusal;
 use dw_num::{Code, Cursor, Refusal, Size};
 
-/// What the fields of a CIE say.
 #[derive(Clone, Copy)]
 pub(crate) struct CieFields {
     pub(crate) code_factor: u64,
@@ -17,7 +16,6 @@ pub(crate) struct CieFields {
     pub(crate) return_register: u16,
 }
 
-/// What the fields of an FDE say.
 #[derive(Clone, Copy)]
 pub(crate) struct FdeFields {
     pub(crate) cie_at: u64,

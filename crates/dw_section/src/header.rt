@@ -54,7 +54,6 @@ pub enum Header<'a> {
     },
 }
 
-// What is left, as a program.
 #[inline(always)]
 fn rest_of<'a>(cursor: &Cursor<'a>) -> Program<'a>
     requires { cursor.now.at + length cursor.now.bytes ≤ 2147483647 }
@@ -170,7 +169,6 @@ pub(crate) struct Cies<'a> {
     pub(crate) initials: Vec<Initial<'a>>,
 }
 
-// Reads the CIE that stands at a place.
 fn read_cie_at<'a>(bytes: &'a [u8], at: u64, target: Target) -> Result<Initial<'a>, Refusal>
     requires small { length bytes.now ≤ 2147483647 }
     requires stands { (p : Piece) × StandsIn target.order bytes.now p × (p.at ≡ at) × (p.kind ≡ kind.Cie) }

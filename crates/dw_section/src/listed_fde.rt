@@ -70,7 +70,6 @@ fn starts_of(fde: &FoundFde<'_>, target: Target) -> u64
 }
 
 impl<'a> Table<'a> {
-    // An entry of the index.
     #[inline(always)]
     pub(crate) fn listed(&self, fde: FdeRef) -> Ranged
         requires { (fs : List TheFde) → AreFdes self.now.target self.now.bytes fs → fde.place < length fs }

@@ -80,7 +80,6 @@ impl FrameRoom {
         }
     }
 
-    /// No register is left.
     pub(crate) fn clear(&mut self)
         ensures { self.new ≡ [] }
     {
@@ -88,7 +87,6 @@ impl FrameRoom {
         self.more.clear();
     }
 
-    /// Adds a register behind all others.
     #[inline(always)]
     pub(crate) fn push(&mut self, register: u16, value: Option<u64>) -> Result<(), AllocError>
         ensures { OnOk result (self.new ≡ self.old ++ (register, value) ∷ []) }
@@ -101,7 +99,6 @@ impl FrameRoom {
         Ok(())
     }
 
-    /// The registers that it has.
     pub(crate) fn lent(&self) -> FrameRegisters<'_>
         ensures { result ≡ self.now }
     {

@@ -8,7 +8,6 @@ ghost use Rattle.dw_unwind.specs.{Statement.{Statement as TheStatement}, Inner.S
 use hex::FromHexError;
 use std::alloc::{AllocError, Global};
 
-/// What a line says.
 #[derive(Drop)]
 pub(crate) enum Statement {
     Nothing,
@@ -51,7 +50,6 @@ fn word_behind<'a>(line: &'a [u8], prefix: &[u8]) -> Option<(&'a [u8], &'a [u8])
     Some((&text[..len], &text[len + 1..]))
 }
 
-// The digit that a character is in a base.
 fn digit_of(base: u8, c: u8) -> Option<u8>
     ensures value { result ≡ digit base c }
     ensures small { MatchOption result Unit (λ d. d < base) }

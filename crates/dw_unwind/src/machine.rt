@@ -46,7 +46,6 @@ fn in_column(answer: Result<u64, EvalError>, column: Column) -> Result<u64, Unwi
 }
 
 impl<'m, 'a> Machine<'m, 'a> {
-    // What a register holds, modulo 2^N.
     fn value_in(&self, register: u16) -> Option<u64>
         ensures { (byte : ℕ → Option ℕ) → result ≡ value_in (context self.now.env byte) self.now.steps register }
     {
@@ -100,7 +99,6 @@ impl<'m, 'a> Machine<'m, 'a> {
         in_column(answer, column)
     }
 
-    // The CFA by its rule.
     fn cfa<M: Memory>(&self, rule: &CfaRule<'_>, memory: &mut M) -> Result<u64, UnwindError>
         requires set { rule.now ≡ Unset → ⊥ }
         requires fits { CfaFits self.now.env.target rule.now }
@@ -254,7 +252,6 @@ impl<'m, 'a> Machine<'m, 'a> {
         Ok(room.lent())
     }
 
-    // The frame that a row gives.
     fn frame<'r, M: Memory>(
         &self,
         memory: &mut M,

@@ -37,7 +37,6 @@ fn ends_rise(list: &[Range]) -> bool
     true
 }
 
-// Puts ranges in the order of their addresses.
 fn put_in_order(list: &mut Vec<Range>)
     ensures same { IsPermutation list.old.items list.new.items }
     ensures rises { IsNonDecreasingBy (λ (r : TheRange). r.address) list.new.items }
@@ -45,7 +44,6 @@ fn put_in_order(list: &mut Vec<Range>)
     list.sort_unstable_by_key(|range| range.address);
 }
 
-// Whether no two ranges share a byte.
 fn are_apart(alloc: Global, ranges: &[Range]) -> Result<bool, AllocError>
     requires { AllByRecursion (λ (r : TheRange). 0 < r.len) ranges.now }
     ensures { IfOk result (λ apart. MatchBool apart (AreApart ranges.now) (Meet ranges.now)) }

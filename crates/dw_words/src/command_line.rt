@@ -83,7 +83,6 @@ fn subcommand<'a>(
         .args(own)
 }
 
-// The name of a subcommand.
 fn text_of(name: Name) -> &'static str
     ensures { result.now ≡ text_of name }
 {

@@ -21,7 +21,6 @@ use std::alloc::Global;
 // How many operations are executed where the words do not say.
 const STEPS: u64 = 10_000;
 
-// The most bytes that a section has.
 const CAP: u64 = 2_147_483_647;
 
 fn text_of<'a>(matches: &ArgMatches<'a>, id: &str) -> Option<&'a str>
@@ -130,7 +129,6 @@ fn block_in(alloc: Global, matches: &ArgMatches<'_>) -> Result<Vec<u8>, PlanErro
     }
 }
 
-// The addresses of the words, in their order.
 fn addresses_in(alloc: Global, matches: &ArgMatches<'_>, size: Size) -> Result<Vec<u64>, PlanError>
     ensures { Answers (rows_of (found_of matches.now)) (GivenAt size []) (addresses_in size) (λ addresses. addresses.items) result }
 {

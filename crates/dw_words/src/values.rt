@@ -6,7 +6,6 @@ ghost use Rattle.dw_words.specs.{Values.{decimal, address}, Inner.Values.digit_b
 
 use dw_num::Size;
 
-// The value of a hexadecimal digit of either case.
 fn digit_of(byte: u8) -> Option<u8>
     ensures { result ≡ digit_value byte }
 {
@@ -42,7 +41,6 @@ fn number_of(base: u8, text: &[u8]) -> Option<u64>
     Some(number)
 }
 
-/// The number of one or more decimal digits.
 pub(crate) fn decimal(text: &str) -> Option<u64>
     ensures { result ≡ decimal text.now }
 {
