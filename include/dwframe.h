@@ -28,9 +28,9 @@
  *   rules up to the address are for registers below 128 and have no expression, at most four rows are remembered at once and at most
  *   64 registers change behind each, and the frame has at most 64 registers, all below 128. No clause says so: the requests are
  *   counted. Where malloc answers null, the status is DWFRAME_OUT_OF_MEMORY.
- * - There is stack, in KB at most: 4 for dwframe_evaluate, 14 for dwframe_row_at and dwframe_expressions_at, 17 for
+ * - There is stack, in KB at most: 4 for dwframe_evaluate, 15 for dwframe_row_at and dwframe_expressions_at, 18 for
  *   dwframe_unwind_at, 26 for dwframe_check, dwframe_index_size, dwframe_index and dwframe_unwind, 31 for dwframe_rows_at, 38 for
- *   dwframe_changes and dwframe_normalise, 61 for dwframe_same, 1 for those that tell a name. This was measured (bench/stack.c) over
+ *   dwframe_changes and dwframe_normalise, 66 for dwframe_same, 1 for those that tell a name. This was measured (bench/stack.c) over
  *   tables of compilers, rules with expressions and rows that are remembered one above the other; no bound is proved.
  *
  * All else is answered: any bytes, any size, order, number and length of room have a status. No call keeps anything when it has
