@@ -1,7 +1,6 @@
-/* Look-ups by the library for C, of the addresses that `requests lookup` takes and with the sum that it prints:
+/* Look-ups by an index with the library for C, of the addresses that `gimli-peer lookup` takes and with the sum that it prints:
  *
- *     lookup COUNT FILE 4|8 little|big          a call for each address, by an index
- *     lookup COUNT FILE 4|8 little|big all      one call for all addresses
+ *     lookup COUNT FILE 4|8 little|big
  *
  * Callgrind's count of a run less that of one with COUNT 0 is the cost of COUNT look-ups. */
 #include <inttypes.h>
@@ -52,7 +51,7 @@ static uint64_t with(uint64_t sum, uint64_t address, const dwframe_row *row)
     return sum * 31 + (address ^ found << 32);
 }
 
-static int look_up_each(uint64_t count, uint64_t *sum)
+static int look_up(uint64_t count, uint64_t *sum)
 {
     dwframe_rule rules[RULES];
     dwframe_row row;
@@ -65,29 +64,9 @@ static int look_up_each(uint64_t count, uint64_t *sum)
     return 0;
 }
 
-static int look_up_all(uint64_t count, uint64_t *sum)
-{
-    uint64_t *addresses = malloc(count * sizeof *addresses + 1);
-    dwframe_row *rows = malloc(count * sizeof *rows + 1);
-    dwframe_rule *rules = malloc(count * RULES * sizeof *rules + 1);
-    size_t done = 0;
-    if (!addresses || !rows || !rules)
-        return 2;
-    for (uint64_t i = 0; i < count; i++)
-        addresses[i] = next_address();
-    if (dwframe_rows_at(&section, addresses, count, rows, count, rules, count * RULES, &done, &refusal))
-        return 3;
-    for (uint64_t i = 0; i < done; i++)
-        *sum = with(*sum, addresses[i], &rows[i]);
-    free(addresses);
-    free(rows);
-    free(rules);
-    return 0;
-}
-
 int main(int argc, char **argv)
 {
-    FILE *file = argc == 5 || argc == 6 ? fopen(argv[2], "rb") : NULL;
+    FILE *file = argc == 5 ? fopen(argv[2], "rb") : NULL;
     if (!file)
         return 1;
     size_t len = fread(bytes, 1, sizeof bytes, file);
@@ -96,7 +75,7 @@ int main(int argc, char **argv)
     section = dwframe_section_of(bytes, len, (uint32_t)atoi(argv[3]), !strcmp(argv[4], "big"));
     int status = make_index();
     if (!status)
-        status = argc == 6 ? look_up_all(count, &sum) : look_up_each(count, &sum);
+        status = look_up(count, &sum);
     if (!status)
         printf("lookups=%" PRIu64 " sum=%016" PRIx64 "\n", count, sum);
     free(table);

@@ -4,10 +4,6 @@
 //!     requests CALL
 //!     requests CALL 4|8 little|big FILE
 //!
-//! With a count behind these words it looks up so many addresses, for `bench/run`, and reads the rule of the CFA, or all rules:
-//!
-//!     requests lookup|rules 4|8 little|big FILE COUNT
-//!
 //! An error that no call is to answer ends the run, and is told on standard error.
 #![tactic(auto)]
 
@@ -16,7 +12,6 @@ mod evaluations;
 mod expressions;
 mod forms;
 mod frames;
-mod lookups;
 mod numbers;
 mod programs;
 mod sections;
@@ -81,9 +76,5 @@ fn main(rt: HostRuntime) -> Result<(), Fail> {
         return made(rt, call, programs::WORKED, TARGET);
     };
     let bytes = fs::read(rt, path)?;
-    let target = target_of(size, order);
-    match words.get(5).and_then(|word| word.parse().ok()) {
-        Some(count) => lookups::all(rt, &bytes, target, count, call.as_str() == "rules"),
-        None => made(rt, call, &bytes, target),
-    }
+    made(rt, call, &bytes, target_of(size, order))
 }
