@@ -122,6 +122,7 @@ for check in "documents.py --texts" definitions.py layers.py weight.py answers.p
 done
 if [ -x "$copy/crates/dwframe/out/dwframe" ]; then
     program=crates/dwframe/out/dwframe
+    in_copy python3 checks/worked.py $program
     in_copy sh checks/examples.sh
     in_copy sh checks/normal_forms.sh
     in_copy bash checks/large_files.sh $program

@@ -17,19 +17,19 @@ import sys
 
 # Lines of sources, and of proofs.
 BUDGET = {
-    "dw_num": (960, 1167),
-    "dw_op": (1500, 3947),
-    "dw_eval": (1163, 1097),
-    "dw_row": (2360, 2082),
-    "dw_cfa": (2412, 3551),
-    "dw_section": (2288, 5345),
+    "dw_num": (972, 1167),
+    "dw_op": (1511, 3937),
+    "dw_eval": (1162, 1097),
+    "dw_row": (2354, 2082),
+    "dw_cfa": (2411, 3551),
+    "dw_section": (2287, 5345),
     "dw_canon": (53, 3327),
-    "dw_normal": (1978, 2704),
-    "dw_unwind": (1363, 2278),
+    "dw_normal": (1999, 2730),
+    "dw_unwind": (1350, 2278),
     "dw_words": (822, 1062),
     "dw_command": (1916, 1648),
     "dwframe": (262, 0),
-    "dw_library": (1620, 790),
+    "dw_library": (1601, 790),
 }
 # How many characters a line of sources may have.
 LONGEST = 160

@@ -9,8 +9,7 @@ use dw_num::{Code, Refusal, Target};
 use dw_row::{Row, States};
 use std::alloc::Global;
 
-/// The state of the machine in an FDE's program: the initial row, the current one with the remembered ones, and
-/// the location, which is at most the limit.
+/// The state of the machine in an FDE's program: the initial row, the current one with the remembered ones, and the location, which is at most the limit.
 #[derive(Drop)]
 pub(crate) struct Machine<'a> {
     pub(crate) initial: Row<'a>,

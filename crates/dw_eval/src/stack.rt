@@ -1,5 +1,4 @@
-//! The stack of values (2.5.1), and what operations do to it: stack operations (2.5.1.3), arithmetic and logic (2.5.1.4),
-//! comparisons and branches (2.5.1.5).
+//! The stack of values (2.5.1), and what operations do to it: stack operations (2.5.1.3), arithmetic and logic (2.5.1.4), comparisons and branches (2.5.1.5).
 
 ghost use Rattle.std.specs.Prelude.{◌≡◌, ℕ, ◌%◌, List, [], ◌∷◌, length, slice_get, IfOk, IfErr, nat_eq, if◌then◌else◌};
 ghost use Rattle.dw_eval.specs.Effect.{Next, Jump, on_top, on_two, on_three, known, nonzero, push};

@@ -1,13 +1,11 @@
 //! What a machine held: registers, and memory as windows of addresses over one buffer.
 
 ghost use Rattle.std.specs.{Prelude.{◌≡◌, ℕ, ◌+◌, ◌<◌, ◌≤◌, true, false, IfSome, OnOk, Some, None, [], ⊤, length}, Bool.MatchBool};
-ghost use Rattle.dw_num.specs.Fixed.{fixed_number};
 ghost use Rattle.dw_eval.specs.{Bytes.bytes_from, Registers.held};
 ghost use Rattle.dw_library.specs.{Registers.given_in, Windows.{covers, byte_of, byte_among}, Inner.Windows.Spells};
 
-use byteorder::{BigEndian, ByteOrder, LittleEndian};
 use dw_eval::{Memory, ReadFault, Registers};
-use dw_num::Order;
+use dw_num::{Order, number_of};
 use std::alloc::AllocError;
 
 /// A register: its number, whether its value is known (0 where it is not), and the value.
@@ -150,22 +148,6 @@ fn fill(windows: &[Window], bytes: &[u8], address: u64, buffer: &mut [u8]) -> bo
         *slot = byte;
     }
     true
-}
-
-fn number_of(order: Order, bytes: &[u8]) -> u64
-    requires some { 1 ≤ length bytes.now }
-    requires most { length bytes.now ≤ 8 }
-    ensures { result ≡ fixed_number order (length bytes.now) bytes.now }
-{
-    // An address is read at once, where any number of bytes is copied first.
-    match (order, bytes.len()) {
-        (Order::Little, 8) => LittleEndian::read_u64(bytes),
-        (Order::Little, 4) => u64::from(LittleEndian::read_u32(bytes)),
-        (Order::Little, len) => LittleEndian::read_uint(bytes, len),
-        (Order::Big, 8) => BigEndian::read_u64(bytes),
-        (Order::Big, 4) => u64::from(BigEndian::read_u32(bytes)),
-        (Order::Big, len) => BigEndian::read_uint(bytes, len),
-    }
 }
 
 // The memory of windows over one buffer. Its device never fails.

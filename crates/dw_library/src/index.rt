@@ -44,8 +44,7 @@ pub struct Row {
     pub cfa_offset: i64,
     /// How many registers have a rule.
     pub count: usize,
-    /// 1 `DW_CFA_def_cfa`, 2 `DW_CFA_def_cfa_expression`; 0 where there is no row, or where the row, of bytes that were not
-    /// checked, has no rule for the CFA.
+    /// 1 `DW_CFA_def_cfa`, 2 `DW_CFA_def_cfa_expression`; 0 where there is no row, or where the row, of bytes that were not checked, has no rule for the CFA.
     pub cfa_kind: u32,
     /// The register of `DW_CFA_def_cfa`.
     pub cfa_register: u16,

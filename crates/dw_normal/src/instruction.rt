@@ -13,17 +13,8 @@ use dw_op::ExprRef;
 use dw_row::{CfaRule, RegRule, Row};
 use std::alloc::AllocError;
 
-// Apart from `push_uleb`, whose numbers are mostly small.
-#[inline(never)]
-#[tactic(auto, using(dw_num::proofs::Lent::Shortest::puts_uleb))]
-fn push_long_uleb(out: &mut Vec<u8>, value: u64) -> Result<(), AllocError>
-    ensures { OnOk result (out.new.items ≡ out.old.items ++ shortest_uleb value) }
-{
-    put_uleb(out, value)
-}
-
 #[inline(always)]
-#[tactic(auto, using(crate::proofs::OneByte::one_byte))]
+#[tactic(auto, using(crate::proofs::OneByte::one_byte, dw_num::proofs::Lent::Shortest::puts_uleb))]
 pub(crate) fn push_uleb(out: &mut Vec<u8>, value: u64) -> Result<(), AllocError>
     ensures { OnOk result (out.new.items ≡ out.old.items ++ shortest_uleb value) }
 {
@@ -31,7 +22,24 @@ pub(crate) fn push_uleb(out: &mut Vec<u8>, value: u64) -> Result<(), AllocError>
         out.push(value as u8)?;
         return Ok(());
     }
-    push_long_uleb(out, value)
+    put_uleb(out, value)
+}
+
+// Apart from `push_with`, whose numbers are mostly small. Most others have two bytes.
+#[inline(never)]
+fn push_long_with(out: &mut Vec<u8>, code: u8, value: u64) -> Result<(), AllocError>
+    requires { 128 ≤ value }
+    ensures { OnOk result (out.new.items ≡ out.old.items ++ code ∷ shortest_uleb value) }
+{
+    if value < 16384 {
+        out.reserve(3)?;
+        out.push_reserved(code);
+        out.push_reserved((value % 128) as u8 + 128);
+        out.push_reserved((value / 128) as u8);
+        return Ok(());
+    }
+    out.push(code)?;
+    push_uleb(out, value)
 }
 
 // Appends a code and the shortest spelling of an unsigned number behind it: mostly two bytes, for which room is made once.
@@ -45,8 +53,7 @@ fn push_with(out: &mut Vec<u8>, code: u8, value: u64) -> Result<(), AllocError>
         out.push_reserved(value as u8);
         return Ok(());
     }
-    out.push(code)?;
-    push_long_uleb(out, value)
+    push_long_with(out, code, value)
 }
 
 #[tactic(auto, using(dw_num::proofs::Lent::Shortest::puts_sleb))]

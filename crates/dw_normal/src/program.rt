@@ -1,7 +1,7 @@
 //! Programs of the normal form, appended.
 
 ghost use Rattle.std.specs.{Prelude.{◌≡◌, ◌++◌, IfOk, OnOk}, List.AllByRecursion};
-ghost use Rattle.dw_row.specs.{Rows.rule, Inner.Agreement.same_rule};
+ghost use Rattle.dw_row.specs.{Rows.rule, Inner.Agreement.same_rule, declared.rule.RegRule.TheVariants.Offset};
 ghost use Rattle.dw_canon.specs.Inner.{Difference.{difference, cfa_difference, rule_to}, Fits.InstrFits, Spelling.{instr_bytes, program_bytes}};
 ghost use Rattle.dw_normal.specs.Inner.{Apart.StandsApart, ChangeWalk.{GoesOn, IsShown, Stand, shown_row}};
 ghost use Rattle.dw_normal.specs.Inner.{Differences.Tells};
@@ -52,6 +52,17 @@ fn is_restored(row: &Row<'_>, initial: &Row<'_>, register: u16) -> bool
     row.has_same_rule(initial, register)
 }
 
+// Whether a row saves a register at an offset from the CFA.
+#[inline(always)]
+fn is_saved_at(row: &Row<'_>, register: u16, offset: i64) -> bool
+    ensures { result ≡ same_rule (Offset offset) (rule row.now register) }
+{
+    match row.offset_of(register) {
+        Some(other) => offset == other,
+        None => false,
+    }
+}
+
 // Appends what gives a register its rule of a row: `Restore` where it is the initial one, and else mostly that it is saved, where no rule is moved about.
 #[inline(always)]
 #[tactic(auto, unfolding(dw_canon::specs::Spelling::instr_bytes))]
@@ -65,13 +76,16 @@ fn push_register<'a>(
     requires { InstrFits target (rule_to shared.now register (rule row.now register)) }
     ensures { OnOk result (out.new.items ≡ out.old.items ++ instr_bytes target (rule_to shared.now register (rule row.now register))) }
 {
-    if is_restored(row, shared, register) {
+    let Some(offset) = row.offset_of(register) else {
+        if is_restored(row, shared, register) {
+            return push_packed(out, 0xc0, 0x06, register);
+        }
+        return push_rule(out, row, register, target);
+    };
+    if is_saved_at(shared, register, offset) {
         return push_packed(out, 0xc0, 0x06, register);
     }
-    match row.offset_of(register) {
-        Some(offset) => push_offset(out, register, offset),
-        None => push_rule(out, row, register, target),
-    }
+    push_offset(out, register, offset)
 }
 
 /// Appends what leads from one row to another, where a third has the initial rules. It may leave some of it where memory runs out.

@@ -73,6 +73,20 @@ fn number_in(order: Order, bytes: &[u8], n: usize) -> u64
     }
 }
 
+/// The number that 1 to 8 bytes are in an order (7.5).
+pub fn number_of(order: Order, bytes: &[u8]) -> u64
+    requires some { 1 ≤ length bytes.now }
+    requires most { length bytes.now ≤ 8 }
+    ensures { result ≡ fixed_number order (length bytes.now) bytes.now }
+{
+    match (order, bytes.len()) {
+        (_, 8) => eight_in(order, bytes),
+        (_, 4) => four_in(order, bytes),
+        (Order::Little, len) => LittleEndian::read_uint(bytes, len),
+        (Order::Big, len) => BigEndian::read_uint(bytes, len),
+    }
+}
+
 /// A slice of a section that is read from its front on. A contract sees the bytes that are left, where in the
 /// section they begin, and the target.
 ///
@@ -182,8 +196,7 @@ impl<'a> Cursor<'a> {
         Ok(byte[0])
     }
 
-    /// The number that the next `n` bytes are, 1, 2, 4 or 8 of them, in the target's order (7.5). `Truncated`
-    /// at the first of them where fewer are left.
+    /// The number that the next `n` bytes are, 1, 2, 4 or 8 of them, in the target's order (7.5). `Truncated` at the first of them where fewer are left.
     #[inline(always)]
     pub fn fixed(&mut self, n: usize) -> Result<u64, Refusal>
         requires { IsWidth n }
@@ -321,8 +334,7 @@ impl<'a> Cursor<'a> {
         Ok(value as u16)
     }
 
-    /// The number of a register, 0 to 65,535, as an unsigned LEB128 number. `RegisterTooLarge` at its first
-    /// byte above that, and the faults of `uleb`.
+    /// The number of a register, 0 to 65,535, as an unsigned LEB128 number. `RegisterTooLarge` at its first byte above that, and the faults of `uleb`.
     #[inline(always)]
     pub fn register(&mut self) -> Result<u16, Refusal>
         ensures found { IfOk result (λ r. (b : List ℕ) × Register r b × Takes self.old b self.new) }

@@ -16,7 +16,7 @@ mod refusal;
 mod target;
 mod write;
 
-pub use cursor::{Cursor, are_bytes, word_in};
+pub use cursor::{Cursor, are_bytes, number_of, word_in};
 pub use error::ReadError;
 pub use laws::number_laws;
 pub use length::{sleb_len, uleb_len};

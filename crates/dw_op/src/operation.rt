@@ -1,6 +1,6 @@
 //! The operation at the front of what is left of a block.
 
-ghost use Rattle.std.specs.Prelude.{◌≡◌, ◌+◌, ◌%◌, Err};
+ghost use Rattle.std.specs.Prelude.{◌≡◌, ◌+◌, ◌%◌, ◌<◌, Err};
 ghost use Rattle.dw_num.specs.{Target.address_limit, Inner.Front.Gives};
 ghost use Rattle.dw_op.specs.Operands.{modulo, form_of, one, size};
 ghost use Rattle.dw_op.specs.declared.{op.Op.TheVariants.{Const, DerefSize}, operation.Step.TheVariants.Plain, profile.Profile.TheVariants.Location};
@@ -76,9 +76,10 @@ fn read_deref_size<'a>(cursor: &mut Cursor<'a>) -> Result<Step<'a>, Refusal>
     }
 }
 
-// The operation of a code that was read at a place: DWARF 5, 7.7.1.
+// An operation of a code below 0x30: it puts a constant on the stack, computes with what stands there, or branches.
 #[tactic(auto, unfolding(crate::specs::Operands::form_of))]
-fn read_operands<'a>(cursor: &mut Cursor<'a>, code: u8, at: u64) -> Result<Step<'a>, Refusal>
+fn read_low<'a>(cursor: &mut Cursor<'a>, code: u8, at: u64) -> Result<Step<'a>, Refusal>
+    requires { code < 0x30 }
     ensures { Gives bare_step result (judged Location at (form_of cursor.old.target code) cursor.old) cursor.new }
 {
     let size = cursor.target().size;
@@ -124,6 +125,17 @@ fn read_operands<'a>(cursor: &mut Cursor<'a>, code: u8, at: u64) -> Result<Step<
         0x2d => Ok(Step::Plain(Op::Lt)),
         0x2e => Ok(Step::Plain(Op::Ne)),
         0x2f => Ok(Step::Jump(Branch::Skip, cursor.fixed(2)? as u16)),
+        _ => refused(Code::UnknownOperation, at),
+    }
+}
+
+// The operation of a code that was read at a place: DWARF 5, 7.7.1.
+#[tactic(auto, unfolding(crate::specs::Operands::form_of))]
+fn read_operands<'a>(cursor: &mut Cursor<'a>, code: u8, at: u64) -> Result<Step<'a>, Refusal>
+    ensures { Gives bare_step result (judged Location at (form_of cursor.old.target code) cursor.old) cursor.new }
+{
+    match code {
+        0x00..=0x2f => read_low(cursor, code, at),
         0x30..=0x4f => Ok(Step::Plain(Op::Const(u64::from(code - 0x30)))),
         0x50..=0x6f => Ok(Step::Plain(Op::Reg(u16::from(code - 0x50)))),
         0x70..=0x8f => Ok(Step::Plain(Op::Breg(u16::from(code - 0x70), cursor.sleb()?))),

@@ -121,8 +121,7 @@ impl<'a> KeptRow<'a> {
         Ok(())
     }
 
-    /// The least register to which the current row gives another rule than the kept one, of those behind a given one where
-    /// there is such; or none.
+    /// The least register to which the current row gives another rule than the kept one, of those behind a given one where there is such; or none.
     #[inline(always)]
     pub(crate) fn next_difference(&self, current: &Row<'_>, behind: Option<u16>) -> Option<u16>
         requires { KeptSo self.now current.now.registers }

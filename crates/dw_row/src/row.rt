@@ -180,8 +180,7 @@ impl<'a> Row<'a> {
         self.entries.rule(register)
     }
 
-    /// The offset from the CFA at which a register is saved, in bytes, where its rule is `Offset`, and else none (6.4.1). Takes no
-    /// memory.
+    /// The offset from the CFA at which a register is saved, in bytes, where its rule is `Offset`, and else none (6.4.1). Takes no memory.
     #[inline(always)]
     pub fn offset_of(&self, register: u16) -> Option<i64>
         ensures { MatchOption result ((n : ℤ) → rule self.now register ≡ Offset n → ⊥) (λ n. rule self.now register ≡ Offset n) }
@@ -220,8 +219,7 @@ impl<'a> Row<'a> {
         self.cfa.is_same(&other.cfa) && self.has_same_registers(other)
     }
 
-    /// The least register to which another row gives another rule, of those behind a given one where there is such;
-    /// or none. Takes no memory.
+    /// The least register to which another row gives another rule, of those behind a given one where there is such; or none. Takes no memory.
     #[tactic(auto, using(crate::proofs::Difference::first_of_all, crate::proofs::Difference::none_of_all, crate::proofs::Difference::unused))]
     pub fn next_difference(&self, other: &Row<'_>, behind: Option<u16>) -> Option<u16>
         ensures first { FirstDifference (place_behind behind) self.now.registers other.now.registers result }

@@ -73,8 +73,7 @@ pub enum RegRule<'a> {
     /// `expression(E)`: its value stands in memory at the address that an expression gives (`DW_CFA_expression`). The stack of
     /// the expression begins with the CFA on it.
     Expression(ExprRef<'a>),
-    /// `val_expression(E)`: its value is that of an expression (`DW_CFA_val_expression`). The stack of the expression begins with
-    /// the CFA on it.
+    /// `val_expression(E)`: its value is that of an expression (`DW_CFA_val_expression`). The stack of the expression begins with the CFA on it.
     ValExpression(ExprRef<'a>),
 }
 

@@ -168,8 +168,7 @@ impl<'a> States<'a> {
         self.kept.is_same(&self.row)
     }
 
-    /// The least register to which the current row gives another rule than the kept one, of those behind a given one where
-    /// there is such; or none.
+    /// The least register to which the current row gives another rule than the kept one, of those behind a given one where there is such; or none.
     #[inline(always)]
     pub fn next_difference(&self, behind: Option<u16>) -> Option<u16>
         ensures first { FirstDifference (place_behind behind) self.now.kept.registers self.now.row.registers result }

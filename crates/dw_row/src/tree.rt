@@ -39,8 +39,7 @@ pub(crate) fn rule_in_tree<'a>(entries: &BTreeMap<u16, RegRule<'a>>, register: u
     }
 }
 
-/// The first register of a tree behind another one, or of all, and its rule. Out of line: room for a walk is cleared at each
-/// step else.
+/// The first register of a tree behind another one, or of all, and its rule. Out of line: room for a walk is cleared at each step else.
 #[inline(never)]
 #[tactic(auto, using(crate::proofs::Difference::next_behind))]
 pub(crate) fn next_in_tree<'a>(

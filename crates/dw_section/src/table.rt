@@ -13,8 +13,7 @@ use dw_num::{Code, Cursor, ReadError, Target, are_bytes};
 use std::alloc::Global;
 use std::marker::Model;
 
-/// A section `.debug_frame` (6.4.1) that was checked: its nonempty FDEs in the order of their begins (`initial_location`). A contract sees its target and its
-/// bytes.
+/// A section `.debug_frame` (6.4.1) that was checked: its nonempty FDEs by their begins (`initial_location`). A contract sees its target and its bytes.
 #[derive(Drop)]
 pub struct Table<'a> {
     pub(crate) bytes: &'a [u8],

@@ -2,14 +2,12 @@
 
 ghost use Rattle.std.specs.Prelude.{◌≡◌, ℕ, ◌+◌, ◌<◌, ◌≤◌, ◌^◌, length, take, slice_index_or, IfOk, MatchOption, Some, None};
 ghost use Rattle.std.specs.{Bool.MatchBool, List.AllByRecursion, List.Sorted.{IsPermutation, IsNonDecreasingBy}};
-ghost use Rattle.dw_num.specs.Fixed.{fixed_number};
 ghost use Rattle.dw_eval.specs.Bytes.{bytes_from};
 ghost use Rattle.dw_unwind.specs.{Ranges.{byte_among, byte_in, end_of}, declared.memory.Range.{Range as TheRange}};
 ghost use Rattle.dw_unwind.specs.Inner.Ranges.{AreApart, IsSoundRange, Meet, Rise};
 
-use byteorder::{BigEndian, ByteOrder, LittleEndian};
 use dw_eval::{Memory, ReadFault};
-use dw_num::Order;
+use dw_num::{Order, number_of};
 use std::alloc::{AllocError, Global};
 use std::marker::Model;
 
@@ -132,17 +130,6 @@ fn fill(ranges: &[Range], bytes: &[u8], address: u64, buffer: &mut [u8]) -> bool
         *slot = byte;
     }
     true
-}
-
-fn number_of(order: Order, bytes: &[u8]) -> u64
-    requires some { 1 ≤ length bytes.now }
-    requires most { length bytes.now ≤ 8 }
-    ensures { result ≡ fixed_number order (length bytes.now) bytes.now }
-{
-    match order {
-        Order::Little => LittleEndian::read_uint(bytes, bytes.len()),
-        Order::Big => BigEndian::read_uint(bytes, bytes.len()),
-    }
 }
 
 impl DumpMemory {

@@ -1,24 +1,10 @@
-//! The printed texts, statuses and failing outputs of the command. They stand in a crate of their own, for a crate that holds
-//! tests is proved twice.
+//! What the command answers where an output fails or memory lacks. What it prints else is told by checks/worked.txt. This
+//! stands in a crate of its own, for a crate that holds tests is proved twice.
 #![tactic(auto)]
 
 #[cfg(test)]
-mod expressions;
-#[cfg(test)]
-mod frames;
-#[cfg(test)]
-mod lookups;
-#[cfg(test)]
-mod normal_forms;
-#[cfg(test)]
-mod notation;
+mod errors;
 #[cfg(test)]
 mod outputs;
 #[cfg(test)]
 mod runs;
-#[cfg(test)]
-mod sections;
-#[cfg(test)]
-mod worked_forms;
-#[cfg(test)]
-mod worked_sections;

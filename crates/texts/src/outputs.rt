@@ -1,6 +1,6 @@
 //! Runs of the command over outputs that fail.
 
-use crate::runs::{CHECK, DUMP, ENTRIES, PLAIN, status_of};
+use crate::runs::{PLAIN, status_of};
 use std::alloc::{AllocError, Global};
 use std::io::{self, ErrorKind, Write};
 use std::test::Fail;
@@ -31,7 +31,7 @@ impl Write for Failing {
 }
 
 // The status of a run over an output that takes so many writes and flushes, and whether it tells that it failed.
-pub(crate) fn status_over(
+fn status_over(
     alloc: Global,
     line: &str,
     writes: usize,
@@ -39,12 +39,12 @@ pub(crate) fn status_over(
 ) -> Result<(u8, bool), AllocError> {
     let mut out = Failing { writes, flushes };
     let mut err: Vec<u8> = Vec::new(alloc);
-    let status = status_of(alloc, line, (PLAIN, DUMP), &mut out, &mut err)?;
+    let status = status_of(alloc, line, PLAIN, &mut out, &mut err)?;
     Ok((status, err.as_slice() == b"cannot write\n".as_slice()))
 }
 
 // Fails unless each write of a run is told where it fails, and the flush.
-pub(crate) fn failing_output_is_told(alloc: Global, line: &str) -> Result<(), Fail> {
+fn failing_output_is_told(alloc: Global, line: &str) -> Result<(), Fail> {
     if status_over(alloc, line, 1000, 0)? != (4, true) {
         return Err(Fail::new(format_args!("{line}: the flush")));
     }
@@ -63,9 +63,10 @@ pub(crate) fn failing_output_is_told(alloc: Global, line: &str) -> Result<(), Fa
 #[test]
 fn tells_outputs_that_fail(rt: HostRuntime) -> Result<(), Fail> {
     let lines = [
-        ENTRIES,
-        CHECK,
+        "dwframe entries --size 8 --order little in",
+        "dwframe check --size 8 --order little in",
         "dwframe rows --size 8 --order little in",
+        "dwframe at --size 8 --order little in 0x401001 0x0",
         "dwframe expr --size 8 --order little 9e02aabb",
         "dwframe eval --size 8 --order little 31",
         "dwframe unwind --size 8 --order little --default same in second",
@@ -77,6 +78,24 @@ fn tells_outputs_that_fail(rt: HostRuntime) -> Result<(), Fail> {
     Ok(())
 }
 
+// What is put out at once, where it and where the flush fails.
+#[test]
+fn tells_that_normal_forms_cannot_be_written(rt: HostRuntime) -> Result<(), Fail> {
+    let lines = [
+        "dwframe normal --size 8 --order little in",
+        "dwframe cost --size 8 --order little in",
+        "dwframe same --size 8 --order little in in",
+    ];
+    for line in lines {
+        let answers = (
+            status_over(rt.alloc(), line, 0, 1)?,
+            status_over(rt.alloc(), line, 100, 0)?,
+        );
+        assert_eq!(rt; answers, ((4, true), (4, true)), "{line}");
+    }
+    Ok(())
+}
+
 #[test]
 fn ignores_errors_that_cannot_be_told(rt: HostRuntime) -> Result<(), Fail> {
     let mut out: Vec<u8> = Vec::new(rt.alloc());
@@ -84,9 +103,9 @@ fn ignores_errors_that_cannot_be_told(rt: HostRuntime) -> Result<(), Fail> {
         writes: 0,
         flushes: 0,
     };
-    let reserved = b"\xf0\xff\xff\xff".as_slice();
-    let files = (reserved, b"".as_slice());
-    let status = status_of(rt.alloc(), ENTRIES, files, &mut out, &mut err)?;
+    let line = "dwframe entries --size 8 --order little in";
+    let reserved = b"\xf0\xff\xff\xff";
+    let status = status_of(rt.alloc(), line, reserved, &mut out, &mut err)?;
     assert_eq!(rt; status, 2);
     Ok(())
 }
