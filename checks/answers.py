@@ -160,11 +160,6 @@ def header_text(entry):
     return f"{type(entry).__name__} {{ {fields}, program: {program_text(entry.program)} }}"
 
 
-def entry_text(entry):
-    kind = type(entry).__name__
-    return f"Entry {{ at: {entry.at}, kind: {kind}, form: Dwarf{entry.form}, length: {entry.length} }}"
-
-
 def rule_text(rule, size, order):
     kind, value = rule[0], rule[-1]
     if kind in ("undefined", "same"):
@@ -191,16 +186,6 @@ def nine_lines(rows, size, order):
     """Nine answers: rows, and behind them that there are no more."""
     lines = [row_lines(at, row, size, order) for at, row in rows]
     return [line for answer in (lines + [["end"]] * 9)[:9] for line in answer]
-
-
-def table_lines(section):
-    fdes = section.fdes()
-    size, order = {4: "Four", 8: "Eight"}[section.size], section.order.capitalize()
-    starts = sum(len(rows_of(fde)) for fde in fdes)
-    yield f"Target {{ size: {size}, order: {order} }} {len(fdes)} {starts}"
-    for place, fde in enumerate(fdes):
-        fields = f"begin: {fde.begin}, end: {fde.end}, return_register: {fde.cie.return_register}"
-        yield f"Fde {{ {fields} }} Some(FdeRef {{ place: {place} }})"
 
 
 def address_lines(section):
@@ -246,10 +231,10 @@ def expressions_of(entry):
 
 def of_section(call, section):
     size, order = section.size, section.order
-    if call in ("entries", "headers"):
-        return [{"entries": entry_text, "headers": header_text}[call](entry) for entry in section.entries]
-    if call in ("check", "row_at"):
-        return list({"check": table_lines, "row_at": address_lines}[call](section))
+    if call == "headers":
+        return [header_text(entry) for entry in section.entries]
+    if call == "row_at":
+        return list(address_lines(section))
     if call == "changes":
         return [line for fde in section.fdes() for line in nine_lines(reader.changes(fde), size, order)]
     if call in EXPRESSION_CALLS:
@@ -263,8 +248,6 @@ def of_section(call, section):
 NORMAL_ANSWERS = {
     "normalise": lambda normal: [listed(normal)],
     "normalise_to": lambda normal: [str(len(normal)), listed(normal)],
-    "normal_length": lambda normal: [str(len(normal))],
-    "same": lambda normal: ["true"],
 }
 
 # ---- of REQUESTS, over worked data

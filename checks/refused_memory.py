@@ -19,9 +19,9 @@ from answers import BLOCKS, EXAMPLES, EXPRESSION_CALLS, FRAMES, NORMALS, PROGRAM
 
 HERE = pathlib.Path(__file__).resolve().parent
 SUBCOMMANDS = ["entries", "check", "rows"]
-SECTION_CALLS = ["entries", "headers", "check", "row_at", "changes", *PROGRAM_CALLS, *EXPRESSION_CALLS]
+SECTION_CALLS = ["headers", "row_at", "changes", *PROGRAM_CALLS, *EXPRESSION_CALLS]
 WORKED_CALLS = [*PROGRAM_CALLS, *EXPRESSION_CALLS, "numbers", "dumps", "registers", "evaluate", "locate", "states"]
-NORMAL_CALLS = ["normalise", "normalise_to", "normal_length", "same"]
+NORMAL_CALLS = ["normalise", "normalise_to"]
 EVALUATIONS = [["770806", "registers.dump"], ["3a311c1228faff"]]
 OUT_OF_MEMORY = (5, b"", b"out of memory\n")
 # At the last address of the one FDE three registers: the two that are given, and the return address's.

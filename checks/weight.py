@@ -18,16 +18,16 @@ import sys
 # Lines of sources, and of proofs.
 BUDGET = {
     "dw_num": (972, 1167),
-    "dw_op": (1511, 3937),
-    "dw_eval": (1162, 1097),
+    "dw_op": (1522, 3937),
+    "dw_eval": (1160, 1097),
     "dw_row": (2354, 2082),
-    "dw_cfa": (2411, 3551),
-    "dw_section": (2287, 5345),
+    "dw_cfa": (2408, 3551),
+    "dw_section": (2280, 5345),
     "dw_canon": (53, 3327),
-    "dw_normal": (1999, 2730),
-    "dw_unwind": (1350, 2278),
+    "dw_normal": (2004, 2731),
+    "dw_unwind": (1347, 2278),
     "dw_words": (822, 1062),
-    "dw_command": (1916, 1648),
+    "dw_command": (1915, 1679),
     "dwframe": (262, 0),
     "dw_library": (1601, 790),
 }

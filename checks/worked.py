@@ -22,12 +22,37 @@ def bytes_of(words):
     return out
 
 
-def fde(cie_at, begin, length, program):
-    """An FDE of the 32-bit form, of 8-byte addresses."""
-    contents = b"".join(number.to_bytes(width, "little") for number, width in ((cie_at, 4), (begin, 8), (length, 8)))
-    contents += program
-    contents += bytes((12 - len(contents) % 8) % 8)
+def spread(line):
+    """The line with `{0-3,9:r# }` written out: the text for each number, which stands at #, and at ## in hexadecimal."""
+
+    def written(found):
+        parts = [part.partition("-") for part in found[1].split(",")]
+        numbers = [number for first, _, last in parts for number in range(int(first), int(last or first) + 1)]
+        return "".join(found[2].replace("##", f"{number:02x}").replace("#", str(number)) for number in numbers)
+
+    return re.sub(r"\{([0-9,-]+):([^{}]*)\}", written, line)
+
+
+def with_length(contents, is_bare):
+    """An entry of the 32-bit form, with nops behind it unless it is bare."""
+    if not is_bare:
+        contents += bytes((12 - len(contents) % 8) % 8)
     return len(contents).to_bytes(4, "little") + contents
+
+
+def fde(cie_at, begin, length, program):
+    """The contents of an FDE of 8-byte addresses."""
+    return b"".join(number.to_bytes(width, "little") for number, width in ((cie_at, 4), (begin, 8), (length, 8))) + program
+
+
+def changed(content, changes):
+    """Other bytes from some places on, as `1c=04`."""
+    for place, _, digits in (change.partition("=") for change in changes):
+        place, others = int(place, 16), bytes.fromhex(digits)
+        if place + len(others) > len(content):
+            raise ValueError(f"bytes past the end: {digits}")
+        content = content[:place] + others + content[place + len(others) :]
+    return content
 
 
 class Case:
@@ -38,14 +63,19 @@ class Case:
         self.files = {}
 
     def entry(self, words):
-        if words in self.names:
-            return self.names[words]
-        found = re.fullmatch(r"(?:(\d+)\*)?fde(?:@([0-9a-f]+))? ([0-9a-f]+) ([0-9a-f]+) ?(.*)", words)
+        name, *changes = words.split() or [""]
+        if name in self.names and all("=" in change for change in changes):
+            return changed(self.names[name], changes)
+        found = re.fullmatch(r"(bare )?cie (.*)", words)
+        if found:
+            return with_length(bytes.fromhex("ffffffff 04000800") + bytes_of(found[2]), found[1])
+        found = re.fullmatch(r"(bare )?(?:(\d+)\*)?fde(?:@([0-9a-f]+))? ([0-9a-f]+) ([0-9a-f]+) ?(.*)", words)
         if not found:
             return bytes_of(words)
-        count, cie_at, begin, length, program = found.groups()
+        is_bare, count, cie_at, begin, length, program = found.groups()
         cie_at, begin, length = (int(digits or "0", 16) for digits in (cie_at, begin, length))
-        return b"".join(fde(cie_at, begin + k * length, length, bytes_of(program)) for k in range(int(count or 1)))
+        program = bytes_of(program)
+        return b"".join(with_length(fde(cie_at, begin + k * length, length, program), is_bare) for k in range(int(count or 1)))
 
     def content(self, text):
         if text.startswith('"'):
@@ -95,14 +125,56 @@ class Run:
         return [whole[:length] for length in range(int(first), int(last or first) + 1)]
 
 
+class Table:
+    """Runs that differ in one place, each a line: what stands there, a colon, and the answer."""
+
+    def __init__(self, words, names):
+        self.words = words
+        self.names = names
+        self.files = {}
+        self.begin, self.each = [], "_"
+
+    def take(self, head, rest):
+        """A line before the first run."""
+        if head != "|":
+            self.files[head] = rest
+        elif "_" in rest:
+            self.each = rest
+        else:
+            self.begin += rest.split(" | ")
+
+    def run(self, line, place):
+        given, _, answer = line.removesuffix(":").partition(": ")
+        first, _, second = given.partition(" / ")
+        case = Case(self.names)
+        for name, text in self.files.items():
+            case.files[name] = case.content(text.replace("_", second if second and name == "second" else first))
+        run = Run(self.words.replace("_", given or "''"), case, place)
+        if answer.startswith(("refused: ", "fault: ")):
+            run.take(f"2 {answer}")
+            return run
+        if answer == "different":
+            run.take("1 ")
+        lines = answer.split(" | ") if answer else []
+        for text in [*self.begin, *(self.each.replace("_", line) for line in lines)]:
+            run.take(f"| {text}")
+        return run
+
+
 def read_runs():
     """The runs of the text."""
     names, runs = {}, []
-    case = Case(names)
-    for number, line in enumerate(TEXT.read_text().splitlines(), 1):
+    case, table = Case(names), None
+    for number, line in enumerate(map(spread, TEXT.read_text().split("\n")), 1):
         head, _, rest = line.partition(" ")
         if not line:
-            case = Case(names)
+            case, table = Case(names), None
+        elif head == "table":
+            table = Table(rest, names)
+        elif table and head in ("in", "second", "|"):
+            table.take(head, rest)
+        elif table and head != "#":
+            runs.append(table.run(line, number))
         elif head == "let":
             name, _, text = rest.partition(" ")
             names[name] = case.content(text)

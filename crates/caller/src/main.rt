@@ -6,8 +6,6 @@
 #![tactic(auto)]
 
 mod promised;
-#[cfg(test)]
-mod tests;
 
 ghost use Rattle.std.specs.Prelude.{List, IfOk, MatchOption};
 ghost use Rattle.dw_section.specs.{Accepted.Accepted, Meaning.{AreFdes, NoneCovers, RulesAt}, declared.lookup.Fde.Fde};

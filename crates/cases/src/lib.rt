@@ -1,29 +1,21 @@
-//! The worked cases of programs and of sections: what no contract says. Each call that takes memory answers with ample
-//! memory, and its answers are values from outside. No part of the product: it stands above the crates whose calls it
-//! makes, so that none of them is proved once more with its tests.
+//! The worked cases that only Rattle can tell: memories, writers and sinks that fail, operations that no block has, calls that the
+//! command does not make, and the texts of errors. All else is told by checks/worked.txt. No part of the product: it stands above
+//! the crates whose calls it makes, for a crate that holds tests is proved twice.
 #![tactic(auto)]
 
 #[cfg(test)]
-mod changes;
+mod errors;
 #[cfg(test)]
-mod copied_rows;
+mod expressions;
 #[cfg(test)]
-mod instructions;
+mod frames;
 #[cfg(test)]
-mod lines;
+mod memory;
 #[cfg(test)]
-mod programs;
-#[cfg(test)]
-mod register_sets;
-#[cfg(test)]
-mod room;
+mod rows;
 #[cfg(test)]
 mod sections;
 #[cfg(test)]
-mod tables;
+mod sinks;
 #[cfg(test)]
-mod targets;
-#[cfg(test)]
-mod texts;
-#[cfg(test)]
-mod wide;
+mod values;

@@ -93,13 +93,13 @@ fn read_instr<'a>(cursor: &mut Cursor<'a>, factors: Factors) -> Result<Instr<'a>
     }
 }
 
-/// An iterator over the instructions of a program (6.4.2, 7.24), which ends after its first fault. A contract
-/// sees the instructions that are still to come, and the fault that comes behind them. Takes no memory.
+/// An iterator over the instructions of a program (6.4.2, 7.24), which ends after its first fault. A contract sees the instructions that are still to come,
+/// and the fault that comes behind them. Takes no memory.
 ///
-/// The faults of an instruction, in this order: `UnknownInstruction` (12) at its opcode; of each operand from left to right,
-/// at its first byte, `Truncated` (1), `NumberTooLarge` (8), and `RegisterTooLarge` (9) of a register; of a block `Truncated`
-/// (1) at the first byte of its contents where they pass the program's end, else the block's own first fault, which is one of
-/// `ExprRef::accept` (1, 8, 9, 20 to 23); `OffsetTooLarge` (19) at the opcode. Places count from the program's `at`.
+/// The faults of an instruction, in this order: `UnknownInstruction` (12) at its opcode; of each operand from left to right, at its first byte, `Truncated`
+/// (1), `NumberTooLarge` (8), and `RegisterTooLarge` (9) of a register; of a block `Truncated` (1) at the first byte of its contents where they pass the
+/// program's end, else the block's own first fault, which is one of `ExprRef::accept` (1, 8, 9, 20 to 23); `OffsetTooLarge` (19) at the opcode. Places count
+/// from the program's `at`.
 #[derive(Drop)]
 pub struct Instructions<'a> {
     cursor: Cursor<'a>,

@@ -58,10 +58,9 @@ fn row_of(instrs: &mut Instructions<'_>) -> FirstRow
     FirstRow::Initial
 }
 
-/// The row at an FDE's begin, by its program's first instructions that are not `DW_CFA_nop`: where the first one advances the
-/// location by more than 0, or there is none, it is the row that its CIE's program leaves; and where a `DW_CFA_def_cfa_offset` or
-/// `DW_CFA_def_cfa_offset_sf` comes before, it is that row with this offset of the CFA. `Other` for a `DW_CFA_set_loc`, which may
-/// stay where it is. Takes no memory.
+/// The row at an FDE's begin, by its program's first instructions that are not `DW_CFA_nop`: where the first one advances the location by more than 0, or
+/// there is none, it is the row that its CIE's program leaves; and where a `DW_CFA_def_cfa_offset` or `DW_CFA_def_cfa_offset_sf` comes before, it is that row
+/// with this offset of the CFA. `Other` for a `DW_CFA_set_loc`, which may stay where it is. Takes no memory.
 #[tactic(auto, using(crate::proofs::FirstRows::answers_first))]
 pub fn first_row(program: Program<'_>, factors: Factors, target: Target) -> FirstRow
     ensures { (instrs : List TheInstr) → ProgramSpells target factors instrs program.entry.bytes.now → result ≡ first_row instrs }

@@ -36,10 +36,9 @@ fn keep_ready<'a>(
     Ok(machine.states.keep()?)
 }
 
-/// The rows (6.4.1, 6.4.3) of one FDE after another, in room that is kept. A CIE's program (`initial_instructions`) is run where the
-/// FDE before had another CIE; else what that FDE's program (`instructions`) changed is taken back. A row can be kept, and the rows
-/// behind it are compared with it by what was set since. A contract sees what it sees of `RowSteps`, the row that was kept, and the
-/// CIE's row while rows are to come behind another.
+/// The rows (6.4.1, 6.4.3) of one FDE after another, in room that is kept. A CIE's program (`initial_instructions`) is run where the FDE before had another
+/// CIE; else what that FDE's program (`instructions`) changed is taken back. A row can be kept, and the rows behind it are compared with it by what was set
+/// since. A contract sees what it sees of `RowSteps`, the row that was kept, and the CIE's row while rows are to come behind another.
 #[derive(Drop)]
 pub struct RowWalk<'a> {
     progress: Progress,

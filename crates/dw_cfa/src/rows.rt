@@ -27,13 +27,12 @@ fn collected<'a>(alloc: Global, steps: &mut RowSteps<'a>) -> Result<Rows<'a>, Re
     Ok(rows)
 }
 
-/// The rows that a CIE's and an FDE's program give, from an address `begin` of the target on: one before each
-/// instruction that moves the location, and one at the end. Otherwise the first refusal, the CIE's program
-/// first, or want of memory (`OutOfMemory`).
+/// The rows that a CIE's and an FDE's program give, from an address `begin` of the target on: one before each instruction that moves the location, and one at
+/// the end. Otherwise the first refusal, the CIE's program first, or want of memory (`OutOfMemory`).
 ///
-/// A refusal of either program is one of `Instructions`, or `CfaNotRegister` (18) at the opcode. The CIE's program may also be
-/// refused by `NotInCie` (13), the FDE's by `LocationBackwards` (14), `LocationTooLarge` (15), `EmptyStateStack` (16) or
-/// `StateStackFull` (17), each at the opcode. An instruction is read whole before it is judged. Places count from the program's `at`.
+/// A refusal of either program is one of `Instructions`, or `CfaNotRegister` (18) at the opcode. The CIE's program may also be refused by `NotInCie` (13),
+/// the FDE's by `LocationBackwards` (14), `LocationTooLarge` (15), `EmptyStateStack` (16) or `StateStackFull` (17), each at the opcode. An instruction is
+/// read whole before it is judged. Places count from the program's `at`.
 pub fn run<'a>(
     alloc: Global,
     cie_program: Program<'a>,

@@ -103,12 +103,12 @@ fn run_over<L: Load, W: Write, E: Write>(
     }
 }
 
-/// Runs the command and answers its exit status: 0 done, 1 two sections that differ, 2 a refusal or a fault, 3 wrong words,
-/// 4 a file or an output that fails, 5 out of memory. The answer goes to `out`, which is flushed. From status 2 on a line on `err`
-/// says why; for words that no subcommand takes it is a text of several lines. The first word is the program's own name.
+/// Runs the command and answers its exit status: 0 done, 1 two sections that differ, 2 a refusal or a fault, 3 wrong words, 4 a file or an output that fails,
+/// 5 out of memory. The answer goes to `out`, which is flushed. From status 2 on a line on `err` says why; for words that no subcommand takes it is a text of
+/// several lines. The first word is the program's own name.
 ///
-/// With status 0 or 1 `out` got exactly the text of the answer. It got nothing where there is no answer. Where it failed, or memory
-/// ran out while the answer was printed, it got a beginning.
+/// With status 0 or 1 `out` got exactly the text of the answer. It got nothing where there is no answer. Where it failed, or memory ran out while the answer
+/// was printed, it got a beginning.
 pub fn engine<L: Load, W: Write, E: Write>(
     alloc: Global,
     words: &[String],

@@ -34,9 +34,8 @@ pub trait Load {
     /// What a file may be found to be, by its path: its bytes, or why it has none. Files that are not known may be anything.
     ghost gives: { Self → List ℕ → Result (List ℕ) LoadError → Type 0 } = { λ _ _ _. ⊤ };
 
-    /// All bytes of the file, or its first 2,147,483,648 where it has more. So a section that is too long is told by
-    /// its length, whatever else the file holds. `CannotRead` is answered where the file cannot be opened or read, and
-    /// `OutOfMemory` where a request for memory was refused.
+    /// All bytes of the file, or its first 2,147,483,648 where it has more. So a section that is too long is told by its length, whatever else the file
+    /// holds. `CannotRead` is answered where the file cannot be opened or read, and `OutOfMemory` where a request for memory was refused.
     fn load(&mut self, path: &str) -> Result<Vec<u8>, LoadError>
         ensures gives { MatchResult result (λ bytes. gives self.old path.now (Ok bytes.items)) (λ e. gives self.old path.now (Err e)) }
         // What it finds in a file it might have found before.

@@ -11,7 +11,7 @@ use std::alloc::{AllocError, Global};
 use std::mem;
 
 /// How the registers are found to which two rows give different rules: by what costs least.
-#[derive(Drop)]
+#[derive(Clone, Copy)]
 pub(crate) enum Differences<'d, 'a> {
     /// By both rows.
     Rows,
@@ -24,8 +24,8 @@ pub(crate) enum Differences<'d, 'a> {
 impl<'d, 'a> Differences<'d, 'a> {
     /// The least register to which both rows give different rules, of those behind a given one where there is such; or none.
     #[inline(always)]
-    pub(crate) fn next(&self, before: &Row<'a>, after: &Row<'a>, behind: Option<u16>) -> Option<u16>
-        requires { Tells self.now before.now after.now }
+    pub(crate) fn next(self, before: &Row<'a>, after: &Row<'a>, behind: Option<u16>) -> Option<u16>
+        requires { Tells self before.now after.now }
         ensures first { FirstDifference (place_behind behind) before.now.registers after.now.registers result }
         ensures ascending { AreSpecified 0 before.now.registers }
         ensures other_ascending { AreSpecified 0 after.now.registers }
@@ -51,9 +51,9 @@ fn list_differences<'a>(
     registers: &mut RegisterSet<'a>,
     shared: &Row<'a>,
     first: &Row<'a>,
-    differences: &Differences<'_, 'a>,
+    differences: Differences<'_, 'a>,
 ) -> Result<(), AllocError>
-    requires { Tells differences.now shared.now first.now }
+    requires { Tells differences shared.now first.now }
     ensures { OnOk result (SameBeside registers.new shared.now first.now) }
 {
     registers.clear();
@@ -103,17 +103,16 @@ impl<'a> Apart<'a> {
         ensures known { OnOk result (NotesSameAt cie_at register self.old.known shared.now first.now self.new.known.cies) }
     {
         match self.known.take(cie_at, register) {
-            Some(before) => {
-                let mut among = before;
+            Some(mut among) => {
                 among.add_all(&self.known.changed)?;
                 let differences = Differences::Among(&among);
-                list_differences(&mut self.registers, shared, first, &differences)?;
+                list_differences(&mut self.registers, shared, first, differences)?;
             }
-            None => list_differences(&mut self.registers, shared, first, &Differences::Rows)?,
+            None => list_differences(&mut self.registers, shared, first, Differences::Rows)?,
         }
+        self.known.changed.add_all(&self.registers)?;
         let none = RegisterSet::new(self.known.alloc);
-        let mut set = mem::replace(&mut self.known.changed, none);
-        set.add_all(&self.registers)?;
+        let set = mem::replace(&mut self.known.changed, none);
         self.known.put(cie_at, register, set);
         Ok(())
     }

@@ -3,7 +3,7 @@
 ghost use Rattle.std.specs.{Prelude.{◌≡◌, ℕ, ◌+◌, ◌++◌, ◌<◌, ◌≤◌, ◌^◌, List, drop, length, OnOk}, List.AllByRecursion};
 ghost use Rattle.dw_num.specs.{Fixed.fixed_bytes, Target.{address_limit, byte_count}};
 ghost use Rattle.dw_canon.specs.Written.{fde_field_bytes};
-ghost use Rattle.dw_canon.specs.Inner.{Canon.cie_instrs, Fits.InstrFits};
+ghost use Rattle.dw_canon.specs.Inner.{Canon.cie_instrs, Fits.InstrFits, Spelling.program_bytes};
 ghost use Rattle.dw_normal.specs.Inner.{Begun.{IsReady, KeepsFde}, ChangeWalk.{Stand, later_bytes}, Lengths.cie_with};
 ghost use Rattle.dw_normal.specs.Inner.{Puts.{Fills, Holds, SameRoom}, Writing.{FillsBegun, unsized}};
 
@@ -21,6 +21,15 @@ use std::alloc::AllocError;
 // Changes that are counted alone are written up to so many bytes at a time.
 const CHUNK: usize = 65_536;
 
+// Appends what leads from a row without rules to an initial one.
+fn push_initial<'a>(out: &mut Vec<u8>, initial: &Row<'a>, target: Target) -> Result<(), AllocError>
+    requires { AllByRecursion (InstrFits target) (cie_instrs initial.now) }
+    ensures { OnOk result (out.new.items ≡ out.old.items ++ program_bytes target (cie_instrs initial.now)) }
+{
+    let blank = Row::blank(*out.allocator());
+    push_difference(out, &blank, &blank, initial, Differences::Rows, target)
+}
+
 pub(crate) fn fill_cie<'a>(
     out: &mut Output,
     register: u16,
@@ -33,14 +42,13 @@ pub(crate) fn fill_cie<'a>(
     ensures room { SameRoom out.old out.new }
 {
     let bytes = &mut out.bytes;
-    let blank = Row::blank(*bytes.allocator());
     bytes.clear();
     put_fixed(bytes, target.order, 4, 0)?;
     put_fixed(bytes, target.order, 4, 0xffffffff)?;
     // Version 4, no augmentation, the factors 1 and -1.
     bytes.extend_from_slice(&[4, 0, target.size.byte_count(), 0, 1, 127])?;
     push_uleb(bytes, u64::from(register))?;
-    push_difference(bytes, &blank, &blank, initial, &Differences::Rows, target)?;
+    push_initial(bytes, initial, target)?;
     out.gone = 0;
     out.push_nops(target.size)
 }

@@ -73,8 +73,7 @@ impl<'a> Known<'a> {
     {
         shared.ascends();
         match self.take(cie_at, register) {
-            Some(before) => {
-                let mut set = before;
+            Some(mut set) => {
                 set.add_all(&self.changed)?;
                 shared.agree_among(first, &set)?;
             }

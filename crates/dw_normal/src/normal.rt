@@ -98,12 +98,12 @@ fn unread(error: WriteError) -> ReadError
     }
 }
 
-/// Writes the normal form of a section, of at most `cap` bytes, to a sink, and answers how many bytes were written. Each refusal
-/// comes before the first byte. `cap` is at most 2,147,483,647.
+/// Writes the normal form of a section, of at most `cap` bytes, to a sink, and answers how many bytes were written. Each refusal comes before the first byte.
+/// `cap` is at most 2,147,483,647.
 ///
-/// `Refused` has the refusals of `normalise`. `Write` is answered where the sink failed, and `Memory` where a request for memory
-/// was refused. Both say how many bytes the sink took before, 0 or more: a beginning of the normal form. Want of memory before
-/// the section is known to have a normal form within the cap is `Memory` behind 0 bytes.
+/// `Refused` has the refusals of `normalise`. `Write` is answered where the sink failed, and `Memory` where a request for memory was refused. Both say how
+/// many bytes the sink took before, 0 or more: a beginning of the normal form. Want of memory before the section is known to have a normal form within the
+/// cap is `Memory` behind 0 bytes.
 pub fn normalise_to<S: Sink>(
     alloc: Global,
     bytes: &[u8],
@@ -181,12 +181,11 @@ fn same_as_itself(alloc: Global, table: Table<'_>) -> Result<bool, SameError>
     }
 }
 
-/// Whether two sections say the same: the same nonempty FDEs with the same return address registers, and the same rules at each
-/// address that they cover.
+/// Whether two sections say the same: the same nonempty FDEs with the same return address registers, and the same rules at each address that they cover.
 ///
-/// `Refused` has the first fault, as `dw_section::check` has it, and says whose it is: the first section's comes before the
-/// second's. Where neither has one, a section whose normal form has more than 2,147,483,647 bytes is refused too, with
-/// `NormalTooLong` (27) at 0, again the first one before the second. `OutOfMemory` is answered where a request for memory was refused.
+/// `Refused` has the first fault, as `dw_section::check` has it, and says whose it is: the first section's comes before the second's. Where neither has one,
+/// a section whose normal form has more than 2,147,483,647 bytes is refused too, with `NormalTooLong` (27) at 0, again the first one before the second.
+/// `OutOfMemory` is answered where a request for memory was refused.
 pub fn same(alloc: Global, first: &[u8], second: &[u8], target: Target) -> Result<bool, SameError>
     ensures found { IfOk result (λ b. Accepted target first.now × Accepted target second.now × Decides b (SameMeaning target first.now second.now)) }
     // Where a normal form has more than 2,147,483,647 bytes there is no answer.

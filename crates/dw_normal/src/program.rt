@@ -95,10 +95,10 @@ pub(crate) fn push_difference<'a>(
     shared: &Row<'a>,
     before: &Row<'a>,
     after: &Row<'a>,
-    differences: &Differences<'_, 'a>,
+    differences: Differences<'_, 'a>,
     target: Target,
 ) -> Result<(), AllocError>
-    requires tells { Tells differences.now before.now after.now }
+    requires tells { Tells differences before.now after.now }
     requires fits { AllByRecursion (InstrFits target) (difference shared.now before.now after.now) }
     ensures { OnOk result (out.new.items ≡ out.old.items ++ program_bytes target (difference shared.now before.now after.now)) }
 {
@@ -128,7 +128,7 @@ pub(crate) fn push_first<'a>(
     let Some(first) = changes.row() else {
         unreachable!();
     };
-    push_difference(out, shared, shared, first, &apart.differences(), target)
+    push_difference(out, shared, shared, first, apart.differences(), target)
 }
 
 // Goes on to the next change, appends what leads to it from the row that is shown at an address, and answers its address.
@@ -153,7 +153,7 @@ fn push_next<'a>(
         unreachable!();
     };
     let altered = Differences::Altered(changes);
-    push_difference(out, shared, before, row, &altered, target)?;
+    push_difference(out, shared, before, row, altered, target)?;
     Ok(Some(address))
 }
 

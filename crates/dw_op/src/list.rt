@@ -10,10 +10,9 @@ use dw_num::{Size, Target};
 use std::marker::Model;
 use thiserror::Error;
 
-/// Operations of a DWARF expression (2.5) or of a location description (2.6) for a target, which are in range for it:
-/// constants (`Op::Const`) and addresses (`DW_OP_addr`) below 2^N, where an address has N bits (2.5.1.1); the sizes of
-/// `DW_OP_deref_size` from 1 to N/8 (2.5.1.3); branches (`DW_OP_bra`, `DW_OP_skip`, 2.5.1.5) to an operation of the list or to
-/// its end. A block (7.7.1) of an `exprloc` spells such a list.
+/// Operations of a DWARF expression (2.5) or of a location description (2.6) for a target, which are in range for it: constants (`Op::Const`) and addresses
+/// (`DW_OP_addr`) below 2^N, where an address has N bits (2.5.1.1); the sizes of `DW_OP_deref_size` from 1 to N/8 (2.5.1.3); branches (`DW_OP_bra`,
+/// `DW_OP_skip`, 2.5.1.5) to an operation of the list or to its end. A block (7.7.1) of an `exprloc` spells such a list.
 #[derive(Drop)]
 pub struct OpList<'a> {
     pub(crate) target: Target,

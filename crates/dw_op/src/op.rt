@@ -17,12 +17,8 @@ pub enum Op<'a> {
     Addr(u64),
     /// `DW_OP_deref`: replace the top, an address, by the N/8 bytes there (2.5.1.3).
     Deref,
-    /// `DW_OP_lit0`, `DW_OP_lit1`, `DW_OP_lit2`, `DW_OP_lit3`, `DW_OP_lit4`, `DW_OP_lit5`, `DW_OP_lit6`, `DW_OP_lit7`,
-    /// `DW_OP_lit8`, `DW_OP_lit9`, `DW_OP_lit10`, `DW_OP_lit11`, `DW_OP_lit12`, `DW_OP_lit13`, `DW_OP_lit14`, `DW_OP_lit15`,
-    /// `DW_OP_lit16`, `DW_OP_lit17`, `DW_OP_lit18`, `DW_OP_lit19`, `DW_OP_lit20`, `DW_OP_lit21`, `DW_OP_lit22`, `DW_OP_lit23`,
-    /// `DW_OP_lit24`, `DW_OP_lit25`, `DW_OP_lit26`, `DW_OP_lit27`, `DW_OP_lit28`, `DW_OP_lit29`, `DW_OP_lit30`, `DW_OP_lit31`,
-    /// `DW_OP_const1u`, `DW_OP_const1s`, `DW_OP_const2u`, `DW_OP_const2s`, `DW_OP_const4u`, `DW_OP_const4s`, `DW_OP_const8u`,
-    /// `DW_OP_const8s`, `DW_OP_constu`, `DW_OP_consts`: push this number, modulo 2^N (2.5.1.1).
+    /// `DW_OP_lit0` to `DW_OP_lit31`, `DW_OP_const1u`, `DW_OP_const1s`, `DW_OP_const2u`, `DW_OP_const2s`, `DW_OP_const4u`,
+    /// `DW_OP_const4s`, `DW_OP_const8u`, `DW_OP_const8s`, `DW_OP_constu`, `DW_OP_consts`: push this number, modulo 2^N (2.5.1.1).
     Const(u64),
     /// `DW_OP_dup`: push the top once more (2.5.1.3).
     Dup,
@@ -82,17 +78,9 @@ pub enum Op<'a> {
     Ne,
     /// `DW_OP_skip`: go on at the operation of this index (2.5.1.5).
     Skip(usize),
-    /// `DW_OP_reg0`, `DW_OP_reg1`, `DW_OP_reg2`, `DW_OP_reg3`, `DW_OP_reg4`, `DW_OP_reg5`, `DW_OP_reg6`, `DW_OP_reg7`,
-    /// `DW_OP_reg8`, `DW_OP_reg9`, `DW_OP_reg10`, `DW_OP_reg11`, `DW_OP_reg12`, `DW_OP_reg13`, `DW_OP_reg14`, `DW_OP_reg15`,
-    /// `DW_OP_reg16`, `DW_OP_reg17`, `DW_OP_reg18`, `DW_OP_reg19`, `DW_OP_reg20`, `DW_OP_reg21`, `DW_OP_reg22`, `DW_OP_reg23`,
-    /// `DW_OP_reg24`, `DW_OP_reg25`, `DW_OP_reg26`, `DW_OP_reg27`, `DW_OP_reg28`, `DW_OP_reg29`, `DW_OP_reg30`, `DW_OP_reg31`,
-    /// `DW_OP_regx`: the place is this register (2.6.1.1.2).
+    /// `DW_OP_reg0` to `DW_OP_reg31`, `DW_OP_regx`: the place is this register (2.6.1.1.2).
     Reg(u16),
-    /// `DW_OP_breg0`, `DW_OP_breg1`, `DW_OP_breg2`, `DW_OP_breg3`, `DW_OP_breg4`, `DW_OP_breg5`, `DW_OP_breg6`, `DW_OP_breg7`,
-    /// `DW_OP_breg8`, `DW_OP_breg9`, `DW_OP_breg10`, `DW_OP_breg11`, `DW_OP_breg12`, `DW_OP_breg13`, `DW_OP_breg14`,
-    /// `DW_OP_breg15`, `DW_OP_breg16`, `DW_OP_breg17`, `DW_OP_breg18`, `DW_OP_breg19`, `DW_OP_breg20`, `DW_OP_breg21`,
-    /// `DW_OP_breg22`, `DW_OP_breg23`, `DW_OP_breg24`, `DW_OP_breg25`, `DW_OP_breg26`, `DW_OP_breg27`, `DW_OP_breg28`,
-    /// `DW_OP_breg29`, `DW_OP_breg30`, `DW_OP_breg31`, `DW_OP_bregx`: push the value of a register plus an offset in bytes (2.5.1.2).
+    /// `DW_OP_breg0` to `DW_OP_breg31`, `DW_OP_bregx`: push the value of a register plus an offset in bytes (2.5.1.2).
     Breg(u16, i64),
     /// `DW_OP_fbreg`: push the frame base plus an offset in bytes (2.5.1.2).
     Fbreg(i64),

@@ -1,6 +1,6 @@
 //! The operation at the front of what is left of a block.
 
-ghost use Rattle.std.specs.Prelude.{◌≡◌, ◌+◌, ◌%◌, ◌<◌, Err};
+ghost use Rattle.std.specs.Prelude.{◌≡◌, ◌+◌, ◌%◌, ◌<◌, ◌≤◌, Err};
 ghost use Rattle.dw_num.specs.{Target.address_limit, Inner.Front.Gives};
 ghost use Rattle.dw_op.specs.Operands.{modulo, form_of, one, size};
 ghost use Rattle.dw_op.specs.declared.{op.Op.TheVariants.{Const, DerefSize}, operation.Step.TheVariants.Plain, profile.Profile.TheVariants.Location};
@@ -45,7 +45,7 @@ pub(crate) fn last_address(size: Size) -> u64
     (size.address_limit() - 1) as u64
 }
 
-// A constant, which is a number modulo 2^N.
+// A constant, which is a number modulo 2^N. `constant` takes one that is written as a signed number.
 fn natural<'a>(size: Size, number: u64) -> Step<'a>
     ensures { result ≡ Plain (Const (number % address_limit size)) }
 {
@@ -55,7 +55,6 @@ fn natural<'a>(size: Size, number: u64) -> Step<'a>
     }
 }
 
-// And one that is written as a signed number.
 fn constant<'a>(size: Size, number: i64) -> Step<'a>
     ensures { result ≡ Plain (Const (modulo (address_limit size) number)) }
 {
@@ -76,10 +75,10 @@ fn read_deref_size<'a>(cursor: &mut Cursor<'a>) -> Result<Step<'a>, Refusal>
     }
 }
 
-// An operation of a code below 0x30: it puts a constant on the stack, computes with what stands there, or branches.
+// An operation that puts a constant on the stack, or what stands at an address.
 #[tactic(auto, unfolding(crate::specs::Operands::form_of))]
-fn read_low<'a>(cursor: &mut Cursor<'a>, code: u8, at: u64) -> Result<Step<'a>, Refusal>
-    requires { code < 0x30 }
+fn read_constant<'a>(cursor: &mut Cursor<'a>, code: u8, at: u64) -> Result<Step<'a>, Refusal>
+    requires { code < 0x12 }
     ensures { Gives bare_step result (judged Location at (form_of cursor.old.target code) cursor.old) cursor.new }
 {
     let size = cursor.target().size;
@@ -96,37 +95,76 @@ fn read_low<'a>(cursor: &mut Cursor<'a>, code: u8, at: u64) -> Result<Step<'a>, 
         0x0f => Ok(constant(size, cursor.fixed(8)?.cast_signed())),
         0x10 => Ok(natural(size, cursor.uleb()?)),
         0x11 => Ok(constant(size, cursor.sleb()?)),
-        0x12 => Ok(Step::Plain(Op::Dup)),
-        0x13 => Ok(Step::Plain(Op::Drop)),
-        0x14 => Ok(Step::Plain(Op::Over)),
-        0x15 => Ok(Step::Plain(Op::Pick(cursor.byte()?))),
-        0x16 => Ok(Step::Plain(Op::Swap)),
-        0x17 => Ok(Step::Plain(Op::Rot)),
-        0x19 => Ok(Step::Plain(Op::Abs)),
-        0x1a => Ok(Step::Plain(Op::And)),
-        0x1b => Ok(Step::Plain(Op::Div)),
-        0x1c => Ok(Step::Plain(Op::Minus)),
-        0x1d => Ok(Step::Plain(Op::Mod)),
-        0x1e => Ok(Step::Plain(Op::Mul)),
-        0x1f => Ok(Step::Plain(Op::Neg)),
-        0x20 => Ok(Step::Plain(Op::Not)),
-        0x21 => Ok(Step::Plain(Op::Or)),
-        0x22 => Ok(Step::Plain(Op::Plus)),
-        0x23 => Ok(Step::Plain(Op::PlusUconst(cursor.uleb()?))),
-        0x24 => Ok(Step::Plain(Op::Shl)),
-        0x25 => Ok(Step::Plain(Op::Shr)),
-        0x26 => Ok(Step::Plain(Op::Shra)),
-        0x27 => Ok(Step::Plain(Op::Xor)),
-        0x28 => Ok(Step::Jump(Branch::Bra, cursor.fixed(2)? as u16)),
-        0x29 => Ok(Step::Plain(Op::Eq)),
-        0x2a => Ok(Step::Plain(Op::Ge)),
-        0x2b => Ok(Step::Plain(Op::Gt)),
-        0x2c => Ok(Step::Plain(Op::Le)),
-        0x2d => Ok(Step::Plain(Op::Lt)),
-        0x2e => Ok(Step::Plain(Op::Ne)),
-        0x2f => Ok(Step::Jump(Branch::Skip, cursor.fixed(2)? as u16)),
         _ => refused(Code::UnknownOperation, at),
     }
+}
+
+// An operation on what stands on the stack, or a branch.
+#[tactic(auto, unfolding(crate::specs::Operands::form_of))]
+fn read_computing<'a>(cursor: &mut Cursor<'a>, code: u8, at: u64) -> Result<Step<'a>, Refusal>
+    requires from { 0x12 ≤ code }
+    requires below { code < 0x30 }
+    ensures { Gives bare_step result (judged Location at (form_of cursor.old.target code) cursor.old) cursor.new }
+{
+    let op = match code {
+        0x12 => Op::Dup,
+        0x13 => Op::Drop,
+        0x14 => Op::Over,
+        0x15 => Op::Pick(cursor.byte()?),
+        0x16 => Op::Swap,
+        0x17 => Op::Rot,
+        0x19 => Op::Abs,
+        0x1a => Op::And,
+        0x1b => Op::Div,
+        0x1c => Op::Minus,
+        0x1d => Op::Mod,
+        0x1e => Op::Mul,
+        0x1f => Op::Neg,
+        0x20 => Op::Not,
+        0x21 => Op::Or,
+        0x22 => Op::Plus,
+        0x23 => Op::PlusUconst(cursor.uleb()?),
+        0x24 => Op::Shl,
+        0x25 => Op::Shr,
+        0x26 => Op::Shra,
+        0x27 => Op::Xor,
+        0x28 => return Ok(Step::Jump(Branch::Bra, cursor.fixed(2)? as u16)),
+        0x29 => Op::Eq,
+        0x2a => Op::Ge,
+        0x2b => Op::Gt,
+        0x2c => Op::Le,
+        0x2d => Op::Lt,
+        0x2e => Op::Ne,
+        0x2f => return Ok(Step::Jump(Branch::Skip, cursor.fixed(2)? as u16)),
+        _ => return refused(Code::UnknownOperation, at),
+    };
+    Ok(Step::Plain(op))
+}
+
+// An operation of a code from 0x90 on: of registers, pieces and sizes.
+#[tactic(auto, unfolding(crate::specs::Operands::form_of))]
+fn read_high<'a>(cursor: &mut Cursor<'a>, code: u8, at: u64) -> Result<Step<'a>, Refusal>
+    requires { 0x90 ≤ code }
+    ensures { Gives bare_step result (judged Location at (form_of cursor.old.target code) cursor.old) cursor.new }
+{
+    let op = match code {
+        0x90 => Op::Reg(cursor.register()?),
+        0x91 => Op::Fbreg(cursor.sleb()?),
+        0x92 => Op::Breg(cursor.register()?, cursor.sleb()?),
+        0x93 => Op::Piece(cursor.uleb()?),
+        0x94 => return read_deref_size(cursor),
+        0x96 => Op::Nop,
+        0x97 => Op::PushObjectAddress,
+        0x9c => Op::CallFrameCfa,
+        0x9d => Op::BitPiece(cursor.uleb()?, cursor.uleb()?),
+        0x9e => {
+            let len = cursor.uleb()?;
+            Op::Implicit(cursor.take(len as usize)?)
+        }
+        0x9f => Op::StackValue,
+        _ => return refused(Code::UnknownOperation, at),
+    };
+    Ok(Step::Plain(op))
 }
 
 // The operation of a code that was read at a place: DWARF 5, 7.7.1.
@@ -135,25 +173,12 @@ fn read_operands<'a>(cursor: &mut Cursor<'a>, code: u8, at: u64) -> Result<Step<
     ensures { Gives bare_step result (judged Location at (form_of cursor.old.target code) cursor.old) cursor.new }
 {
     match code {
-        0x00..=0x2f => read_low(cursor, code, at),
+        0x00..=0x11 => read_constant(cursor, code, at),
+        0x12..=0x2f => read_computing(cursor, code, at),
         0x30..=0x4f => Ok(Step::Plain(Op::Const(u64::from(code - 0x30)))),
         0x50..=0x6f => Ok(Step::Plain(Op::Reg(u16::from(code - 0x50)))),
         0x70..=0x8f => Ok(Step::Plain(Op::Breg(u16::from(code - 0x70), cursor.sleb()?))),
-        0x90 => Ok(Step::Plain(Op::Reg(cursor.register()?))),
-        0x91 => Ok(Step::Plain(Op::Fbreg(cursor.sleb()?))),
-        0x92 => Ok(Step::Plain(Op::Breg(cursor.register()?, cursor.sleb()?))),
-        0x93 => Ok(Step::Plain(Op::Piece(cursor.uleb()?))),
-        0x94 => read_deref_size(cursor),
-        0x96 => Ok(Step::Plain(Op::Nop)),
-        0x97 => Ok(Step::Plain(Op::PushObjectAddress)),
-        0x9c => Ok(Step::Plain(Op::CallFrameCfa)),
-        0x9d => Ok(Step::Plain(Op::BitPiece(cursor.uleb()?, cursor.uleb()?))),
-        0x9e => {
-            let len = cursor.uleb()?;
-            Ok(Step::Plain(Op::Implicit(cursor.take(len as usize)?)))
-        }
-        0x9f => Ok(Step::Plain(Op::StackValue)),
-        _ => refused(Code::UnknownOperation, at),
+        0x90.. => read_high(cursor, code, at),
     }
 }
 

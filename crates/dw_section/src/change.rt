@@ -219,11 +219,10 @@ impl<'a> Table<'a> {
         }
     }
 
-    /// Goes to the changes of an FDE of the list of `fdes`, in the room of changes of this section, also where memory ran out.
-    /// Programs are run by `Changes::next`, that of a CIE once more only where its walk was not kept. That of the FDE before was,
-    /// also where its CIE is another one with an equal program; where it is the same CIE, no bytes of its program are read again.
-    /// The walk of each CIE with a long program is kept, and memory is taken for that alone: where there is none, the walk is
-    /// dropped, and the program is run once more.
+    /// Goes to the changes of an FDE of the list of `fdes`, in the room of changes of this section, also where memory ran out. Programs are run by
+    /// `Changes::next`, that of a CIE once more only where its walk was not kept. That of the FDE before was, also where its CIE is another one with an equal
+    /// program; where it is the same CIE, no bytes of its program are read again. The walk of each CIE with a long program is kept, and memory is taken for
+    /// that alone: where there is none, the walk is dropped, and the program is run once more.
     pub fn go_on(&self, changes: &mut Changes<'a>, fde: FdeRef)
         requires place { (fs : List TheFde) → AreFdes self.now.target self.now.bytes fs → fde.place < length fs }
         requires section { changes.old.section ≡ self.now }
@@ -270,10 +269,9 @@ impl<'a> Changes<'a> {
         change
     }
 
-    /// Goes on to the next change as `advance` does. Where that is the first one that is asked for behind `Table::changes` or
-    /// `go_on`, and the program of the CIE (`initial_instructions`, 6.4.1) is long, a set becomes the registers to which it gives
-    /// other rules than the row that this program leaves, and the CIE is answered. It costs what the FDE's program set, and nothing
-    /// for the other registers. `None` says that this is not known.
+    /// Goes on to the next change as `advance` does. Where that is the first one that is asked for behind `Table::changes` or `go_on`, and the program of the
+    /// CIE (`initial_instructions`, 6.4.1) is long, a set becomes the registers to which it gives other rules than the row that this program leaves, and the
+    /// CIE is answered. It costs what the FDE's program set, and nothing for the other registers. `None` says that this is not known.
     pub fn advance_behind(
         &mut self,
         changed: &mut RegisterSet<'a>,

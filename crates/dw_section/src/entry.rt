@@ -202,12 +202,11 @@ fn all_entries(alloc: Global, bytes: &[u8], target: Target) -> Result<Vec<Entry>
     Ok(found)
 }
 
-/// The entries of a section in order of place, CIEs and FDEs of both forms, gaps left out. Their fields and
-/// programs are not looked at.
+/// The entries of a section in order of place, CIEs and FDEs of both forms, gaps left out. Their fields and programs are not looked at.
 ///
-/// A refusal is the first fault of size and cut: `SectionTooLarge` (26) at 0 above 2,147,483,647 bytes; then by place, and of one
-/// entry in this order, `Truncated` (1) or `ReservedLength` (2) at its length, `EntryPastEnd` (3) at the entry, and `Truncated`
-/// (1) at its first field, where the entry is too short for that. `OutOfMemory` may come in place of any answer: the list takes memory, and nothing else does.
+/// A refusal is the first fault of size and cut: `SectionTooLarge` (26) at 0 above 2,147,483,647 bytes; then by place, and of one entry in this order,
+/// `Truncated` (1) or `ReservedLength` (2) at its length, `EntryPastEnd` (3) at the entry, and `Truncated` (1) at its first field, where the entry is too
+/// short for that. `OutOfMemory` may come in place of any answer: the list takes memory, and nothing else does.
 pub fn entries(alloc: Global, bytes: &[u8], target: Target) -> Result<Vec<Entry>, ReadError>
     // They are the entries of the section's cut.
     ensures found { IfOk result (λ v. Entries target bytes.now v.items) }

@@ -327,14 +327,12 @@ fn all_headers(alloc: Global, bytes: &[u8], target: Target) -> Result<Vec<Header
     read_headers(alloc, bytes, target, &cies.places, count)
 }
 
-/// The headers of a section in order of place: the fields of each entry, CIEs of versions 1, 3 and 4 in both
-/// forms, and FDEs. Programs are not looked at.
+/// The headers of a section in order of place: the fields of each entry, CIEs of versions 1, 3 and 4 in both forms, and FDEs. Programs are not looked at.
 ///
-/// A refusal is the first fault of size and cut (1, 2, 3 and 26, as `entries` has it); then of the fields of CIEs by place, each
-/// from left to right: `Truncated` (1), `BadVersion` (4), `Augmentation` (5), `AddressSize` (6), `SegmentSelector` (7),
-/// `NumberTooLarge` (8), `RegisterTooLarge` (9); then of the fields of FDEs by place: `Truncated` (1), `NoSuchCie` (10),
-/// `RangeTooLarge` (11). Each has its place at the field. `OutOfMemory` may come in place of any answer: memory is taken for the
-/// list, and for the places and the fields of CIEs. A pointer is looked up by halving.
+/// A refusal is the first fault of size and cut (1, 2, 3 and 26, as `entries` has it); then of the fields of CIEs by place, each from left to right:
+/// `Truncated` (1), `BadVersion` (4), `Augmentation` (5), `AddressSize` (6), `SegmentSelector` (7), `NumberTooLarge` (8), `RegisterTooLarge` (9); then of the
+/// fields of FDEs by place: `Truncated` (1), `NoSuchCie` (10), `RangeTooLarge` (11). Each has its place at the field. `OutOfMemory` may come in place of any
+/// answer: memory is taken for the list, and for the places and the fields of CIEs. A pointer is looked up by halving.
 pub fn headers<'a>(
     alloc: Global,
     bytes: &'a [u8],

@@ -186,13 +186,13 @@ impl<'a> Model for IndexedFde<'a> {
     ghost invariant = { λ f. FoundStands f.target f.bytes.now f.found × Covers f.address (fde_of f.found) × (length f.bytes.now ≤ 2147483647) };
 }
 
-/// The FDE that covers an address by an index of a section's nonempty FDEs, ascending by begin; or none where the index has no entry
-/// that covers it. The entry is found by halving; the FDE at its place, and the CIE that this names, are read anew (6.4.1). So bytes
-/// and index need not belong together: where they do not, it is the FDE that stands at the place, or an error. Takes no memory.
+/// The FDE that covers an address by an index of a section's nonempty FDEs, ascending by begin; or none where the index has no entry that covers it. The
+/// entry is found by halving; the FDE at its place, and the CIE that this names, are read anew (6.4.1). So bytes and index need not belong together: where
+/// they do not, it is the FDE that stands at the place, or an error. Takes no memory.
 ///
-/// `BadIndex` says that no FDE that covers the address stands at the place. `Refused` has `SectionTooLarge` (26) at 0 where there
-/// are more than 2,147,483,647 bytes, else the first fault in this order: of the entry at the place, and of what begins where its
-/// CIE should stand (1, 2, 3); of the FDE's fields (1, 10, 11) and then of the CIE's (1, 4 to 9). It is never `OutOfMemory`.
+/// `BadIndex` says that no FDE that covers the address stands at the place. `Refused` has `SectionTooLarge` (26) at 0 where there are more than 2,147,483,647
+/// bytes, else the first fault in this order: of the entry at the place, and of what begins where its CIE should stand (1, 2, 3); of the FDE's fields (1, 10,
+/// 11) and then of the CIE's (1, 4 to 9). It is never `OutOfMemory`.
 #[inline(always)]
 pub fn fde_by_index<'a>(
     bytes: &'a [u8],
@@ -251,13 +251,12 @@ impl<'a> IndexedFde<'a> {
         }
     }
 
-    /// Runs the programs of the CIE and of the FDE up to the row of the address (6.4.3), which `room` lends then. Takes memory only for
-    /// registers above 127 and expressions, and where more than four rows are remembered at once, or more than 64 registers change
-    /// behind one of them.
+    /// Runs the programs of the CIE and of the FDE up to the row of the address (6.4.3), which `room` lends then. Takes memory only for registers above 127
+    /// and expressions, and where more than four rows are remembered at once, or more than 64 registers change behind one of them.
     ///
-    /// `Refused` has the first fault of the CIE's program and then of the FDE's up to the row (1, 8, 9, 12 to 23, as `dw_cfa::run` has
-    /// it). `OutOfMemory` is answered where a request for memory was refused, and `BadIndex` never. Behind an error the room holds some
-    /// row. Unless the index is that of an accepted section, the CFA's rule in the row may be `Unset`.
+    /// `Refused` has the first fault of the CIE's program and then of the FDE's up to the row (1, 8, 9, 12 to 23, as `dw_cfa::run` has it). `OutOfMemory` is
+    /// answered where a request for memory was refused, and `BadIndex` never. Behind an error the room holds some row. Unless the index is that of an
+    /// accepted section, the CFA's rule in the row may be `Unset`.
     #[inline(always)]
     pub fn run(&self, room: &mut RowRoom<'a>) -> Result<(), LookUpError>
         // By the index of an accepted section the row has the rules that the section says.

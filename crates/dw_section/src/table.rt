@@ -100,15 +100,14 @@ fn checked<'a>(alloc: Global, bytes: &'a [u8], target: Target) -> Result<Table<'
     }
 }
 
-/// The table of a section: all programs are run, each covered address has a rule for the CFA, and no two FDEs
-/// share an address.
+/// The table of a section: all programs are run, each covered address has a rule for the CFA, and no two FDEs share an address.
 ///
-/// A refusal is the first fault: of size, cut and fields (1 to 11 and 26, as `headers` has it); then of the programs of CIEs by
-/// place, and of those of FDEs by place, as `dw_cfa::run` has it: `Truncated` (1), `NumberTooLarge` (8), `RegisterTooLarge` (9),
-/// `BadDerefSize` (23) at the operand; `UnknownInstruction` (12), `NotInCie` (13), `LocationBackwards` (14), `LocationTooLarge`
-/// (15), `EmptyStateStack` (16), `StateStackFull` (17), `CfaNotRegister` (18), `OffsetTooLarge` (19), `UnknownOperation` (20),
-/// `NotInFrame` (21), `BadBranch` (22) at the opcode; then `NoCfaRule` (24) at the FDE, by place; and last `Overlap` (25) at the
-/// first nonempty FDE, in order of begin and place, that begins below the end of one before it. `OutOfMemory` may come in place of any answer.
+/// A refusal is the first fault: of size, cut and fields (1 to 11 and 26, as `headers` has it); then of the programs of CIEs by place, and of those of FDEs
+/// by place, as `dw_cfa::run` has it: `Truncated` (1), `NumberTooLarge` (8), `RegisterTooLarge` (9), `BadDerefSize` (23) at the operand; `UnknownInstruction`
+/// (12), `NotInCie` (13), `LocationBackwards` (14), `LocationTooLarge` (15), `EmptyStateStack` (16), `StateStackFull` (17), `CfaNotRegister` (18),
+/// `OffsetTooLarge` (19), `UnknownOperation` (20), `NotInFrame` (21), `BadBranch` (22) at the opcode; then `NoCfaRule` (24) at the FDE, by place; and last
+/// `Overlap` (25) at the first nonempty FDE, in order of begin and place, that begins below the end of one before it. `OutOfMemory` may come in place of any
+/// answer.
 pub fn check<'a>(alloc: Global, bytes: &'a [u8], target: Target) -> Result<Table<'a>, ReadError>
     // It is the table of an accepted section.
     ensures found { IfOk result (λ table. (table ≡ record { target = target; bytes = bytes.now }) × Accepted target bytes.now) }

@@ -63,11 +63,10 @@ fn row_at<'a>(
     }
 }
 
-/// The caller's frame as `unwind` answers it, by an index of a section's nonempty FDEs that was kept (`Table::index`), in bytes
-/// that are not judged again: as `look_up` does, it finds the entry that covers `pc`, and reads and judges the FDE at its place,
-/// and the CIE that this names, up to the row. So bytes and index need not belong together: where they do not, the answer is by
-/// the FDE that stands at the place, or an error. `room` is where the row is made, and `frame_room` where the registers are put;
-/// both may be those of an earlier call.
+/// The caller's frame as `unwind` answers it, by an index of a section's nonempty FDEs that was kept (`Table::index`), in bytes that are not judged again: as
+/// `look_up` does, it finds the entry that covers `pc`, and reads and judges the FDE at its place, and the CIE that this names, up to the row. So bytes and
+/// index need not belong together: where they do not, the answer is by the FDE that stands at the place, or an error. `room` is where the row is made, and
+/// `frame_room` where the registers are put; both may be those of an earlier call.
 pub fn unwind_at<'a, 'r, M: Memory>(
     alloc: Global,
     bytes: &'a [u8],
@@ -113,16 +112,14 @@ pub fn unwind_at<'a, 'r, M: Memory>(
     }
 }
 
-/// The caller's frame of a machine that stopped at `pc` with these registers and this memory, by the rules of a section for
-/// that address (6.4.1): first the CFA, then, ascending, each register that the machine holds, that the row specifies, or that
-/// is the return address's. Registers hold numbers modulo 2^N, where an address has N bits. One that no instruction has set
-/// is what `default` says. Each expression may take `steps` steps.
+/// The caller's frame of a machine that stopped at `pc` with these registers and this memory, by the rules of a section for that address (6.4.1): first the
+/// CFA, then, ascending, each register that the machine holds, that the row specifies, or that is the return address's. Registers hold numbers modulo 2^N,
+/// where an address has N bits. One that no instruction has set is what `default` says. Each expression may take `steps` steps.
 ///
-/// The first fault is answered, with its column. `Device`, alone or as the kind of `Eval`, is answered exactly where the memory's
-/// count of failures grew.
+/// The first fault is answered, with its column. `Device`, alone or as the kind of `Eval`, is answered exactly where the memory's count of failures grew.
 ///
-/// `room` is where the registers are put; it may be that of an earlier call. Takes memory where there are more than 64 of them,
-/// and for the operations of one expression at a time.
+/// `room` is where the registers are put; it may be that of an earlier call. Takes memory where there are more than 64 of them, and for the operations of one
+/// expression at a time.
 pub fn unwind<'r, M: Memory>(
     alloc: Global,
     table: &Table<'_>,

@@ -270,10 +270,10 @@ fn asked_by(words: &[String]) -> Option<Name>
 
 /// What the words ask for, before any file is read. The first word is the program's name.
 ///
-/// A run is answered exactly where `clap` reads the words as that subcommand with that size, order, options and operands, and
-/// each value is one that it may have. `Help` is answered where they ask for help or the version. `Words` is answered where `clap`
-/// refuses them, and `BadValue` where it takes them and a value is none that it may have: the first of `--size`, `--order`,
-/// `--cap`, `--steps`, `--start`, `--default`, `HEX` and `ADDRESS`, whatever the order of the words.
+/// A run is answered exactly where `clap` reads the words as that subcommand with that size, order, options and operands, and each value is one that it may
+/// have. `Help` is answered where they ask for help or the version. `Words` is answered where `clap` refuses them, and `BadValue` where it takes them and a
+/// value is none that it may have: the first of `--size`, `--order`, `--cap`, `--steps`, `--start`, `--default`, `HEX` and `ADDRESS`, whatever the order of
+/// the words.
 pub fn plan<'a>(alloc: Global, words: &'a [String]) -> Result<Request<'a>, PlanError>
     ensures { Planned (map string_bytes words.entry.now) result }
 {

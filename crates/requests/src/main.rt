@@ -1,5 +1,6 @@
 //! Makes one call over worked data, or over the section in a file, and prints what it answers: the program that
-//! `checks/refused_memory.py` runs with each of its requests for memory refused in turn. It is no part of the product.
+//! `checks/refused_memory.py` runs with each of its requests for memory refused in turn. Calls that the command makes alike are
+//! told by runs of that. It is no part of the product.
 //!
 //!     requests CALL
 //!     requests CALL 4|8 little|big FILE
@@ -51,15 +52,11 @@ fn made(rt: &HostRuntime, call: &str, bytes: &[u8], target: Target) -> Result<()
         "states" => states::all(rt),
         "dumps" => evaluations::dumps(rt),
         "evaluate" | "locate" => evaluations::all(rt, call),
-        "entries" => sections::all_entries(rt, bytes, target),
         "headers" => sections::all_headers(rt, bytes, target),
-        "check" => sections::checked(rt, bytes, target),
         "row_at" => sections::rows_of_addresses(rt, bytes, target),
         "changes" => sections::all_changes(rt, bytes, target),
         "normalise" => forms::normalised(rt, bytes, target),
         "normalise_to" => forms::written(rt, bytes, target),
-        "normal_length" => forms::measured(rt, bytes, target),
-        "same" => forms::compared(rt, bytes, target),
         "index" | "frames" => frames::all(rt, bytes, target, call == "frames"),
         "borrowed" => borrowing::all(rt),
         _ => programs::over_section(rt, call, bytes, target),

@@ -1,37 +1,16 @@
-//! The calls that cut a section into entries and read their fields, and those on its table.
+//! The calls that read the fields of entries, and those on a section's table.
 
 use crate::Calls;
 use crate::programs::{print_row, retried};
 use dw_num::Target;
-use dw_section::{Changes, FdeRef, Table, check, entries, headers};
+use dw_section::{Changes, FdeRef, Table, check, headers};
 use std::test::Fail;
-
-pub fn all_entries(rt: &impl Calls, bytes: &[u8], target: Target) -> Result<(), Fail> {
-    for entry in entries(rt.alloc(), bytes, target)?.iter() {
-        println!(rt; "{entry:?}")?;
-    }
-    Ok(())
-}
 
 pub fn all_headers(rt: &impl Calls, bytes: &[u8], target: Target) -> Result<(), Fail> {
     for header in headers(rt.alloc(), bytes, target)?.iter() {
         println!(rt; "{header:?}")?;
     }
     Ok(())
-}
-
-fn print_table(rt: &impl Calls, table: &Table<'_>) -> Result<(), Fail> {
-    let counts = (table.fde_count(), table.row_starts());
-    println!(rt; "{:?} {} {}", table.target(), counts.0, counts.1)?;
-    for fde in table.fdes() {
-        println!(rt; "{fde:?} {:?}", table.fde_at(fde.begin))?;
-    }
-    Ok(())
-}
-
-/// The table, and the calls on it that take no memory.
-pub fn checked(rt: &impl Calls, bytes: &[u8], target: Target) -> Result<(), Fail> {
-    print_table(rt, &check(rt.alloc(), bytes, target)?)
 }
 
 fn row_at(rt: &impl Calls, table: &Table<'_>, address: u64) -> Result<(), Fail> {

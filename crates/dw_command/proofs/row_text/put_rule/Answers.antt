@@ -12,3 +12,6 @@ pub returns-in-ValExpression : goal.returns-in-ValExpression
 returns-in-ValExpression g c =
     let begun = on g.W.Write.contents _ _ _ _ _ c.text-in-ValExpression.ensures.adds c.put_operations-in-ValExpression.ensures.put in
     rw c.in-ValExpression.is (on g.W.Write.contents _ _ _ _ _ begun c.text-in-ValExpression-2.ensures.adds)
+
+pub returns-in-Register : goal.returns-in-Register
+returns-in-Register g c = rw c.in-Register.is (on g.W.Write.contents _ _ _ _ _ c.text-in-Register.ensures.adds (rw c.from.ensures at c.decimal.ensures.adds))

@@ -18,6 +18,7 @@ pub returns-clause-known : goal.returns-clause-known
 returns-clause-known c =
     let old = c.args.self.now.known in
     let both = joined (goal.at.returns-clause-known c).After-put in
-    let changed = c.replace-set.ensures.value ∙ ap (λ (k : Known). k.changed) both.0 ∙ c.take.ensures.changed in
-    puts_notes _ c.args.cie_at c.args.register c.add_all-2.new.self old.cies c.match-take.self.known.cies c.put.new.self.cies (subst (λ (k : Known). AreLess old.cies k.cies) (sym both.0) c.take.ensures.less) c.put.ensures.puts
-    (λ row own. beside_both c.replace-set.result c.match-take.self.registers c.add_all-2.new.self c.args.shared.now row c.args.first.now c.in_ok-add_all.ensures.added (subst (λ (set : Registers). SameBeside set row c.args.first.now) (sym changed) own) both.1)
+    let changed = ap (λ (k : Known). k.changed) both.0 ∙ c.take.ensures.changed in
+    puts_notes _ c.args.cie_at c.args.register c.replace-set.result old.cies c.match-take.self.known.cies c.put.new.self.cies (subst (λ (k : Known). AreLess old.cies k.cies) (sym both.0) c.take.ensures.less) c.put.ensures.puts
+    (λ row own. subst (λ (set : Registers). SameBeside set c.args.shared.now row) (sym c.replace-set.ensures.value)
+    (beside_both c.match-take.self.known.changed c.match-take.self.registers c.add_all-2.new.self c.args.shared.now row c.args.first.now c.in_ok-add_all.ensures.added (subst (λ (set : Registers). SameBeside set row c.args.first.now) (sym changed) own) both.1))

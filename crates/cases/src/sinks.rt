@@ -1,0 +1,138 @@
+//! The plain section's normal form: into sinks that fail, and of each section that has another byte.
+
+use crate::sections::{LITTLE, PLAIN, changed};
+use dw_normal::{Tape, Through, WriteError, normalise, normalise_to, same};
+use dw_num::{Code, ReadError, Refusal};
+use std::alloc::Global;
+use std::io::{self, ErrorKind, Write};
+use std::test::Fail;
+
+// Its data factor is -1.
+const NORMAL: &[u8] =
+    b"\x14\0\0\0\xff\xff\xff\xff\x04\0\x08\0\x01\x7f\x10\x0c\x07\x08\x90\x08\0\0\0\0\
+\x24\0\0\0\0\0\0\0\0\x10\x40\0\0\0\0\0\x10\0\0\0\0\0\0\0\x41\x0e\x10\x86\x10\x43\x0d\x06\x4b\x0c\x07\x08\0\0\0\0";
+
+// The most bytes that a section has.
+const LIMIT: u64 = 2_147_483_647;
+
+const TOO_LONG: WriteError = WriteError::Refused(Refusal {
+    code: Code::NormalTooLong,
+    at: 0,
+});
+
+// A writer that keeps some bytes a call while it has room, and fails at one call.
+#[derive(Drop)]
+struct Paper {
+    bytes: Vec<u8>,
+    most: usize,
+    room: usize,
+    calls: u64,
+    fails_at: u64,
+}
+
+impl Write for Paper {
+    fn write(&mut self, bytes: &[u8]) -> io::Result<usize> {
+        self.calls = self.calls.saturating_add(1);
+        if self.calls == self.fails_at {
+            return Err(io::Error::from(ErrorKind::Other));
+        }
+        let count = bytes.len().min(self.most).min(self.room);
+        self.bytes.extend_from_slice(&bytes[..count])?;
+        self.room -= count;
+        Ok(count)
+    }
+
+    fn flush(&mut self) -> io::Result<()> {
+        Ok(())
+    }
+}
+
+// What is written of the plain section: the answer, how many calls of `write` there were, and how many bytes of its normal
+// form the writer has, or none where they are no beginning of it.
+fn written(
+    alloc: Global,
+    cap: u64,
+    most: usize,
+    room: usize,
+    fails_at: u64,
+) -> (Result<u64, WriteError>, u64, Option<usize>) {
+    let mut sink = Through::new(Paper {
+        bytes: Vec::new(alloc),
+        most,
+        room,
+        calls: 0,
+        fails_at,
+    });
+    let answer = normalise_to(alloc, PLAIN, LITTLE, cap.min(LIMIT), &mut sink);
+    let paper = sink.into_writer();
+    let front = NORMAL
+        .starts_with(&paper.bytes)
+        .then_some(paper.bytes.len());
+    (answer, paper.calls, front)
+}
+
+#[test]
+fn tells_the_write_that_fails(rt: HostRuntime) -> Result<(), Fail> {
+    let alloc = rt.alloc();
+    for k in 1..65usize {
+        let failed = Err(WriteError::Write {
+            written: k as u64 - 1,
+        });
+        let (answer, _, front) = written(alloc, LIMIT, 1, 100, k as u64);
+        assert_eq!(rt; (answer, front), (failed, Some(k - 1)), "at call {k}");
+    }
+    assert_eq!(rt; written(alloc, LIMIT, 1, 100, 0), (Ok(64), 64, Some(64)));
+    assert_eq!(rt; written(alloc, 64, 1, 100, 65), (Ok(64), 64, Some(64)));
+    let (answer, _, front) = written(alloc, LIMIT, 20, 20, 0);
+    assert_eq!(rt;
+        (answer, front),
+        (Err(WriteError::Write { written: 20 }), Some(20))
+    );
+    assert_eq!(rt; written(alloc, 63, 1, 100, 0), (Err(TOO_LONG), 0, Some(0)));
+    Ok(())
+}
+
+#[test]
+fn writes_on_a_tape(rt: HostRuntime) -> Result<(), Fail> {
+    let alloc = rt.alloc();
+    let mut tape = Tape::new(alloc);
+    assert_eq!(rt;
+        normalise_to(alloc, PLAIN, LITTLE, LIMIT, &mut tape),
+        Ok(64)
+    );
+    assert!(rt; tape.into_bytes().as_slice() == NORMAL);
+    let mut short = Tape::new(alloc);
+    assert_eq!(rt;
+        normalise_to(alloc, PLAIN, LITTLE, 63, &mut short),
+        Err(TOO_LONG)
+    );
+    assert!(rt; short.into_bytes().is_empty());
+    Ok(())
+}
+
+// Whether a section is refused at a place in it or at its end, or has a normal form, which is its own normal form and says the
+// same.
+fn is_answered(alloc: Global, section: &[u8]) -> Result<bool, Fail> {
+    match normalise(alloc, section, LITTLE, LIMIT) {
+        Ok(normal) => {
+            let again = normalise(alloc, &normal, LITTLE, LIMIT)?;
+            Ok(again == normal && same(alloc, section, &normal, LITTLE)?)
+        }
+        Err(ReadError::Refused(refusal)) => Ok(refusal.at <= 64),
+        Err(ReadError::OutOfMemory) => Err(Fail::new("out of memory")),
+    }
+}
+
+#[test]
+fn answers_each_change_of_a_byte(rt: HostRuntime) -> Result<(), Fail> {
+    for place in 0..64usize {
+        for byte in 0..=255u8 {
+            let section = changed(rt.alloc(), PLAIN, place, byte)?;
+            assert!(rt;
+                is_answered(rt.alloc(), &section)?,
+                "{byte:#x} at {place:#x}"
+            );
+        }
+    }
+    Ok(())
+}
