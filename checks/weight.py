@@ -26,7 +26,7 @@ BUDGET = {
     "dw_canon": (53, 3327),
     "dw_normal": (2004, 2731),
     "dw_unwind": (1347, 2278),
-    "dw_words": (822, 1062),
+    "dw_words": (821, 1076),
     "dw_command": (1915, 1679),
     "dwframe": (262, 0),
     "dw_library": (1601, 790),

@@ -1,4 +1,5 @@
 mod Words
+mod Arguments
 mod Digits
 mod AllRead
 mod Rows

@@ -14,5 +14,5 @@ pub use Rattle.clap.specs.{Words.{first_of, found_of, is_simple_and_free, new_ap
 unfoldable pub use Rattle.clap.proofs.OnLiterals.{clap_on_literals}
 pub use Rattle.clap.proofs.WalkLemmas.{both, first_value-rows, raw_values-rows, walk_stopped}
 pub use Rattle.dw_words.specs.{CommandLine.{dwframe, file, flag, operand, operands, option, program}, Plan.{AskFor, IsJob, IsTask, Planned, Says, is_help}, Values.{address, all_read, order_of, size_of}}
-pub use Rattle.dw_words.specs.{declared.request.Name.Name, declared.request.PlanError.PlanError, Inner.CommandLine.{IsArg, IsCommand, asked, command, command_named, with_subcommands}}
+pub use Rattle.dw_words.specs.{declared.request.Name.Name, declared.request.PlanError.PlanError, Inner.CommandLine.{IsArg, IsCommand, asked, command, command_named, rule_of, with_arguments, with_subcommands}, declared.command_line.Argument.Argument}
 pub use Rattle.dw_words.specs.Inner.{Plan.{Fails, FromFault, Given, GivenAt, HasText, IsSupplied, asked_by, fits, is_run, is_task, name_of, options, own, target_in, text_of}, Values.checked_behind}

@@ -1,9 +1,9 @@
 //! The command line as `clap` reads it, with its texts of help.
 
-ghost use Rattle.std.specs.{Prelude.{◌≡◌, List, IfOk, codes, false, true}, List.AllZip};
-ghost use Rattle.clap.specs.Words.{Rule};
-ghost use Rattle.dw_words.specs.CommandLine.{file, flag, operand, operands, option};
-ghost use Rattle.dw_words.specs.Inner.{CommandLine.{IsArg, IsCommand, asked, command, command_named, own_rules, with_subcommands}, Plan.text_of};
+ghost use Rattle.std.specs.Prelude.{◌≡◌, IfOk, fold};
+ghost use Rattle.clap.specs.Words.{App, with_rule};
+ghost use Rattle.dw_words.specs.Inner.CommandLine.{IsArg, IsCommand, asked, command_named, own_rules, rule_of, with_arguments, with_subcommands};
+ghost use Rattle.dw_words.specs.Inner.Plan.{text_of};
 
 use crate::help;
 use crate::request::Name;
@@ -24,64 +24,50 @@ const NAMES: [Name; 10] = [
     Name::Cost,
 ];
 
-fn option<'a>(
-    alloc: Global,
-    name: &'a str,
-    required: bool,
-    value: &'a str,
-    help: &'a str,
-) -> Arg<'a>
-    ensures { IsArg (option required name.entry.now) result }
-{
-    Arg::new(alloc, name)
-        .long(name)
-        .required(required)
-        .action(ArgAction::Set)
-        .value_name(value)
-        .help(help)
+// An argument with what help says of it: an option, which may be required, and its value's name;
+// a flag; an operand, which may be required; or any number of them.
+#[derive(Clone, Copy)]
+pub(crate) enum Argument {
+    Option(&'static str, bool, &'static str, &'static str),
+    Flag(&'static str, &'static str),
+    Operand(&'static str, bool, &'static str),
+    Operands(&'static str, &'static str),
 }
 
-fn flag<'a>(alloc: Global, name: &'a str, help: &'a str) -> Arg<'a>
-    ensures { IsArg (flag name.entry.now) result }
-{
-    Arg::new(alloc, name)
-        .long(name)
-        .action(ArgAction::SetTrue)
-        .help(help)
-}
+const COMMON: &[Argument] = &[
+    Argument::Option("size", true, "4|8", help::SIZE),
+    Argument::Option("order", true, "little|big", help::ORDER),
+];
 
-fn operand<'a>(alloc: Global, name: &'a str, required: bool, help: &'a str) -> Arg<'a>
-    ensures { IsArg (operand required name.entry.now) result }
-{
-    Arg::new(alloc, name)
-        .required(required)
-        .action(ArgAction::Set)
-        .help(help)
-}
+const FILE: Argument = Argument::Operand("FILE", true, help::FILE);
 
-fn operands<'a>(alloc: Global, name: &'a str, help: &'a str) -> Arg<'a>
-    ensures { IsArg (operands name.entry.now) result }
-{
-    Arg::new(alloc, name).action(ArgAction::Append).help(help)
-}
+const HEX: Argument = Argument::Operand("HEX", true, help::HEX);
 
-// A subcommand: its own arguments stand behind the options that each of them has.
-fn subcommand<'a>(
-    alloc: Global,
-    name: Name,
-    text: &'a str,
-    own: Vec<Arg<'a>>,
-) -> Result<Command<'a>, AllocError>
-    ensures { (rules : List Rule) → AllZip IsArg rules own.entry.items → IfOk result (λ c. IsCommand (command text.entry.now rules) c) }
-{
-    let (about, after) = help::of(name);
-    Command::new(alloc, text)
-        .about(about)
-        .after_help(after)
-        .arg(option(alloc, "size", true, "4|8", help::SIZE))?
-        .arg(option(alloc, "order", true, "little|big", help::ORDER))?
-        .args(own)
-}
+const STEPS: Argument = Argument::Option("steps", false, "L", help::STEPS);
+
+const OVER_FILE: &[Argument] = &[FILE];
+
+const AT: &[Argument] = &[FILE, Argument::Operands("ADDRESS", help::ADDRESS)];
+
+const EXPR: &[Argument] = &[Argument::Flag("frame", help::FRAME), HEX];
+
+const NORMAL: &[Argument] = &[Argument::Option("cap", false, "L", help::CAP), FILE];
+
+const SAME: &[Argument] = &[FILE, Argument::Operand("FILE2", true, help::FILE2)];
+
+const EVAL: &[Argument] = &[
+    STEPS,
+    Argument::Option("start", false, "0xV", help::START),
+    HEX,
+    Argument::Operand("DUMP", false, help::DUMP_OF_EVAL),
+];
+
+const UNWIND: &[Argument] = &[
+    Argument::Option("default", true, "same|undefined", help::DEFAULT),
+    STEPS,
+    FILE,
+    Argument::Operand("DUMP", true, help::DUMP),
+];
 
 fn text_of(name: Name) -> &'static str
     ensures { result.now ≡ text_of name }
@@ -100,53 +86,66 @@ fn text_of(name: Name) -> &'static str
     }
 }
 
-fn file<'a>(alloc: Global) -> Arg<'a>
-    ensures { IsArg file result }
+fn arg_of<'a>(alloc: Global, own: Argument) -> Arg<'a>
+    ensures { IsArg (rule_of own) result }
 {
-    operand(alloc, "FILE", true, help::FILE)
+    match own {
+        Argument::Option(name, required, value, help) => Arg::new(alloc, name)
+            .long(name)
+            .required(required)
+            .action(ArgAction::Set)
+            .value_name(value)
+            .help(help),
+        Argument::Flag(name, help) => Arg::new(alloc, name)
+            .long(name)
+            .action(ArgAction::SetTrue)
+            .help(help),
+        Argument::Operand(name, required, help) => Arg::new(alloc, name)
+            .required(required)
+            .action(ArgAction::Set)
+            .help(help),
+        Argument::Operands(name, help) => Arg::new(alloc, name)
+            .action(ArgAction::Append)
+            .help(help),
+    }
 }
 
-fn hex<'a>(alloc: Global) -> Arg<'a>
-    ensures { IsArg (operand true (codes "HEX")) result }
+fn own_args(name: Name) -> &'static [Argument]
+    ensures { (a : App) → with_arguments a result.now ≡ fold with_rule a (own_rules name) }
 {
-    operand(alloc, "HEX", true, help::HEX)
+    match name {
+        Name::At => AT,
+        Name::Eval => EVAL,
+        Name::Expr => EXPR,
+        Name::Normal => NORMAL,
+        Name::Same => SAME,
+        Name::Unwind => UNWIND,
+        _ => OVER_FILE,
+    }
 }
 
-fn steps<'a>(alloc: Global) -> Arg<'a>
-    ensures { IsArg (option false (codes "steps")) result }
+fn add_arguments<'a>(
+    alloc: Global,
+    command: Command<'a>,
+    own: &[Argument],
+) -> Result<Command<'a>, AllocError>
+    ensures { (a : App) → IsCommand a command.entry → IfOk result (λ c. IsCommand (with_arguments a own.now) c) }
 {
-    option(alloc, "steps", false, "L", help::STEPS)
+    let mut command = command;
+    for one in own {
+        command = command.arg(arg_of(alloc, *one))?;
+    }
+    Ok(command)
 }
 
-// The arguments that only this subcommand has. Each is made where it is used: what is owned beside ten ways out is proved for long.
-fn own_args<'a>(alloc: Global, name: Name) -> Result<Vec<Arg<'a>>, AllocError>
-    ensures { IfOk result (λ own. AllZip IsArg (own_rules name) own.items) }
-{
-    let own = match name {
-        Name::At => vec![in alloc; file(alloc), operands(alloc, "ADDRESS", help::ADDRESS)]?,
-        Name::Eval => {
-            let start = option(alloc, "start", false, "0xV", help::START);
-            let dump = operand(alloc, "DUMP", false, help::DUMP_OF_EVAL);
-            vec![in alloc; steps(alloc), start, hex(alloc), dump]?
-        }
-        Name::Expr => vec![in alloc; flag(alloc, "frame", help::FRAME), hex(alloc)]?,
-        Name::Normal => vec![in alloc; option(alloc, "cap", false, "L", help::CAP), file(alloc)]?,
-        Name::Same => vec![in alloc; file(alloc), operand(alloc, "FILE2", true, help::FILE2)]?,
-        Name::Unwind => {
-            let default = option(alloc, "default", true, "same|undefined", help::DEFAULT);
-            let dump = operand(alloc, "DUMP", true, help::DUMP);
-            vec![in alloc; default, steps(alloc), file(alloc), dump]?
-        }
-        _ => vec![in alloc; file(alloc)]?,
-    };
-    Ok(own)
-}
-
+// A subcommand: its own arguments stand behind the options that each of them has.
 fn subcommand_named<'a>(alloc: Global, name: Name) -> Result<Command<'a>, AllocError>
     ensures { IfOk result (λ c. IsCommand (command_named name) c) }
 {
-    let own = own_args(alloc, name)?;
-    subcommand(alloc, name, text_of(name), own)
+    let (about, after) = help::of(name);
+    let text: &'a str = text_of(name);
+    let begun = Command::new(alloc, text).about(about).after_help(after);
+    add_arguments(alloc, add_arguments(alloc, begun, COMMON)?, own_args(name))
 }
 
 // The command with these subcommands, in their order.

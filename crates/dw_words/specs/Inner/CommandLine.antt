@@ -1,13 +1,16 @@
 -- What the code and its proofs say beside CommandLine.
 use Rattle.std.specs.Prelude.{◌≡◌, true, false, List, [], ◌∷◌, Option, Some, None, codes, fold}
-use Rattle.clap.specs.Words.{App, Rule, Text, app_of, new_app, rule_of, with_rule, with_subcommand}
+use Rattle.clap.specs.Words as clap_words
+use Rattle.clap.specs.Words.{App, Rule, Text, app_of, new_app, with_rule, with_subcommand}
 use Rattle.clap.specs.declared.builder.{arg.Arg.Arg, command.Command.Command, command.Command.TheViews.out-Command}
 use Rattle.dw_words.specs.{CommandLine.{dwframe, file, flag, operand, operands, option, program}, Inner.Plan.text_of, declared.request.Name.Name}
+use Rattle.dw_words.specs.declared.command_line.Argument.{Argument}
+use Rattle.dw_words.specs.declared.command_line.Argument.TheVariants as arguments
 use Rattle.dw_words.specs.declared.request.Name.TheVariants as names
 
 -- an argument has this rule, and is no global one
 abbrev pub IsArg : Rule → Arg → Type 0
-IsArg rule a = (rule_of a ≡ rule) × (a.global ≡ false)
+IsArg rule a = (clap_words.rule_of a ≡ rule) × (a.global ≡ false)
 
 -- a command is this one, and has no global argument
 abbrev pub IsCommand : App → Command → Type 0
@@ -27,6 +30,17 @@ own_rules names.Normal = option false (codes "cap") ∷ file ∷ []
 own_rules names.Same = file ∷ operand true (codes "FILE2") ∷ []
 own_rules names.Unwind = option true (codes "default") ∷ option false (codes "steps") ∷ file ∷ operand true (codes "DUMP") ∷ []
 own_rules _ = file ∷ []
+
+-- what the code's table says of an argument
+abbrev pub rule_of : Argument → Rule
+rule_of (arguments.Option name required value help) = option required name.now
+rule_of (arguments.Flag name help) = flag name.now
+rule_of (arguments.Operand name required help) = operand required name.now
+rule_of (arguments.Operands name help) = operands name.now
+
+-- a command with these arguments behind its own
+abbrev pub with_arguments : App → List Argument → App
+with_arguments = fold (λ app own. with_rule app (rule_of own))
 
 abbrev pub command_named : Name → App
 command_named name = command (text_of name) (own_rules name)
