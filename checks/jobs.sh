@@ -1,7 +1,6 @@
 #!/bin/sh
-# How many proofs run side by side: one takes some 2 GB, less than the toolchain reckons with, so as memory has 3 GB for each, and three
-# for four processors: provers slow each other, and what waits for another is not done sooner by a fourth. What the machine has counts,
-# and what the control groups of this process may take (cgroup v2 and v1), as in a container.
+# How many proofs run side by side: one takes some 2 GB, less than the toolchain reckons with, so as many as processors, with 3 GB
+# for each. What the machine has counts, and what the control groups of this process may take (cgroup v2 and v1), as in a container.
 #
 #     jobs.sh [ROOT]      ROOT is a folder with another proc and sys
 set -eu
@@ -51,7 +50,6 @@ limits() {
     !($1 in least) || $2 < least[$1] { least[$1] = $2 }
     END {
         jobs = int(least["kilobytes"] / 3000000)
-        most = int((3 * least["processors"] + 2) / 4)
-        if (jobs > most) jobs = most
+        if (jobs > least["processors"]) jobs = int(least["processors"])
         print (jobs < 1 ? 1 : jobs)
     }'

@@ -41,16 +41,16 @@ mkdir "$folder/tools"
 printf '#!/bin/sh\necho 8\n' >"$folder/tools/nproc"
 chmod +x "$folder/tools/nproc"
 GB=1000000000
-jobs 6 ''
-jobs 6 '0::/\n'
-jobs 6 '0::/a/b\n' a/b/cpu.max 'max 100000' a/b/memory.max max a/b/memory.current $GB
+jobs 8 ''
+jobs 8 '0::/\n'
+jobs 8 '0::/a/b\n' a/b/cpu.max 'max 100000' a/b/memory.max max a/b/memory.current $GB
 jobs 3 '0::/a/b\n' a/b/cpu.max '350000 100000'
 jobs 2 '0::/a/b\n' a/b/cpu.max '350000 100000' a/cpu.max '200000 100000'
 jobs 1 '0::/\n' cpu.max '50000 100000'
 jobs 4 '0::/a\n' a/memory.max $((15 * GB)) a/memory.current $((2 * GB)) a/memory.stat 'anon 5\ninactive_file 1000000000'
 jobs 1 '0::/a\n' memory.max $((2 * GB)) memory.current $GB
-jobs 4 '1:name=systemd:/\n0::/a\n' unified/a/cpu.max '500000 100000'
-jobs 6 '4:cpu,cpuacct:/\n3:memory:/\n' cpu,cpuacct/cpu.cfs_quota_us -1 cpu,cpuacct/cpu.cfs_period_us 100000 memory/memory.limit_in_bytes 9223372036854771712
+jobs 5 '1:name=systemd:/\n0::/a\n' unified/a/cpu.max '500000 100000'
+jobs 8 '4:cpu,cpuacct:/\n3:memory:/\n' cpu,cpuacct/cpu.cfs_quota_us -1 cpu,cpuacct/cpu.cfs_period_us 100000 memory/memory.limit_in_bytes 9223372036854771712
 jobs 2 '4:cpu,cpuacct:/a\n' cpu,cpuacct/a/cpu.cfs_quota_us 200000 cpu,cpuacct/a/cpu.cfs_period_us 100000
 jobs 2 '3:memory:/host/only\n' memory/memory.limit_in_bytes $((9 * GB)) memory/memory.usage_in_bytes $((4 * GB)) \
     memory/memory.stat 'inactive_file 0\ntotal_inactive_file 2000000000'
