@@ -13,9 +13,12 @@ use dw_op::ExprRef;
 use dw_row::{CfaRule, RegRule, Row};
 use std::alloc::AllocError;
 
+/// What is answered where bytes are appended: want of memory, or nothing.
+pub(crate) type Appended = Result<(), AllocError>;
+
 #[inline(always)]
 #[tactic(auto, using(crate::proofs::OneByte::one_byte, dw_num::proofs::Lent::Shortest::puts_uleb))]
-pub(crate) fn push_uleb(out: &mut Vec<u8>, value: u64) -> Result<(), AllocError>
+pub(crate) fn push_uleb(out: &mut Vec<u8>, value: u64) -> Appended
     ensures { OnOk result (out.new.items ≡ out.old.items ++ shortest_uleb value) }
 {
     if value < 128 {
@@ -27,7 +30,7 @@ pub(crate) fn push_uleb(out: &mut Vec<u8>, value: u64) -> Result<(), AllocError>
 
 // Apart from `push_with`, whose numbers are mostly small. Most others have two bytes.
 #[inline(never)]
-fn push_long_with(out: &mut Vec<u8>, code: u8, value: u64) -> Result<(), AllocError>
+fn push_long_with(out: &mut Vec<u8>, code: u8, value: u64) -> Appended
     requires { 128 ≤ value }
     ensures { OnOk result (out.new.items ≡ out.old.items ++ code ∷ shortest_uleb value) }
 {
@@ -44,7 +47,7 @@ fn push_long_with(out: &mut Vec<u8>, code: u8, value: u64) -> Result<(), AllocEr
 
 // Appends a code and the shortest spelling of an unsigned number behind it: mostly two bytes, for which room is made once.
 #[inline(always)]
-fn push_with(out: &mut Vec<u8>, code: u8, value: u64) -> Result<(), AllocError>
+fn push_with(out: &mut Vec<u8>, code: u8, value: u64) -> Appended
     ensures { OnOk result (out.new.items ≡ out.old.items ++ code ∷ shortest_uleb value) }
 {
     if value < 128 {
@@ -57,7 +60,7 @@ fn push_with(out: &mut Vec<u8>, code: u8, value: u64) -> Result<(), AllocError>
 }
 
 #[tactic(auto, using(dw_num::proofs::Lent::Shortest::puts_sleb))]
-fn push_sleb(out: &mut Vec<u8>, value: i64) -> Result<(), AllocError>
+fn push_sleb(out: &mut Vec<u8>, value: i64) -> Appended
     ensures { OnOk result (out.new.items ≡ out.old.items ++ shortest_sleb value) }
 {
     put_sleb(out, value)
@@ -65,12 +68,7 @@ fn push_sleb(out: &mut Vec<u8>, value: i64) -> Result<(), AllocError>
 
 /// Appends a code with the register in it where that is below 64, else another with the register behind it.
 #[inline(always)]
-pub(crate) fn push_packed(
-    out: &mut Vec<u8>,
-    low: u8,
-    code: u8,
-    register: u16,
-) -> Result<(), AllocError>
+pub(crate) fn push_packed(out: &mut Vec<u8>, low: u8, code: u8, register: u16) -> Appended
     requires { low < 193 }
     ensures { OnOk result (out.new.items ≡ out.old.items ++ packed low code register) }
 {
@@ -85,7 +83,7 @@ pub(crate) fn push_packed(
 // Appends what moves the location far. Apart from `push_move`, whose advances are mostly short.
 #[inline(never)]
 #[tactic(auto, unfolding(dw_canon::specs::Spelling::instr_bytes))]
-fn push_far_move(out: &mut Vec<u8>, from: u64, to: u64, target: Target) -> Result<(), AllocError>
+fn push_far_move(out: &mut Vec<u8>, from: u64, to: u64, target: Target) -> Appended
     requires far { from + 64 ≤ to }
     requires in_space { to < address_limit target.size }
     ensures { OnOk result (out.new.items ≡ out.old.items ++ instr_bytes target (move from to)) }
@@ -113,12 +111,7 @@ fn push_far_move(out: &mut Vec<u8>, from: u64, to: u64, target: Target) -> Resul
 /// Appends what moves the location, mostly by a few bytes.
 #[inline(always)]
 #[tactic(auto, unfolding(dw_canon::specs::Spelling::instr_bytes))]
-pub(crate) fn push_move(
-    out: &mut Vec<u8>,
-    from: u64,
-    to: u64,
-    target: Target,
-) -> Result<(), AllocError>
+pub(crate) fn push_move(out: &mut Vec<u8>, from: u64, to: u64, target: Target) -> Appended
     requires rises { from < to }
     requires in_space { to < address_limit target.size }
     ensures { OnOk result (out.new.items ≡ out.old.items ++ instr_bytes target (move from to)) }
@@ -130,11 +123,7 @@ pub(crate) fn push_move(
     push_far_move(out, from, to, target)
 }
 
-fn push_expression(
-    out: &mut Vec<u8>,
-    expression: &ExprRef<'_>,
-    target: Target,
-) -> Result<(), AllocError>
+fn push_expression(out: &mut Vec<u8>, expression: &ExprRef<'_>, target: Target) -> Appended
     requires { HasBlock target expression.now }
     ensures { OnOk result (out.new.items ≡ out.old.items ++ expression_bytes target expression.now) }
 {
@@ -142,17 +131,50 @@ fn push_expression(
     expression.put_least(out)
 }
 
+// Appends a code, a register and an expression.
+#[inline(always)]
+fn push_block(
+    out: &mut Vec<u8>,
+    code: u8,
+    register: u16,
+    block: &ExprRef<'_>,
+    target: Target,
+) -> Appended
+    requires { HasBlock target block.now }
+    ensures { OnOk result (out.new.items ≡ out.old.items ++ code ∷ (shortest_uleb register ++ expression_bytes target block.now)) }
+{
+    push_with(out, code, u64::from(register))?;
+    push_expression(out, block, target)
+}
+
+// Appends a code, a register and an unsigned number.
+#[inline(always)]
+fn push_both(out: &mut Vec<u8>, code: u8, register: u16, value: u64) -> Appended
+    ensures { OnOk result (out.new.items ≡ out.old.items ++ code ∷ (shortest_uleb register ++ shortest_uleb value)) }
+{
+    push_with(out, code, u64::from(register))?;
+    push_uleb(out, value)
+}
+
+// Appends a code, a register and a signed number.
+#[inline(always)]
+fn push_signed(out: &mut Vec<u8>, code: u8, register: u16, value: i64) -> Appended
+    ensures { OnOk result (out.new.items ≡ out.old.items ++ code ∷ (shortest_uleb register ++ shortest_sleb value)) }
+{
+    push_with(out, code, u64::from(register))?;
+    push_sleb(out, value)
+}
+
 /// Appends a register that is saved at an offset from the CFA.
 #[inline(always)]
-pub(crate) fn push_offset(out: &mut Vec<u8>, register: u16, offset: i64) -> Result<(), AllocError>
+pub(crate) fn push_offset(out: &mut Vec<u8>, register: u16, offset: i64) -> Appended
     requires { IsOffset offset }
     ensures { OnOk result (out.new.items ≡ out.old.items ++ (if is_positive offset
         then 0x11 ∷ (shortest_uleb register ++ shortest_sleb (neg_ℤ offset))
         else packed 0x80 0x05 register ++ shortest_uleb (unsigned_abs offset))) }
 {
     if offset > 0 {
-        push_with(out, 0x11, u64::from(register))?;
-        return push_sleb(out, -offset);
+        return push_signed(out, 0x11, register, -offset);
     }
     if register < 64 {
         return push_with(out, 0x80 + register as u8, offset.unsigned_abs());
@@ -163,51 +185,26 @@ pub(crate) fn push_offset(out: &mut Vec<u8>, register: u16, offset: i64) -> Resu
 
 /// Appends what gives a register its rule of a row. Out of line: room for a rule is cleared at each register else.
 #[inline(never)]
-pub(crate) fn push_rule(
-    out: &mut Vec<u8>,
-    row: &Row<'_>,
-    register: u16,
-    target: Target,
-) -> Result<(), AllocError>
+pub(crate) fn push_rule(out: &mut Vec<u8>, row: &Row<'_>, register: u16, target: Target) -> Appended
     requires { RuleFits target (rule row.now register) }
     ensures { OnOk result (out.new.items ≡ out.old.items ++ rule_bytes target register (rule row.now register)) }
 {
-    let number = u64::from(register);
     match &row.rule(register) {
         RegRule::Unspecified => Ok(()),
-        RegRule::Undefined => push_with(out, 0x07, number),
-        RegRule::SameValue => push_with(out, 0x08, number),
+        RegRule::Undefined => push_with(out, 0x07, u64::from(register)),
+        RegRule::SameValue => push_with(out, 0x08, u64::from(register)),
         RegRule::Offset(offset) => push_offset(out, register, *offset),
-        RegRule::ValOffset(offset) if *offset > 0 => {
-            push_with(out, 0x15, number)?;
-            push_sleb(out, -*offset)
-        }
-        RegRule::ValOffset(offset) => {
-            push_with(out, 0x14, number)?;
-            push_uleb(out, offset.unsigned_abs())
-        }
-        RegRule::Register(other) => {
-            push_with(out, 0x09, number)?;
-            push_uleb(out, u64::from(*other))
-        }
-        RegRule::Expression(expression) => {
-            push_with(out, 0x10, number)?;
-            push_expression(out, expression, target)
-        }
-        RegRule::ValExpression(expression) => {
-            push_with(out, 0x16, number)?;
-            push_expression(out, expression, target)
-        }
+        RegRule::ValOffset(offset) if *offset > 0 => push_signed(out, 0x15, register, -*offset),
+        RegRule::ValOffset(offset) => push_both(out, 0x14, register, offset.unsigned_abs()),
+        RegRule::Register(other) => push_both(out, 0x09, register, u64::from(*other)),
+        RegRule::Expression(block) => push_block(out, 0x10, register, block, target),
+        RegRule::ValExpression(block) => push_block(out, 0x16, register, block, target),
     }
 }
 
 #[inline(always)]
 #[tactic(auto, unfolding(dw_canon::specs::Spelling::instr_bytes))]
-pub(crate) fn push_cfa_offset(
-    out: &mut Vec<u8>,
-    offset: i64,
-    target: Target,
-) -> Result<(), AllocError>
+pub(crate) fn push_cfa_offset(out: &mut Vec<u8>, offset: i64, target: Target) -> Appended
     requires { InstrFits target (DefCfaOffset offset) }
     ensures { OnOk result (out.new.items ≡ out.old.items ++ instr_bytes target (DefCfaOffset offset)) }
 {
@@ -233,7 +230,7 @@ pub(crate) fn push_other_cfa(
     old: &CfaRule<'_>,
     new: &CfaRule<'_>,
     target: Target,
-) -> Result<(), AllocError>
+) -> Appended
     requires { AllByRecursion (InstrFits target) (cfa_difference old.now new.now) }
     ensures { OnOk result (out.new.items ≡ out.old.items ++ program_bytes target (cfa_difference old.now new.now)) }
 {
@@ -253,14 +250,8 @@ pub(crate) fn push_other_cfa(
             CfaRule::Register { offset: n, .. } if *n == *offset => {
                 push_with(out, 0x0d, u64::from(*register))
             }
-            _ if *offset < 0 => {
-                push_with(out, 0x12, u64::from(*register))?;
-                push_sleb(out, -*offset)
-            }
-            _ => {
-                push_with(out, 0x0c, u64::from(*register))?;
-                push_uleb(out, offset.unsigned_abs())
-            }
+            _ if *offset < 0 => push_signed(out, 0x12, *register, -*offset),
+            _ => push_both(out, 0x0c, *register, offset.unsigned_abs()),
         },
     }
 }

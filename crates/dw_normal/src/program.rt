@@ -8,7 +8,7 @@ ghost use Rattle.dw_normal.specs.Inner.{Differences.Tells};
 
 use crate::apart::{Apart, Differences};
 use crate::instruction::{
-    push_cfa_offset, push_move, push_offset, push_other_cfa, push_packed, push_rule,
+    Appended, push_cfa_offset, push_move, push_offset, push_other_cfa, push_packed, push_rule,
 };
 use dw_num::Target;
 use dw_row::{CfaRule, Row};
@@ -17,12 +17,7 @@ use std::alloc::AllocError;
 
 // Appends what leads from the CFA's rule of one row to that of another: mostly another offset from the same register.
 #[inline(always)]
-fn push_cfa<'a>(
-    out: &mut Vec<u8>,
-    before: &Row<'a>,
-    after: &Row<'a>,
-    target: Target,
-) -> Result<(), AllocError>
+fn push_cfa(out: &mut Vec<u8>, before: &Row<'_>, after: &Row<'_>, target: Target) -> Appended
     requires { AllByRecursion (InstrFits target) (cfa_difference before.now.cfa after.now.cfa) }
     ensures { OnOk result (out.new.items ≡ out.old.items ++ program_bytes target (cfa_difference before.now.cfa after.now.cfa)) }
 {
@@ -72,7 +67,7 @@ fn push_register<'a>(
     row: &Row<'a>,
     register: u16,
     target: Target,
-) -> Result<(), AllocError>
+) -> Appended
     requires { InstrFits target (rule_to shared.now register (rule row.now register)) }
     ensures { OnOk result (out.new.items ≡ out.old.items ++ instr_bytes target (rule_to shared.now register (rule row.now register))) }
 {
@@ -97,7 +92,7 @@ pub(crate) fn push_difference<'a>(
     after: &Row<'a>,
     differences: Differences<'_, 'a>,
     target: Target,
-) -> Result<(), AllocError>
+) -> Appended
     requires tells { Tells differences before.now after.now }
     requires fits { AllByRecursion (InstrFits target) (difference shared.now before.now after.now) }
     ensures { OnOk result (out.new.items ≡ out.old.items ++ program_bytes target (difference shared.now before.now after.now)) }
@@ -119,7 +114,7 @@ pub(crate) fn push_first<'a>(
     changes: &Changes<'a>,
     apart: &Apart<'a>,
     target: Target,
-) -> Result<(), AllocError>
+) -> Appended
     requires shown { IsShown changes.now }
     requires apart { StandsApart apart.now shared.now (shown_row changes.now) }
     requires fits { AllByRecursion (InstrFits target) (difference shared.now shared.now (shown_row changes.now)) }
