@@ -313,7 +313,7 @@ def gone_back_lines(cfa, rules):
     third = {register: rule for register, rule in second.items() if register != 128}
     rows = [row_text((cfa, of_row), 8, "little") for of_row in (third, second, rules, rules)]
     backs = zip(ok_lines(["true", "true", "false"]), rows[1:])
-    return ["Ok(())", "Ok(())", rows[0], *(line for back in backs for line in back)]
+    return [*["Ok(())"] * 6, rows[0], *(line for back in backs for line in back)]
 
 
 def state_lines():

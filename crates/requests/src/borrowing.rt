@@ -5,7 +5,7 @@ use crate::answers::{say, taken};
 use dw_op::ExprRef;
 use std::hash::{DefaultHasher, Hash, Hasher};
 
-const BLOCKS: [&[u8]; 7] = [
+const BLOCKS: &[&[u8]] = &[
     b"\x2f\x12\x00\x0e\x05\0\0\0\0\0\0\0\x0e\x06\0\0\0\0\0\0\0\x37",
     b"\x2f\x02\x00\x35\x36\x37",
     b"\x92\x07\x08\x06",

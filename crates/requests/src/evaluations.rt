@@ -10,7 +10,7 @@ use dw_op::{OpList, Profile, decode};
 use dw_unwind::{Dump, DumpMemory};
 
 // With ranges in order, with ranges that have to be sorted, and with a byte that is given twice.
-const DUMPS: [&[u8]; 5] = [
+const DUMPS: &[&[u8]] = &[
     b"",
     b"pc 0x401004\nr6 0x7ffe00\nr7 0x7ffdf0\nmem 0x7ffe00 00020000000000008812400000000000",
     b"pc 0x1000\nr3 0x33\nr7 0x2000\nr300 0x1",
@@ -22,13 +22,13 @@ const DUMPS: [&[u8]; 5] = [
 const OVER: &[u8] = b"r7 0x1000\nmem 0x1008 2a00000000000000";
 
 // A read of memory, a countdown, and a loop that pushes until its steps are taken.
-const EXPRESSIONS: [&[u8]; 3] = [
+const EXPRESSIONS: &[&[u8]] = &[
     b"\x77\x08\x06",
     b"\x3a\x31\x1c\x12\x28\xfa\xff",
     b"\x30\x2f\xfc\xff",
 ];
 
-const LOCATIONS: [&[u8]; 4] = [
+const LOCATIONS: &[&[u8]] = &[
     b"\x53\x93\x08\x77\x08\x93\x04",
     b"\x9e\x02\xaa\xbb\x93\x02",
     b"\x31\x9f",
@@ -94,10 +94,11 @@ fn each(rt: &HostRuntime, call: &str, dump: &mut Dump, blocks: &[&[u8]]) {
 
 pub fn all(rt: &HostRuntime, call: &str) {
     if let Some(mut dump) = taken(rt, Dump::parse(rt.alloc(), OVER, TARGET)) {
-        if call == "evaluate" {
-            each(rt, call, &mut dump, &EXPRESSIONS);
+        let blocks = if call == "evaluate" {
+            EXPRESSIONS
         } else {
-            each(rt, call, &mut dump, &LOCATIONS);
-        }
+            LOCATIONS
+        };
+        each(rt, call, &mut dump, blocks);
     }
 }

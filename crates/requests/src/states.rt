@@ -1,12 +1,11 @@
 //! The calls that set registers of a row, copy one, and go back to remembered ones. Where memory runs out a register keeps its rule.
 
-ghost use Rattle.std.specs.Prelude.{◌<◌, length, IfOk, ◌≡◌};
+ghost use Rattle.std.specs.Prelude.{◌<◌, length};
 
 use crate::TARGET;
 use crate::answers::{changed, say, taken, told};
 use dw_op::ExprRef;
 use dw_row::{CfaRule, RegRule, Row, States};
-use std::alloc::AllocError;
 
 // Gives a register of a row a rule, and tells whether it has it. A refused call leaves the row, of which a copy is lent.
 fn set_beside<'a>(
@@ -49,21 +48,24 @@ fn back(rt: &HostRuntime, states: &mut States<'_>) {
 }
 
 // Remembers a row, gives three registers other rules, and remembers that row too.
-fn remember<'a>(states: &mut States<'a>, expression: &ExprRef<'a>) -> Result<(), AllocError>
+fn remember<'a>(rt: &HostRuntime, states: &mut States<'a>, expression: &ExprRef<'a>) -> bool
     requires { length states.old.stack < 63 }
 {
-    states.remember()?;
-    states.set(6, RegRule::Expression(expression.copied()))?;
-    states.set(128, RegRule::Expression(expression.copied()))?;
-    states.set(300, RegRule::Undefined)?;
-    states.remember()
+    told(rt, states.remember())
+        && told(rt, states.set(6, RegRule::Expression(expression.copied())))
+        && told(
+            rt,
+            states.set(128, RegRule::Expression(expression.copied())),
+        )
+        && told(rt, states.set(300, RegRule::Undefined))
+        && told(rt, states.remember())
 }
 
 // Goes back to the rows that it remembered.
 fn go_back<'a>(rt: &HostRuntime, states: &mut States<'a>, expression: &ExprRef<'a>)
     requires { length states.old.stack < 63 }
 {
-    if told(rt, remember(states, expression)) && told(rt, states.set(128, RegRule::Unspecified)) {
+    if remember(rt, states, expression) && told(rt, states.set(128, RegRule::Unspecified)) {
         say(rt, states.row());
         back(rt, states);
     }
@@ -90,6 +92,9 @@ fn from_filled<'a>(rt: &HostRuntime, expression: &ExprRef<'a>) {
     if fill(rt, &mut row, expression) && copied(rt, &mut copy, &row) {
         from(rt, row, false, expression);
         from(rt, copy, true, expression);
+    } else {
+        drop(row);
+        drop(copy);
     }
 }
 
