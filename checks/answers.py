@@ -142,8 +142,8 @@ def of_command(words):
 # ---- of REQUESTS, over a section
 
 
-def listed(data):
-    return f"[{', '.join(map(str, data))}]"
+def listed(values):
+    return f"[{', '.join(map(str, values))}]"
 
 
 def program_text(program):
@@ -160,32 +160,54 @@ def header_text(entry):
     return f"{type(entry).__name__} {{ {fields}, program: {program_text(entry.program)} }}"
 
 
+def ok_lines(values):
+    return [f"Ok({value})" for value in values]
+
+
+RULES = {
+    "undefined": "Undefined",
+    "same": "SameValue",
+    "offset": "Offset",
+    "val_offset": "ValOffset",
+    "register": "Register",
+    "expression": "Expression",
+    "val_expression": "ValExpression",
+}
+
+
+def expression_text(ops, size, order):
+    target = f"Target {{ size: {'Four' if size == 4 else 'Eight'}, order: {order.capitalize()} }}"
+    return f"ExprRef {{ target: {target}, bytes: {listed(ops.block)} }}"
+
+
 def rule_text(rule, size, order):
-    kind, value = rule[0], rule[-1]
-    if kind in ("undefined", "same"):
-        return kind
-    if kind == "register":
-        return f"in r{value}"
+    kind, operands = rule[0], rule[1:]
     if kind in ("expression", "val_expression"):
-        value = len(least_block(value, size, order))
-    return f"{'is' if kind.startswith('val') else 'at'} {value}"
+        operands = (expression_text(operands[0], size, order),)
+    return f"{RULES[kind]}({operands[0]})" if operands else RULES[kind]
 
 
-def row_lines(at, row, size, order):
-    cfa, rules = row
+def cfa_text(cfa, size, order):
     if cfa is None:
-        first = f"{at} unset"
-    elif cfa[0] == "expr":
-        first = f"{at} expression {len(least_block(cfa[1], size, order))}"
-    else:
-        first = f"{at} r{cfa[1]} {cfa[2]}"
-    return [first, *(f"  r{register} {rule_text(rule, size, order)}" for register, rule in rules.items())]
+        return "Unset"
+    if cfa[0] == "expr":
+        return f"Expression({expression_text(cfa[1], size, order)})"
+    return f"Register {{ register: {cfa[1]}, offset: {cfa[2]} }}"
 
 
-def nine_lines(rows, size, order):
-    """Nine answers: rows, and behind them that there are no more."""
-    lines = [row_lines(at, row, size, order) for at, row in rows]
-    return [line for answer in (lines + [["end"]] * 9)[:9] for line in answer]
+def row_text(row, size, order):
+    cfa, rules = row
+    told = "".join(f" {register}: {rule_text(rule, size, order)}," for register, rule in rules.items())
+    return f"Row {{ cfa: {cfa_text(cfa, size, order)}, registers: {{{told} }} }}"
+
+
+def located_text(at, row, size, order):
+    return f"LocatedRow {{ location: {at}, row: {row_text(row, size, order)} }}"
+
+
+def nine_lines(texts):
+    """Nine answers: what there is, and behind it that there is no more."""
+    return ok_lines([*(f"Some({text})" for text in texts), *["None"] * 9][:9])
 
 
 def address_lines(section):
@@ -193,20 +215,41 @@ def address_lines(section):
     for fde in section.fdes():
         for address in range(fde.begin, fde.begin + 17):
             found = [other for other in section.fdes() if other.begin <= address < other.end]
-            if found:
-                yield from row_lines(address, reader.row_at(found[0], address), section.size, section.order)
-            else:
-                yield f"{address} none"
+            rows = [row_text(reader.row_at(other, address), section.size, section.order) for other in found]
+            yield from (str(address), f"Ok(Some({rows[0]}))" if rows else "Ok(None)")
+
+
+def change_lines(section):
+    for fde in section.fdes():
+        changes = [(at, row_text(row, section.size, section.order)) for at, row in reader.changes(fde)]
+        yield from nine_lines(f"({at}, {row})" for at, row in changes)
+
+
+def walk_lines(rows, size, order):
+    """The first row's address, that the CIE's row is kept, and nine answers, each address with its row."""
+    answers = nine_lines(at for at, _ in rows)
+    lines = [answers[0], "Ok(true)"]
+    for answer, (_, row) in zip(answers, rows):
+        lines += [answer, row_text(row, size, order)]
+    return lines + answers[len(rows) :]
 
 
 def program_lines(call, fde, size, order):
-    if call == "run":
-        return [line for at, row in rows_of(fde) for line in row_lines(at, row, size, order)]
-    if call in ("become_initial", "copied"):
-        return row_lines(0, Machine(fde.cie).row(), size, order)
-    if call == "lacks_rule":
-        return ["false", "false"]
-    return nine_lines(rows_of(fde), size, order)
+    rows = rows_of(fde)
+    located = [located_text(at, row, size, order) for at, row in rows]
+    initial = row_text(Machine(fde.cie).row(), size, order)
+    return {
+        "run": ok_lines([listed(located)]),
+        "row_steps": nine_lines(located),
+        "row_walk": walk_lines(rows, size, order),
+        "become_initial": ["Ok(())", initial],
+        "copied": ["Ok(())", f"Ok({initial})"],
+        "lacks_rule": ["Ok(false)", "Ok(false)"],
+    }[call]
+
+
+def lent_lines(put):
+    return ["Ok(())", listed(b"lent" + put)]
 
 
 def op_debug(op):
@@ -215,10 +258,13 @@ def op_debug(op):
 
 
 def expression_lines(call, ops, size, order):
-    if call in ("decode", "ops"):
-        return [op_debug(op) for op in ops]
-    lent = b"lent" if call == "put_least" else b""
-    return [listed(lent + least_block(ops, size, order))]
+    block = least_block(ops, size, order)
+    return {
+        "decode": [listed(map(op_debug, ops))],
+        "ops": [listed(map(op_debug, ops))],
+        "encode": ok_lines([listed(block)]),
+        "put_least": lent_lines(block),
+    }[call]
 
 
 def expressions_of(entry):
@@ -232,11 +278,11 @@ def expressions_of(entry):
 def of_section(call, section):
     size, order = section.size, section.order
     if call == "headers":
-        return [header_text(entry) for entry in section.entries]
+        return ok_lines([listed(map(header_text, section.entries))])
     if call == "row_at":
         return list(address_lines(section))
     if call == "changes":
-        return [line for fde in section.fdes() for line in nine_lines(reader.changes(fde), size, order)]
+        return list(change_lines(section))
     if call in EXPRESSION_CALLS:
         found = [ops for entry in section.entries for ops in expressions_of(entry)]
         return [line for ops in found for line in expression_lines(call, ops, size, order)]
@@ -246,8 +292,8 @@ def of_section(call, section):
 
 # The answers of calls on normal forms, of the normal form.
 NORMAL_ANSWERS = {
-    "normalise": lambda normal: [listed(normal)],
-    "normalise_to": lambda normal: [str(len(normal)), listed(normal)],
+    "normalise": lambda normal: ok_lines([listed(normal)]),
+    "normalise_to": lambda normal: [f"Ok({len(normal)})", listed(normal)],
 }
 
 # ---- of REQUESTS, over worked data
@@ -257,39 +303,54 @@ EXPRESSION_CALLS = ["decode", "encode", "ops", "put_least"]
 CIE_PROGRAMS = ["0c07089001", "0c070880018101820183018401850186018701880189018a019001"]
 FDE_PROGRAM = "4180018101820183018401850186018701880189018a01440a0703420b43"
 WORKED_BLOCKS = [*list(BLOCKS)[:1], "0e050000000000000092070806", "92070806", "770806"]
-FULL_ROW = ["0 expression 3", "  r6 at -16", "  r16 at 3", "  r128 is 1099511627776", "  r65535 is 3"]
-NEXT_ROW = ["0 expression 3", "  r6 at 3", "  r16 at 3", "  r128 at 3", "  r300 undefined", "  r65535 is 3"]
-# Back from a third row to the second, to the first, and to none that is remembered.
-GONE_BACK = [*NEXT_ROW[:3], *NEXT_ROW[4:], "true", *NEXT_ROW, "true", *FULL_ROW, "false", *FULL_ROW]
-NEXT_OF_BLANK = ["0 unset", "  r6 at 3", "  r300 undefined", "true", "0 unset", "  r6 at 3", "  r128 at 3", "  r300 undefined"]
+READ = ("expression", reader.operations(bytes.fromhex("770806"), 8, "little"))
+FULL = {6: ("offset", -16), 16: READ, 128: ("val_offset", 0x10000000000), 65535: ("val_expression", READ[1])}
+
+
+def gone_back_lines(cfa, rules):
+    """Back from a third row to the second, to the first, and to none that is remembered."""
+    second = dict(sorted({**rules, 6: READ, 128: READ, 300: ("undefined",)}.items()))
+    third = {register: rule for register, rule in second.items() if register != 128}
+    rows = [row_text((cfa, of_row), 8, "little") for of_row in (third, second, rules, rules)]
+    backs = zip(ok_lines(["true", "true", "false"]), rows[1:])
+    return [*["Ok(())"] * 6, rows[0], *(line for back in backs for line in back)]
+
+
+def state_lines():
+    cfa = ("expr", READ[1])
+    filled = ["Ok(())"] * 6 + [row_text((cfa, FULL), 8, "little")]
+    return gone_back_lines(None, {}) + filled + gone_back_lines(cfa, FULL) * 2
+
+
 WORKED = {
     "none": [],
     "numbers": [
-        listed(b"lent" + bytes.fromhex(spelling))
+        line
         for spelling in ("ffffffffffffffffff01", "8080808080808080807f", "0102030405060708")
+        for line in lent_lines(bytes.fromhex(spelling))
     ],
     "dumps": [
-        "None None None",
+        "(None, None, None)",
         "Err(Unreadable)",
-        "Some(4198404) Some(8388080) None",
+        "(Some(4198404), Some(8388080), None)",
         "Err(Unreadable)",
-        "Some(4096) Some(8192) Some(1)",
+        "(Some(4096), Some(8192), Some(1))",
         "Err(Unreadable)",
-        "None Some(4096) None",
+        "(None, Some(4096), None)",
         "Ok(42)",
-        "DumpFault { code: Repeated, line: 4 }",
+        "Fault(DumpFault { code: Repeated, line: 4 })",
     ],
-    "registers": [f"{register} Some(5)" for register in (1, 2, 40, 300, 65535)],
-    "states": [*NEXT_OF_BLANK, "true", "0 unset", "false", "0 unset", "6", "16", "128", "65535", *FULL_ROW, *GONE_BACK, *GONE_BACK],
-    "evaluate": ["42", "Ok(42)", "0", "Ok(42)", "StepLimit at 0", "Ok(42)"],
+    "registers": [line for register in (1, 2, 40, 300, 65535) for line in ("Ok(())", f"({register}, Some(5))")],
+    "states": state_lines(),
+    "evaluate": ["Ok(42)", "Ok(42)", "Ok(0)", "Ok(42)", "Err(Fault { kind: StepLimit, index: 0 })", "Ok(42)"],
     "locate": [
-        "[Piece { place: Register(3), part: Bytes(8) }, Piece { place: Memory(4104), part: Bytes(4) }]",
+        "Ok([Piece { place: Register(3), part: Bytes(8) }, Piece { place: Memory(4104), part: Bytes(4) }])",
         "Ok(42)",
-        "[Piece { place: Bytes([170, 187]), part: Bytes(2) }]",
+        "Ok([Piece { place: Bytes([170, 187]), part: Bytes(2) }])",
         "Ok(42)",
-        "[Piece { place: Value(1), part: Whole }]",
+        "Ok([Piece { place: Value(1), part: Whole }])",
         "Ok(42)",
-        "[Piece { place: Empty, part: Whole }]",
+        "Ok([Piece { place: Empty, part: Whole }])",
         "Ok(42)",
     ],
 }

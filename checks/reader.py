@@ -92,6 +92,12 @@ def operands(code, front):
     raise ValueError(f"operation {code:#x}")
 
 
+class Operations(tuple):
+    """The operations of a block, and the block."""
+
+    block = b""
+
+
 def operations(block, size, order):
     """The operations of a block, each branch with the index of the operation that it goes to."""
     front = Bytes(block, 0, len(block), size, order)
@@ -101,9 +107,11 @@ def operations(block, size, order):
         found.append(operands(front.number(1), front))
         ends.append(front.at)
     starts.append(front.at)
-    return tuple(
+    ops = Operations(
         (op[0], starts.index(end + op[1])) if op[0] in BRANCHES.values() else op for op, end in zip(found, ends)
     )
+    ops.block = block
+    return ops
 
 
 def op_text(op):

@@ -11,6 +11,7 @@ calls on borrowed expressions, and frames by an index, may make no request at al
 """
 import os
 import pathlib
+import re
 import subprocess
 import sys
 import tempfile
@@ -24,8 +25,10 @@ WORKED_CALLS = [*PROGRAM_CALLS, *EXPRESSION_CALLS, "numbers", "dumps", "register
 NORMAL_CALLS = ["normalise", "normalise_to"]
 EVALUATIONS = [["770806", "registers.dump"], ["3a311c1228faff"]]
 OUT_OF_MEMORY = (5, b"", b"out of memory\n")
+# How REQUESTS prints an error that tells that memory ran out. The tape that a normal form is written to fails for no other reason.
+WANT = re.compile(rb"(Err\()?(OutOfMemory|AllocError|(Write|Memory) \{ written: \d+ \})\)?")
 # At the last address of the one FDE three registers: the two that are given, and the return address's.
-FRAMES_OF_PLAIN = b"0x40100f 3\n"
+FRAMES_OF_PLAIN = b"(4198415, 3)\n"
 
 
 class Tally:
@@ -108,7 +111,7 @@ def is_call_answer(answer, ordinary):
     ended = b"OutOfMemory" in err or b"AllocError" in err
     told = ended
     for line in out.splitlines():
-        if line == b"out of memory":
+        if WANT.fullmatch(line):
             told = True
         elif line not in rest:
             return False

@@ -1,11 +1,11 @@
 //! The calls on borrowed expressions that take no memory.
 
 use crate::TARGET;
+use crate::answers::{say, taken};
 use dw_op::ExprRef;
 use std::hash::{DefaultHasher, Hash, Hasher};
-use std::test::Fail;
 
-const BLOCKS: [&[u8]; 7] = [
+const BLOCKS: &[&[u8]] = &[
     b"\x2f\x12\x00\x0e\x05\0\0\0\0\0\0\0\x0e\x06\0\0\0\0\0\0\0\x37",
     b"\x2f\x02\x00\x35\x36\x37",
     b"\x92\x07\x08\x06",
@@ -21,28 +21,25 @@ fn hash_of(expression: &ExprRef<'_>) -> u64 {
     state.finish()
 }
 
-fn print_pair(rt: &impl Print, first: &ExprRef<'_>, second: &ExprRef<'_>) -> Result<(), Fail> {
+fn print_pair(rt: &HostRuntime, first: &ExprRef<'_>, second: &ExprRef<'_>) {
     let equal = *first == *second;
     let alike = hash_of(first) == hash_of(second);
-    let lengths = (first.least_len(), second.least_len());
-    Ok(println!(rt; "{equal} {alike} {} {}", lengths.0, lengths.1)?)
+    say(rt, &(equal, alike, first.least_len(), second.least_len()));
 }
 
-fn pair(rt: &impl Print, a: &[u8], b: &[u8]) -> Result<(), Fail> {
-    match (ExprRef::accept(a, TARGET), ExprRef::accept(b, TARGET)) {
-        (Ok(first), Ok(second)) => print_pair(rt, &first, &second),
-        (Err(refusal), _) | (Ok(_), Err(refusal)) => {
-            Ok(println!(rt; "{} at {}", refusal.code.name(), refusal.at)?)
+fn beside_each(rt: &HostRuntime, first: &ExprRef<'_>) {
+    for block in BLOCKS {
+        if let Some(second) = taken(rt, ExprRef::accept(block, TARGET)) {
+            print_pair(rt, first, &second);
         }
     }
 }
 
-/// Accepts, compares and hashes each pair of blocks.
-pub fn all(rt: &impl Print) -> Result<(), Fail> {
-    for a in BLOCKS {
-        for b in BLOCKS {
-            pair(rt, a, b)?;
+/// Accepts each block, and compares and hashes it and each other.
+pub fn all(rt: &HostRuntime) {
+    for block in BLOCKS {
+        if let Some(first) = taken(rt, ExprRef::accept(block, TARGET)) {
+            beside_each(rt, &first);
         }
     }
-    Ok(())
 }

@@ -2,16 +2,15 @@
 
 ghost use Rattle.std.specs.Prelude.{◌≡◌};
 
-use crate::{Calls, TARGET};
-use dw_eval::{Env, EvalError, Memory, evaluate, locate};
+use crate::TARGET;
+use crate::answers::{say, taken, told};
+use dw_eval::{Env, Memory, evaluate, locate};
 use dw_num::Order;
 use dw_op::{OpList, Profile, decode};
-use dw_unwind::{Dump, DumpError, DumpMemory};
-use std::io;
-use std::test::Fail;
+use dw_unwind::{Dump, DumpMemory};
 
 // With ranges in order, with ranges that have to be sorted, and with a byte that is given twice.
-const DUMPS: [&[u8]; 5] = [
+const DUMPS: &[&[u8]] = &[
     b"",
     b"pc 0x401004\nr6 0x7ffe00\nr7 0x7ffdf0\nmem 0x7ffe00 00020000000000008812400000000000",
     b"pc 0x1000\nr3 0x33\nr7 0x2000\nr300 0x1",
@@ -23,13 +22,13 @@ const DUMPS: [&[u8]; 5] = [
 const OVER: &[u8] = b"r7 0x1000\nmem 0x1008 2a00000000000000";
 
 // A read of memory, a countdown, and a loop that pushes until its steps are taken.
-const EXPRESSIONS: [&[u8]; 3] = [
+const EXPRESSIONS: &[&[u8]] = &[
     b"\x77\x08\x06",
     b"\x3a\x31\x1c\x12\x28\xfa\xff",
     b"\x30\x2f\xfc\xff",
 ];
 
-const LOCATIONS: [&[u8]; 4] = [
+const LOCATIONS: &[&[u8]] = &[
     b"\x53\x93\x08\x77\x08\x93\x04",
     b"\x9e\x02\xaa\xbb\x93\x02",
     b"\x31\x9f",
@@ -38,67 +37,42 @@ const LOCATIONS: [&[u8]; 4] = [
 
 const STEPS: u64 = 100;
 
-fn read(rt: &impl Calls, memory: &mut DumpMemory) -> io::Result<()> {
-    println!(rt; "{:?}", memory.read(0x1008, 8, Order::Little))
+fn read(rt: &HostRuntime, memory: &mut DumpMemory) {
+    told(rt, memory.read(0x1008, 8, Order::Little));
 }
 
-fn print_parts(rt: &impl Calls, dump: &mut Dump) -> Result<(), Fail> {
-    let registers = (dump.registers.get(7), dump.registers.get(300));
-    println!(rt; "{:?} {:?} {:?}", dump.pc, registers.0, registers.1)?;
-    Ok(read(rt, &mut dump.memory)?)
+fn print_parts(rt: &HostRuntime, dump: &mut Dump) {
+    let (seven, far) = (dump.registers.get(7), dump.registers.get(300));
+    say(rt, &(dump.pc, seven, far));
+    read(rt, &mut dump.memory);
 }
 
-fn print_dump(rt: &impl Calls, text: &[u8]) -> Result<(), Fail> {
-    match Dump::parse(rt.alloc(), text, TARGET) {
-        Err(DumpError::Fault(fault)) => Ok(println!(rt; "{fault:?}")?),
-        answer => print_parts(rt, &mut answer?),
-    }
-}
-
-pub fn dumps(rt: &impl Calls) -> Result<(), Fail> {
+pub fn dumps(rt: &HostRuntime) {
     for text in DUMPS {
-        print_dump(rt, text)?;
-    }
-    Ok(())
-}
-
-fn tell(rt: &impl Calls, error: EvalError) -> io::Result<()> {
-    match error {
-        EvalError::Fault { kind, index } => println!(rt; "{kind:?} at {index}"),
-        EvalError::OutOfMemory => println!(rt; "out of memory"),
+        if let Some(mut dump) = taken(rt, Dump::parse(rt.alloc(), text, TARGET)) {
+            print_parts(rt, &mut dump);
+        }
     }
 }
 
-fn print_value(
-    rt: &impl Calls,
+fn print_answer(
+    rt: &HostRuntime,
+    call: &str,
     list: &OpList<'_>,
     env: &Env<'_>,
     memory: &mut DumpMemory,
-) -> io::Result<()>
+)
     requires { list.now.target ≡ env.now.target }
 {
-    match evaluate(rt.alloc(), list, Some(1), env, memory, STEPS) {
-        Ok(value) => println!(rt; "{value}"),
-        Err(error) => tell(rt, error),
+    if call == "evaluate" {
+        told(rt, evaluate(rt.alloc(), list, Some(1), env, memory, STEPS));
+    } else {
+        told(rt, locate(rt.alloc(), list, env, memory, STEPS));
     }
 }
 
-fn print_pieces(
-    rt: &impl Calls,
-    list: &OpList<'_>,
-    env: &Env<'_>,
-    memory: &mut DumpMemory,
-) -> io::Result<()>
-    requires { list.now.target ≡ env.now.target }
-{
-    match locate(rt.alloc(), list, env, memory, STEPS) {
-        Ok(pieces) => println!(rt; "{pieces:?}"),
-        Err(error) => tell(rt, error),
-    }
-}
-
-// Evaluates or locates, without a frame base, a CFA or an object.
-fn print_answer(rt: &impl Calls, call: &str, dump: &mut Dump, list: &OpList<'_>) -> io::Result<()> {
+// Evaluates or locates, without a frame base, a CFA or an object, and reads behind it.
+fn evaluated(rt: &HostRuntime, call: &str, dump: &mut Dump, list: &OpList<'_>) {
     let env = Env {
         target: list.target(),
         registers: &dump.registers,
@@ -106,30 +80,25 @@ fn print_answer(rt: &impl Calls, call: &str, dump: &mut Dump, list: &OpList<'_>)
         cfa: None,
         object: None,
     };
-    if call == "evaluate" {
-        return print_value(rt, list, &env, &mut dump.memory);
-    }
-    print_pieces(rt, list, &env, &mut dump.memory)
+    print_answer(rt, call, list, &env, &mut dump.memory);
+    read(rt, &mut dump.memory);
 }
 
-// The same of a block, and a read behind it.
-fn evaluated(rt: &impl Calls, call: &str, dump: &mut Dump, block: &[u8]) -> Result<(), Fail> {
-    let list = decode(rt.alloc(), block, TARGET, Profile::Location)?;
-    print_answer(rt, call, dump, &list)?;
-    Ok(read(rt, &mut dump.memory)?)
-}
-
-fn each(rt: &impl Calls, call: &str, dump: &mut Dump, blocks: &[&[u8]]) -> Result<(), Fail> {
+fn each(rt: &HostRuntime, call: &str, dump: &mut Dump, blocks: &[&[u8]]) {
     for block in blocks {
-        evaluated(rt, call, dump, block)?;
+        if let Some(list) = taken(rt, decode(rt.alloc(), block, TARGET, Profile::Location)) {
+            evaluated(rt, call, dump, &list);
+        }
     }
-    Ok(())
 }
 
-pub fn all(rt: &impl Calls, call: &str) -> Result<(), Fail> {
-    let mut dump = Dump::parse(rt.alloc(), OVER, TARGET)?;
-    if call == "evaluate" {
-        return each(rt, call, &mut dump, &EXPRESSIONS);
+pub fn all(rt: &HostRuntime, call: &str) {
+    if let Some(mut dump) = taken(rt, Dump::parse(rt.alloc(), OVER, TARGET)) {
+        let blocks = if call == "evaluate" {
+            EXPRESSIONS
+        } else {
+            LOCATIONS
+        };
+        each(rt, call, &mut dump, blocks);
     }
-    each(rt, call, &mut dump, &LOCATIONS)
 }

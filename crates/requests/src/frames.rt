@@ -1,13 +1,12 @@
 //! Frames by an index, each in the same rooms.
 
-use crate::Calls;
+use crate::answers::{say, taken};
 use dw_cfa::RowRoom;
 use dw_eval::Policy;
 use dw_num::Target;
 use dw_section::{Ranged, check};
 use dw_unwind::{Dump, FrameRoom, unwind_at};
 use std::alloc::Global;
-use std::test::Fail;
 
 // The registers are in the middle of the memory.
 const STOPPED: &[u8] =
@@ -42,56 +41,43 @@ fn registers_at<'a>(
     }
 }
 
-// The frame at the last address of each FDE.
+// The last address of each FDE, and how many registers the frame there has.
 fn print_frames<'a>(
-    rt: &impl Calls,
+    rt: &HostRuntime,
     bytes: &'a [u8],
     target: Target,
     index: &[Ranged],
     rows: &mut RowRoom<'a>,
     room: &mut FrameRoom,
     dump: &mut Dump,
-) -> Result<(), Fail> {
+) {
     for fde in index {
         let last = fde.begin.saturating_add(fde.range).saturating_sub(1);
         let count = registers_at(rt.alloc(), bytes, target, index, last, rows, room, dump);
-        println!(rt; "{last:#x} {count}")?;
+        say(rt, &(last, count));
     }
-    Ok(())
 }
 
 // The same in rooms of its own.
-fn frames_of(
-    rt: &impl Calls,
-    bytes: &[u8],
-    target: Target,
-    index: &[Ranged],
-    dump: &mut Dump,
-) -> Result<(), Fail> {
+fn frames_of(rt: &HostRuntime, bytes: &[u8], target: Target, index: &[Ranged], dump: &mut Dump) {
     let (mut rows, mut room) = (RowRoom::new(rt.alloc()), FrameRoom::new(rt.alloc()));
-    let answer = print_frames(rt, bytes, target, index, &mut rows, &mut room, dump);
+    print_frames(rt, bytes, target, index, &mut rows, &mut room, dump);
     drop(rows);
     drop(room);
-    answer
 }
 
 // Makes a dump, and by it the frames, where they are wanted.
-fn by_index(
-    rt: &impl Calls,
-    bytes: &[u8],
-    target: Target,
-    index: &[Ranged],
-    are_wanted: bool,
-) -> Result<(), Fail> {
-    let mut dump = Dump::parse(rt.alloc(), STOPPED, target)?;
-    if are_wanted {
-        return frames_of(rt, bytes, target, index, &mut dump);
+fn by_index(rt: &HostRuntime, bytes: &[u8], target: Target, index: &[Ranged], are_wanted: bool) {
+    if let Some(mut dump) = taken(rt, Dump::parse(rt.alloc(), STOPPED, target)) {
+        if are_wanted {
+            frames_of(rt, bytes, target, index, &mut dump);
+        }
     }
-    Ok(())
 }
 
 /// Makes an index, and by it the frames, where they are wanted.
-pub fn all(rt: &impl Calls, bytes: &[u8], target: Target, are_wanted: bool) -> Result<(), Fail> {
-    let table = check(rt.alloc(), bytes, target)?;
-    by_index(rt, bytes, target, table.index(), are_wanted)
+pub fn all(rt: &HostRuntime, bytes: &[u8], target: Target, are_wanted: bool) {
+    if let Some(table) = taken(rt, check(rt.alloc(), bytes, target)) {
+        by_index(rt, bytes, target, table.index(), are_wanted);
+    }
 }

@@ -5,9 +5,10 @@
 //!     requests CALL
 //!     requests CALL 4|8 little|big FILE
 //!
-//! An error that no call is to answer ends the run, and is told on standard error.
+//! An error is printed as any other answer.
 #![tactic(auto)]
 
+mod answers;
 mod borrowing;
 mod evaluations;
 mod expressions;
@@ -19,19 +20,13 @@ mod sections;
 mod states;
 
 use dw_num::{Order, Size, Target};
-use std::test::Fail;
-use std::{env, fs};
+use std::{env, fs, io};
 
 // The target of the worked data.
 const TARGET: Target = Target {
     size: Size::Eight,
     order: Order::Little,
 };
-
-/// The runtime that a call is made with.
-pub trait Calls: Print + AllocGlobal {}
-
-impl<R: Print + AllocGlobal> Calls for R {}
 
 fn target_of(size: &str, order: &str) -> Target {
     Target {
@@ -44,9 +39,9 @@ fn target_of(size: &str, order: &str) -> Target {
     }
 }
 
-fn made(rt: &HostRuntime, call: &str, bytes: &[u8], target: Target) -> Result<(), Fail> {
+fn made(rt: &HostRuntime, call: &str, bytes: &[u8], target: Target) {
     match call {
-        "none" => Ok(()),
+        "none" => {}
         "numbers" => numbers::all(rt),
         "registers" => numbers::registers(rt),
         "states" => states::all(rt),
@@ -63,15 +58,19 @@ fn made(rt: &HostRuntime, call: &str, bytes: &[u8], target: Target) -> Result<()
     }
 }
 
-fn main(rt: HostRuntime) -> Result<(), Fail> {
-    let rt = &rt;
-    let words: Vec<String> = env::args(rt)?.collect(rt.alloc())?;
-    let Some(call) = words.get(1) else {
-        return borrowing::all(rt);
-    };
-    let (Some(size), Some(order), Some(path)) = (words.get(2), words.get(3), words.get(4)) else {
-        return made(rt, call, programs::WORKED, TARGET);
-    };
-    let bytes = fs::read(rt, path)?;
-    made(rt, call, &bytes, target_of(size, order))
+fn asked(rt: &HostRuntime, words: &[String]) -> io::Result<()> {
+    match words {
+        [_, call] => made(rt, call, programs::WORKED, TARGET),
+        [_, call, size, order, path] => {
+            let bytes = fs::read(rt, path)?;
+            made(rt, call, &bytes, target_of(size, order));
+        }
+        _ => borrowing::all(rt),
+    }
+    Ok(())
+}
+
+fn main(rt: HostRuntime) -> io::Result<()> {
+    let words: Vec<String> = env::args(&rt)?.collect(rt.alloc())?;
+    asked(&rt, &words)
 }

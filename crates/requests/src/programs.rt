@@ -3,14 +3,12 @@
 ghost use Rattle.std.specs.Prelude.{◌≡◌, ◌<◌};
 ghost use Rattle.dw_num.specs.Target.{address_limit};
 
-use crate::Calls;
+use crate::answers::{behind, say, taken, told};
 use crate::expressions::on_expression;
 use dw_cfa::{Factors, Instr, Instructions, RowSteps, RowWalk, become_initial, run};
 use dw_num::{Program, Target};
-use dw_row::{CfaRule, RegRule, Row};
+use dw_row::{RegRule, Row};
 use dw_section::{Header, headers};
-use std::io;
-use std::test::Fail;
 
 /// Worked programs: a CIE that gives a rule to the CFA and to one register, one that does to twelve, behind each an FDE that
 /// gives twelve registers rules, remembers a state and restores it, and a CIE with expressions.
@@ -30,219 +28,164 @@ struct Entry<'a> {
     begin: Option<u64>,
 }
 
-fn print_rule(rt: &impl Calls, register: u16, rule: &RegRule<'_>) -> io::Result<()> {
-    match rule {
-        RegRule::Unspecified => println!(rt; "  r{register} unspecified"),
-        RegRule::Undefined => println!(rt; "  r{register} undefined"),
-        RegRule::SameValue => println!(rt; "  r{register} same"),
-        RegRule::Offset(offset) => println!(rt; "  r{register} at {offset}"),
-        RegRule::ValOffset(offset) => println!(rt; "  r{register} is {offset}"),
-        RegRule::Register(other) => println!(rt; "  r{register} in r{other}"),
-        RegRule::Expression(e) => println!(rt; "  r{register} at {}", e.least_len()),
-        RegRule::ValExpression(e) => println!(rt; "  r{register} is {}", e.least_len()),
-    }
-}
-
-/// Prints a row: where it is, the CFA's rule, and those of the registers that have one, of an expression its least length.
-pub fn print_row(rt: &impl Calls, at: u128, row: &Row<'_>) -> io::Result<()> {
-    match row.cfa() {
-        CfaRule::Unset => println!(rt; "{at} unset")?,
-        CfaRule::Register { register, offset } => println!(rt; "{at} r{register} {offset}")?,
-        CfaRule::Expression(e) => println!(rt; "{at} expression {}", e.least_len())?,
-    }
-    for (register, rule) in row.specified() {
-        print_rule(rt, register, &rule)?;
-    }
-    Ok(())
-}
-
-/// An error has to be answered from then on.
-pub fn retried(rt: &impl Calls, again: bool) -> io::Result<()> {
-    if again {
-        return Ok(());
-    }
-    println!(rt; "an answer behind an error")
-}
-
-fn all_rows(rt: &impl Calls, entry: Entry<'_>, begin: u64, target: Target) -> Result<(), Fail>
+fn all_rows(rt: &HostRuntime, entry: Entry<'_>, begin: u64, target: Target)
     requires { begin < address_limit target.size }
 {
-    let rows = run(
-        rt.alloc(),
-        entry.cie,
-        entry.program,
-        begin,
-        entry.factors,
-        target,
-    )?;
-    for row in rows.iter() {
-        print_row(rt, row.location, &row.row)?;
-    }
-    Ok(())
-}
-
-fn next_row(rt: &impl Calls, steps: &mut RowSteps<'_>) -> Result<(), Fail> {
-    match steps.next() {
-        Ok(Some(row)) => print_row(rt, row.location, &row.row)?,
-        Ok(None) => println!(rt; "end")?,
-        Err(error) => {
-            retried(rt, steps.next().is_err())?;
-            return Err(Fail::from(error));
-        }
-    }
-    Ok(())
+    let (cie, program) = (entry.cie, entry.program);
+    told(
+        rt,
+        run(rt.alloc(), cie, program, begin, entry.factors, target),
+    );
 }
 
 // More answers than there are rows.
-fn each_next(rt: &impl Calls, steps: &mut RowSteps<'_>) -> Result<(), Fail> {
+fn each_next(rt: &HostRuntime, steps: &mut RowSteps<'_>) {
     for _ in 0..9 {
-        next_row(rt, steps)?;
+        if !told(rt, steps.next()) {
+            behind(rt, steps.next());
+        }
     }
-    Ok(())
 }
 
-fn each_row(rt: &impl Calls, entry: Entry<'_>, begin: u64, target: Target) -> Result<(), Fail>
+fn each_row(rt: &HostRuntime, entry: Entry<'_>, begin: u64, target: Target)
     requires { begin < address_limit target.size }
 {
     let (cie, factors) = (entry.cie, entry.factors);
     let mut steps = RowSteps::new(rt.alloc(), cie, entry.program, begin, factors, target);
-    let answer = each_next(rt, &mut steps);
+    each_next(rt, &mut steps);
     drop(steps);
-    answer
 }
 
-fn next_lent(rt: &impl Calls, walk: &mut RowWalk<'_>) -> Result<(), Fail> {
-    match walk.advance() {
-        Ok(Some(at)) => print_row(rt, at, walk.row())?,
-        Ok(None) => println!(rt; "end")?,
-        Err(error) => {
-            retried(rt, walk.advance().is_err())?;
-            return Err(Fail::from(error));
-        }
+fn next_lent(rt: &HostRuntime, walk: &mut RowWalk<'_>) {
+    let answer = walk.advance();
+    told(rt, answer);
+    match answer {
+        Ok(Some(_)) => say(rt, walk.row()),
+        Ok(None) => {}
+        Err(_) => behind(rt, walk.advance()),
     }
-    Ok(())
 }
 
-fn each_lent(rt: &impl Calls, walk: &mut RowWalk<'_>) -> Result<(), Fail> {
+fn each_lent(rt: &HostRuntime, walk: &mut RowWalk<'_>) {
     for _ in 0..9 {
-        next_lent(rt, walk)?;
+        next_lent(rt, walk);
     }
-    Ok(())
 }
 
 // The FDE's rows are gone to twice, so that what its program changed is taken back, behind the CIE's row that is kept.
-fn walk_twice<'a>(
-    rt: &impl Calls,
-    walk: &mut RowWalk<'a>,
-    program: Program<'a>,
-    begin: u64,
-) -> Result<(), Fail>
+fn walk_twice<'a>(rt: &HostRuntime, walk: &mut RowWalk<'a>, program: Program<'a>, begin: u64)
     requires { begin < address_limit walk.old.led.program.target.size }
 {
     walk.go_to(program, begin);
-    walk.advance()?;
-    walk.go_to(program, begin);
-    let _is_kept = walk.keep_initial()?;
-    each_lent(rt, walk)
+    if told(rt, walk.advance()) {
+        walk.go_to(program, begin);
+        if told(rt, walk.keep_initial()) {
+            each_lent(rt, walk);
+        }
+    }
 }
 
-fn lent_rows(rt: &impl Calls, entry: Entry<'_>, begin: u64, target: Target) -> Result<(), Fail>
+fn lent_rows(rt: &HostRuntime, entry: Entry<'_>, begin: u64, target: Target)
     requires { begin < address_limit target.size }
 {
     let mut walk = RowWalk::new(rt.alloc(), target);
     walk.lead(entry.cie, entry.factors, target);
-    let answer = walk_twice(rt, &mut walk, entry.program, begin);
+    walk_twice(rt, &mut walk, entry.program, begin);
     drop(walk);
-    answer
 }
 
 // Whether one of the first 16 addresses of an FDE lacks a rule for the CFA.
 fn print_lacking<'a>(
-    rt: &impl Calls,
+    rt: &HostRuntime,
     walk: &mut RowWalk<'a>,
     program: Program<'a>,
     begin: u64,
-) -> Result<(), Fail>
+) -> bool
     requires { begin < address_limit walk.old.led.program.target.size }
     ensures { walk.new.led ≡ walk.old.led }
 {
     walk.go_to(program, begin);
-    let lacks = walk.lacks_rule(u128::from(begin).saturating_add(16))?;
-    println!(rt; "{lacks}")?;
-    Ok(())
+    told(rt, walk.lacks_rule(u128::from(begin).saturating_add(16)))
 }
 
 // The FDE's program is begun twice, so that what it changed is taken back.
-fn lacks_twice<'a>(
-    rt: &impl Calls,
-    walk: &mut RowWalk<'a>,
-    program: Program<'a>,
-    begin: u64,
-) -> Result<(), Fail>
+fn lacks_twice<'a>(rt: &HostRuntime, walk: &mut RowWalk<'a>, program: Program<'a>, begin: u64)
     requires { begin < address_limit walk.old.led.program.target.size }
 {
-    print_lacking(rt, walk, program, begin)?;
-    print_lacking(rt, walk, program, begin)
+    if print_lacking(rt, walk, program, begin) {
+        print_lacking(rt, walk, program, begin);
+    }
 }
 
-fn lacking(rt: &impl Calls, entry: Entry<'_>, begin: u64, target: Target) -> Result<(), Fail>
+fn lacking(rt: &HostRuntime, entry: Entry<'_>, begin: u64, target: Target)
     requires { begin < address_limit target.size }
 {
     let mut walk = RowWalk::new(rt.alloc(), target);
     walk.lead(entry.cie, entry.factors, target);
-    let answer = lacks_twice(rt, &mut walk, entry.program, begin);
+    lacks_twice(rt, &mut walk, entry.program, begin);
     drop(walk);
-    answer
 }
 
-fn print_initial(rt: &impl Calls, entry: Entry<'_>, target: Target) -> Result<(), Fail> {
-    let mut row = Row::blank(rt.alloc());
-    become_initial(&mut row, entry.cie, entry.factors, target)?;
-    Ok(print_row(rt, 0, &row)?)
-}
-
-fn print_copied(rt: &impl Calls, row: &Row<'_>) -> Result<(), Fail> {
-    Ok(print_row(rt, 0, &row.copied()?)?)
-}
-
-fn on_fde(rt: &impl Calls, call: &str, entry: Entry<'_>, target: Target) -> Result<(), Fail> {
-    let Some(begin) = entry.begin else {
-        return Ok(());
-    };
-    if u128::from(begin) >= target.size.address_limit() {
-        return Ok(());
+fn print_initial(rt: &HostRuntime, call: &str, row: &Row<'_>) {
+    if call == "copied" {
+        told(rt, row.copied());
+    } else {
+        say(rt, row);
     }
+}
+
+fn initial(rt: &HostRuntime, call: &str, entry: Entry<'_>, target: Target) {
+    let mut row = Row::blank(rt.alloc());
+    if told(
+        rt,
+        become_initial(&mut row, entry.cie, entry.factors, target),
+    ) {
+        print_initial(rt, call, &row);
+    }
+    drop(row);
+}
+
+fn from_begin(rt: &HostRuntime, call: &str, entry: Entry<'_>, begin: u64, target: Target)
+    requires { begin < address_limit target.size }
+{
     match call {
-        "run" => return all_rows(rt, entry, begin, target),
-        "row_steps" => return each_row(rt, entry, begin, target),
-        "row_walk" => return lent_rows(rt, entry, begin, target),
-        "lacks_rule" => return lacking(rt, entry, begin, target),
-        "copied" => {}
-        _ => return print_initial(rt, entry, target),
+        "run" => all_rows(rt, entry, begin, target),
+        "row_steps" => each_row(rt, entry, begin, target),
+        "row_walk" => lent_rows(rt, entry, begin, target),
+        "lacks_rule" => lacking(rt, entry, begin, target),
+        _ => initial(rt, call, entry, target),
     }
-    let mut row = Row::blank(rt.alloc());
-    become_initial(&mut row, entry.cie, entry.factors, target)?;
-    print_copied(rt, &row)
 }
 
-fn on_instruction(rt: &impl Calls, call: &str, instruction: &Instr<'_>) -> Result<(), Fail> {
+fn on_fde(rt: &HostRuntime, call: &str, entry: Entry<'_>, target: Target) {
+    if let Some(begin) = entry.begin {
+        if u128::from(begin) < target.size.address_limit() {
+            from_begin(rt, call, entry, begin, target);
+        }
+    }
+}
+
+fn on_instruction(rt: &HostRuntime, call: &str, instruction: &Instr<'_>) {
     match instruction {
         Instr::DefCfaExpression(expression)
         | Instr::Set(_, RegRule::Expression(expression) | RegRule::ValExpression(expression)) => {
-            on_expression(rt, call, expression)
+            on_expression(rt, call, expression);
         }
-        _ => Ok(()),
+        _ => {}
     }
 }
 
-fn on_entry(rt: &impl Calls, call: &str, entry: Entry<'_>, target: Target) -> Result<(), Fail> {
-    match call {
-        "decode" | "encode" | "ops" | "put_least" => {
-            for instruction in Instructions::new(entry.program, entry.factors, target) {
-                on_instruction(rt, call, &instruction?)?;
-            }
-            Ok(())
+fn on_program(rt: &HostRuntime, call: &str, entry: Entry<'_>, target: Target) {
+    for instruction in Instructions::new(entry.program, entry.factors, target) {
+        if let Some(instruction) = taken(rt, instruction) {
+            on_instruction(rt, call, &instruction);
         }
+    }
+}
+
+fn on_entry(rt: &HostRuntime, call: &str, entry: Entry<'_>, target: Target) {
+    match call {
+        "decode" | "encode" | "ops" | "put_least" => on_program(rt, call, entry, target),
         _ => on_fde(rt, call, entry, target),
     }
 }
@@ -283,13 +226,17 @@ fn entry_of<'a>(list: &[Header<'a>], header: &Header<'a>) -> Option<Entry<'a>> {
     None
 }
 
-/// A call on each program of a section, by its name.
-pub fn over_section(rt: &impl Calls, call: &str, bytes: &[u8], target: Target) -> Result<(), Fail> {
-    let list = headers(rt.alloc(), bytes, target)?;
-    for header in list.iter() {
-        if let Some(entry) = entry_of(&list, header) {
-            on_entry(rt, call, entry, target)?;
+fn on_each(rt: &HostRuntime, call: &str, list: &[Header<'_>], target: Target) {
+    for header in list {
+        if let Some(entry) = entry_of(list, header) {
+            on_entry(rt, call, entry, target);
         }
     }
-    Ok(())
+}
+
+/// A call on each program of a section, by its name.
+pub fn over_section(rt: &HostRuntime, call: &str, bytes: &[u8], target: Target) {
+    if let Some(list) = taken(rt, headers(rt.alloc(), bytes, target)) {
+        on_each(rt, call, &list, target);
+    }
 }
