@@ -141,6 +141,9 @@ pub fn run_at<'a, L: Load, W: Write>(
     let text = load_text(alloc, files, lines_in(&addresses))?;
     let table = check(alloc, &bytes, target)?;
     add_lines(&mut addresses, &text, target.size)?;
-    put_each(out, &table, &mut RowRoom::new(alloc), &addresses)?;
+    let mut rows = RowRoom::new(alloc);
+    let put = put_each(out, &table, &mut rows, &addresses);
+    drop(rows);
+    put?;
     out.finish()
 }

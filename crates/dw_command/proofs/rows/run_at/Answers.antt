@@ -25,14 +25,14 @@ returns-in_err-add_lines g c =
     let refused = rw c.deref-3.ensures.value at c.in_err-add_lines.ensures in
     rw p.1 (inl (c.in_ok-bytes.bytes.items, c.in_ok-bytes.ensures.loads, inl (c.in_ok-text.text.items, text, inl (tt, accepted, inr (p.0, (c.in_err-add_lines.field-0.0, refused, p.2), refl, Keeps-refl _)))))
 
-pub returns-in_err-put_each : goal.returns-in_err-put_each
-returns-in_err-put_each g c =
-    let p = err_from_is_err_and c.from_residual-in_err-put_each.result c.from_residual-in_err-put_each.ensures.1 in
+pub returns-in_err-put : goal.returns-in_err-put
+returns-in_err-put g c =
+    let p = err_from_is_err_and c.from_residual-in_err-put.result c.from_residual-in_err-put.ensures.1 in
     let path = c.lines_in.ensures ∙ ap lines_in c.deref.ensures.value in
     let text = text_at _ _ c.in_ok-bytes.ensures.same _ (lines_in c.args.lookup.addresses.items) (Ok c.in_ok-text.text.items) path c.in_ok-text.ensures.loads in
     let accepted = rw c.deref-2.ensures.value at c.in_ok-table.ensures.found.1 in
     let more = rw c.deref-3.ensures.value at c.in_ok-add_lines.ensures in
-    rw (p.1, p.2) (inl (c.in_ok-bytes.bytes.items, c.in_ok-bytes.ensures.loads, inl (c.in_ok-text.text.items, text, inl (tt, accepted, inl (c.deref-4.result.now, (more.0, more.1, c.deref-4.ensures.value ∙ more.2), rw c.requires.works c.in_err-put_each.ensures.told)))))
+    rw (p.1, p.2) (inl (c.in_ok-bytes.bytes.items, c.in_ok-bytes.ensures.loads, inl (c.in_ok-text.text.items, text, inl (tt, accepted, inl (c.deref-4.result.now, (more.0, more.1, c.deref-4.ensures.value ∙ more.2), rw c.requires.works c.in_err-put.ensures.told)))))
 
 pub returns : goal.returns
 returns g c =
@@ -41,7 +41,7 @@ returns g c =
     let accepted = rw c.deref-2.ensures.value at c.in_ok-table.ensures.found.1 in
     let more = rw c.deref-3.ensures.value at c.in_ok-add_lines.ensures in
     let table = c.in_ok-table.table in
-    let put = c.in_ok-put_each.ensures.put in
+    let put = c.in_ok-put.ensures.put in
     let all = printed_of g.W.Write.contents _ _ _ (Tells table.target table.bytes c.deref-4.result.now) (lines at_text) put.0 c.finish.result c.requires.works put.1 put.2 c.finish.ensures.ends in
     let prints = rw (c.in_ok-table.ensures.found.0, c.deref-2.ensures.value) at all in
     inl (c.in_ok-bytes.bytes.items, c.in_ok-bytes.ensures.loads, inl (c.in_ok-text.text.items, text, inl (tt, accepted, inl (c.deref-4.result.now, (more.0, more.1, c.deref-4.ensures.value ∙ more.2), prints))))
