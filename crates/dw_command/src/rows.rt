@@ -4,7 +4,7 @@ ghost use Rattle.std.specs.{Prelude.{◌≡◌, ℕ, ◌≤◌, ◌^◌, List, f
 ghost use Rattle.dw_row.specs.Rows.{Rules};
 ghost use Rattle.dw_section.specs.{Meaning.AreFdes, declared.lookup.Fde.{Fde as TheFde}};
 ghost use Rattle.dw_canon.specs.Members.{AreMembers, Member};
-ghost use Rattle.dw_command.specs.{Addresses.lines_in, Answers.{AtEnds, ListsFdes, Tells, TellsOf}};
+ghost use Rattle.dw_command.specs.{Addresses.lines_in, Answers.{AtEnds, ListsFdes, PrintsOf, Tells, TellsOf}};
 ghost use Rattle.dw_command.specs.{RowTexts.{At, at_text, member_text, row_text}, Texts.lines, Inner.Output.{Adds, Breaks, TellsOfFile, output_of}};
 
 use crate::address_lines::add_lines;
@@ -106,16 +106,16 @@ fn put_each<'a, W: Write>(
     rows: &mut RowRoom<'a>,
     addresses: &[u64],
 ) -> Result<(), Failure<'static>>
-    ensures told { IfErr result (Breaks out.new) }
-    ensures put { OnOk result ((found : List At) × Tells table.now.target table.now.bytes addresses.now found
-        × Adds W.contents out.old out.new (lines at_text found)) }
+    requires works { out.old.failed ≡ false }
+    ensures { PrintsOf (output_of W.contents out.old) (output_of W.contents out.new) (Tells table.now.target table.now.bytes addresses.now)
+        (lines at_text) tt result }
 {
     table.accepted();
     for address in addresses {
         put_at(out, table, rows, *address)?;
         out.check()?;
     }
-    Ok(())
+    out.finish()
 }
 
 // The path of the lines that are read where the words name no address.
@@ -141,6 +141,8 @@ pub fn run_at<'a, L: Load, W: Write>(
     let text = load_text(alloc, files, lines_in(&addresses))?;
     let table = check(alloc, &bytes, target)?;
     add_lines(&mut addresses, &text, target.size)?;
-    put_each(out, &table, &mut RowRoom::new(alloc), &addresses)?;
-    out.finish()
+    let mut rows = RowRoom::new(alloc);
+    let put = put_each(out, &table, &mut rows, &addresses);
+    drop(rows);
+    put
 }

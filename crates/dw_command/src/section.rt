@@ -128,8 +128,7 @@ fn put_verdict<W: Write>(out: &mut Listing<W>, is_same: bool) -> Result<u8, Fail
     Ok(u8::from(!is_same))
 }
 
-/// Prints whether the sections in two files say the same, and answers the exit status: 0 where they do, 1 where not. Both
-/// files are read before the sections are judged.
+/// Prints whether the sections in two files say the same, and answers status 0, or 1 where not. Both are read first.
 pub fn run_same<'a, L: Load, W: Write>(
     alloc: Global,
     target: Target,
@@ -202,28 +201,16 @@ fn count_changes_of(table: &Table<'_>, starts: u64) -> Result<u64, AllocError>
     count
 }
 
-// What is printed of a section beside its length.
-#[derive(Clone, Copy)]
-struct Cost {
-    normal: u64,
-    starts: u64,
-    changes: u64,
-}
-
-// Apart from the file's bytes: what is owned beside the ways out of this is proved for long.
-fn costs_of<'a>(alloc: Global, target: Target, bytes: &[u8]) -> Result<Cost, Failure<'a>>
+// The bytes of a normal form, the rows started and the changes. It stands apart from the file: what is owned beside ways out is proved for long.
+fn costs_of<'a>(alloc: Global, target: Target, bytes: &[u8]) -> Result<(u64, u64, u64), Failure<'a>>
     ensures { MatchResult result
-        (λ c. Costs target bytes.now (Ok (record { normal = c.normal; starts = c.starts; changes = c.changes }))) (λ e. Costs target bytes.now (Err e)) }
+        (λ c. Costs target bytes.now (Ok (record { normal = c.0; starts = c.1; changes = c.2 }))) (λ e. Costs target bytes.now (Err e)) }
 {
     let normal = normal_length(alloc, bytes, target, LIMIT)?;
     let table = check(alloc, bytes, target)?;
     let starts = table.row_starts();
     let changes = count_changes_of(&table, starts)?;
-    Ok(Cost {
-        normal,
-        starts,
-        changes,
-    })
+    Ok((normal, starts, changes))
 }
 
 /// Prints how many bytes the section in a file and its normal form have, and how many rows their programs start.
@@ -239,8 +226,8 @@ pub fn run_cost<'a, L: Load, W: Write>(
 {
     let bytes = load_file(files, path)?;
     let bytes = bytes.as_slice();
-    let costs = costs_of(alloc, target, bytes)?;
-    put_pair(out, b"bytes ", bytes.len() as u64, costs.normal);
-    put_pair(out, b"rowstarts ", costs.starts, costs.changes);
+    let (normal, starts, changes) = costs_of(alloc, target, bytes)?;
+    put_pair(out, b"bytes ", bytes.len() as u64, normal);
+    put_pair(out, b"rowstarts ", starts, changes);
     out.finish()
 }

@@ -1,13 +1,13 @@
 //! `dwframe unwind`: the caller's frame of a machine that stopped.
 
 ghost use Rattle.std.specs.Prelude.{◌≡◌, false};
-ghost use Rattle.dw_command.specs.{Answers.{Prints, UnwindEnds}, Texts.{frame_text, lines, register_text}, Inner.Output.{Adds, output_of}};
+ghost use Rattle.dw_command.specs.{Answers.{Before, Frames, Prints, UnwindEnds}, Texts.{frame_text, lines, register_text}, Inner.Output.{Adds, output_of}};
 
 use crate::failure::Failure;
 use crate::files::{Load, load_dump, load_file};
 use crate::listing::Listing;
 use dw_num::Target;
-use dw_section::check;
+use dw_section::{Table, check};
 use dw_unwind::{Dump, Frame, FrameRoom, unwind};
 use dw_words::Unwinding;
 use std::alloc::Global;
@@ -51,6 +51,30 @@ fn put_frame<W: Write>(out: &mut Listing<W>, frame: &Frame<'_>) -> Result<(), Fa
     out.finish()
 }
 
+// Puts the caller's frame, apart from the section and the files: what is owned beside ways out is proved for long.
+fn put_caller<'a, W: Write>(
+    alloc: Global,
+    table: &Table<'_>,
+    dump: &mut Dump,
+    unwinding: &Unwinding<'_>,
+    out: &mut Listing<W>,
+) -> Result<(), Failure<'a>>
+    requires works { out.old.failed ≡ false }
+    ensures { Before (output_of W.contents out.old) (output_of W.contents out.new) (Frames table.now.target table.now.bytes dump.old unwinding.now.default
+        unwinding.now.steps) (λ frame. Prints (output_of W.contents out.old) (output_of W.contents out.new) (frame_text frame) tt) result }
+{
+    let Some(pc) = dump.pc else {
+        return Err(Failure::NoCounter);
+    };
+    let mut room = FrameRoom::new(alloc);
+    let Unwinding { default, steps, .. } = *unwinding;
+    let (target, registers, memory) = (table.target(), &dump.registers, &mut dump.memory);
+    let frame = unwind(
+        alloc, table, target, pc, &mut room, registers, memory, default, steps,
+    )?;
+    put_frame(out, &frame)
+}
+
 /// Prints the caller's frame. Both files are read before the section and then the dump are judged.
 pub fn run_unwind<'a, L: Load, W: Write>(
     alloc: Global,
@@ -66,14 +90,5 @@ pub fn run_unwind<'a, L: Load, W: Write>(
     let text = load_dump(files, unwinding.dump)?;
     let table = check(alloc, &bytes, target)?;
     let mut dump = Dump::parse(alloc, &text, target)?;
-    let Some(pc) = dump.pc else {
-        return Err(Failure::NoCounter);
-    };
-    let mut room = FrameRoom::new(alloc);
-    let Unwinding { default, steps, .. } = *unwinding;
-    let (registers, memory) = (&dump.registers, &mut dump.memory);
-    let frame = unwind(
-        alloc, &table, target, pc, &mut room, registers, memory, default, steps,
-    )?;
-    put_frame(out, &frame)
+    put_caller(alloc, &table, &mut dump, unwinding, out)
 }

@@ -1,5 +1,5 @@
-use Rattle.dw_command.proofs.Words.{ℕ, List, [], ◌∷◌, ◌++◌, arith, subst, sym, TellsOf, Adds, at_text}
-use Rattle.dw_command.proofs.{Puts.{nothing, on}, TextLines.{lines_push, zip_all, zip_more}}
+use Rattle.dw_command.proofs.Words.{ℕ, List, [], ◌∷◌, ◌++◌, arith, subst, sym, Tells, TellsOf, Adds, at_text, lines}
+use Rattle.dw_command.proofs.{Puts.{nothing, on, printed_of}, TextLines.{lines_push, zip_all, zip_more}}
 use Rattle.dw_command.proofs.rows.put_each.Goals as goal
 
 pub loop-address-init : goal.loop-address-init
@@ -15,10 +15,10 @@ loop-address-preserved g c =
       subst (λ (t : List ℕ). Adds g.W.Write.contents c.args.out.now c.put_at.new.out t) (sym (lines_push at_text before.0 one.0)) (on g.W.Write.contents _ _ _ _ _ before.2 one.2),
     )
 
-pub returns-clause-put : goal.returns-clause-put
-returns-clause-put g c =
+pub returns : goal.returns
+returns g c =
     let table = c.args.table.now in
     let fdes = c.accepted.ensures.fdes in
     let all = c.loop-address.invariant fdes.0 fdes.1 in
-    let ended = c.loop-address-test.false in
-    (all.0, (fdes.0, fdes.1, zip_all (TellsOf table.target table.bytes fdes.0) c.args.addresses.now all.0 c.loop-address.address-index (omega (arith, ended)) all.1), all.2)
+    let each = zip_all (TellsOf table.target table.bytes fdes.0) c.args.addresses.now all.0 c.loop-address.address-index (omega (arith, c.loop-address-test.false)) all.1 in
+    printed_of g.W.Write.contents _ _ _ (Tells table.target table.bytes c.args.addresses.now) (lines at_text) all.0 c.finish.result c.requires.works (fdes.0, fdes.1, each) all.2 c.finish.ensures.ends

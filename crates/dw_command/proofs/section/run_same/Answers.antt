@@ -1,4 +1,4 @@
-use Rattle.dw_command.proofs.{Words.{Ok, Err, inl, inr, refl, err_from_is_err_and, Keeps-refl}, Endings.{lent, load_before}}
+use Rattle.dw_command.proofs.{Words.{◌≤◌, Bool, Err, Failure, IfOk, List, Ok, Output, Prints, Result, arith, false, if◌then◌else◌, inl, inr, output_of, refl, true, ℕ, err_from_is_err_and, Keeps-refl}, Endings.{lent, load_before}}
 use Rattle.dw_command.proofs.section.run_same.Goals as goal
 
 pub returns-in_err-second-clause-ends : goal.returns-in_err-second-clause-ends
@@ -20,3 +20,11 @@ returns-clause-ends g c =
     let second = lent (g.L.Load.gives c.args.files.now) c.args.other.now _ c.deref-2.result.now c.deref-2.ensures.value (c.in_ok-first.ensures.same c.args.other.now (Ok c.in_ok-second.second.items) c.in_ok-second.ensures.loads) in
     let same = c.in_ok-is_same.ensures in
     inl (c.deref.result.now, first, inl (c.deref-2.result.now, second, inl (c.in_ok-is_same.is_same, (same.fit.0, same.fit.1, same.found.2), c.put_verdict.ensures)))
+
+most_of : (old new : Output) (text : List ℕ) (b : Bool) (r : Result ℕ Failure) → Prints old new text (if b then 0 else 1) r → IfOk r (λ status. status ≤ 1)
+most_of old new text true (Ok status) h = rw h.0 (omega arith)
+most_of old new text false (Ok status) h = rw h.0 (omega arith)
+most_of old new text b (Err e) h = tt
+
+pub returns-clause-most : goal.returns-clause-most
+returns-clause-most g c = most_of (output_of g.W.Write.contents c.args.out.now) (output_of g.W.Write.contents c.put_verdict.new.out) _ c.in_ok-is_same.is_same c.put_verdict.result c.put_verdict.ensures
