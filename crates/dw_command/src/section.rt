@@ -201,16 +201,28 @@ fn count_changes_of(table: &Table<'_>, starts: u64) -> Result<u64, AllocError>
     count
 }
 
-// The bytes of a normal form, the rows started and the changes. It stands apart from the file: what is owned beside ways out is proved for long.
-fn costs_of<'a>(alloc: Global, target: Target, bytes: &[u8]) -> Result<(u64, u64, u64), Failure<'a>>
+// What is printed of a section beside its length.
+#[derive(Clone, Copy)]
+struct Cost {
+    normal: u64,
+    starts: u64,
+    changes: u64,
+}
+
+// Apart from the file's bytes: what is owned beside the ways out of this is proved for long.
+fn costs_of<'a>(alloc: Global, target: Target, bytes: &[u8]) -> Result<Cost, Failure<'a>>
     ensures { MatchResult result
-        (λ c. Costs target bytes.now (Ok (record { normal = c.0; starts = c.1; changes = c.2 }))) (λ e. Costs target bytes.now (Err e)) }
+        (λ c. Costs target bytes.now (Ok (record { normal = c.normal; starts = c.starts; changes = c.changes }))) (λ e. Costs target bytes.now (Err e)) }
 {
     let normal = normal_length(alloc, bytes, target, LIMIT)?;
     let table = check(alloc, bytes, target)?;
     let starts = table.row_starts();
     let changes = count_changes_of(&table, starts)?;
-    Ok((normal, starts, changes))
+    Ok(Cost {
+        normal,
+        starts,
+        changes,
+    })
 }
 
 /// Prints how many bytes the section in a file and its normal form have, and how many rows their programs start.
@@ -226,8 +238,8 @@ pub fn run_cost<'a, L: Load, W: Write>(
 {
     let bytes = load_file(files, path)?;
     let bytes = bytes.as_slice();
-    let (normal, starts, changes) = costs_of(alloc, target, bytes)?;
-    put_pair(out, b"bytes ", bytes.len() as u64, normal);
-    put_pair(out, b"rowstarts ", starts, changes);
+    let costs = costs_of(alloc, target, bytes)?;
+    put_pair(out, b"bytes ", bytes.len() as u64, costs.normal);
+    put_pair(out, b"rowstarts ", costs.starts, costs.changes);
     out.finish()
 }
