@@ -1,4 +1,4 @@
-use Rattle.std.proofs.Common.{◌≡◌, ◌∙◌, sym, false, ℕ, Ok, Err, Result, IsTrue, is_ok}
+use Rattle.std.proofs.Common.{◌≡◌, ℕ, Ok, Err, Result, IsTrue, is_ok}
 use Rattle.dw_num.specs.{Front.{Reads, fixed_at}, declared.refusal.Refusal.Refusal}
 use Rattle.dw_cfa.specs.{declared.instr.Instr.TheVariants.{Nop}, Inner.FrontInstr.instr_at}
 use Rattle.dw_cfa.proofs.Tabled.{nop_passed}
@@ -10,10 +10,3 @@ returns-then-rest-eq0-clause-passed c is f = by_read c.byte.result c.byte.ensure
     by_read : (r : Result ℕ Refusal) → Reads (λ b. b) r c.args.cursor.now (fixed_at 1 c.args.cursor.now) c.byte.new.self → IsTrue (is_ok r) → instr_at f c.args.cursor.now ≡ Ok (Nop, c.byte.new.self)
     by_read (Ok b) e _ = nop_passed f c.args.cursor.now c.byte.new.self b (rw c.rest.ensures at c.if-rest-eq0.true) e
     by_read (Err r) e none = absurd cc
-
-pub returns-then-rest-eq0-clause-none : goal.returns-then-rest-eq0-clause-none
-returns-then-rest-eq0-clause-none c is = unread c.byte.result c.byte.ensures.exact (sym c.is_ok.ensures.value ∙ is)
-  where
-    unread : (r : Result ℕ Refusal) → Reads (λ b. b) r c.args.cursor.now (fixed_at 1 c.args.cursor.now) c.byte.new.self → is_ok r ≡ false → c.byte.new.self ≡ c.args.cursor.now
-    unread (Ok b) e is-false = absurd cc
-    unread (Err r) e _ = e.1
