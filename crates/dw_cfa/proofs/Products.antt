@@ -5,7 +5,7 @@ abs_below : (z : ℤ) → FitsSigned w64 z → unsigned_abs z ≤ 92233720368547
 abs_below (pos n) h = omega (arith, h)
 abs_below (negsuc n) h = omega (arith, h)
 
-pub product_fits : (operand factor : ℤ) → unsigned_abs operand < 2 ^ 64 → FitsSigned w64 factor → FitsSigned w128 (operand *ℤ factor)
+product_fits : (operand factor : ℤ) → unsigned_abs operand < 2 ^ 64 → FitsSigned w64 factor → FitsSigned w128 (operand *ℤ factor)
 product_fits operand factor small fits =
     fits_signed_mul w128 operand factor 18446744073709551615 9223372036854775808 (omega (arith, small)) (abs_below factor fits) (omega arith)
 
