@@ -25,11 +25,10 @@ pub(crate) fn run_fixed_advance<'a, K: Keep<'a>>(
     requires width { IsWidth width }
     ensures { Taken K.takes (advance_at factors width cursor.old) at keep.old result fault.new cursor.new keep.new }
 {
-    let delta = match cursor.fixed(width) {
-        Ok(delta) => delta,
-        Err(refusal) => return refused(refusal, fault),
-    };
-    keep.advance(distance(delta, factors), at, fault)
+    match cursor.fixed(width) {
+        Ok(delta) => keep.advance(distance(delta, factors), at, fault),
+        Err(refusal) => refused(refusal, fault),
+    }
 }
 
 /// The CFA is the same register plus another offset.
@@ -44,11 +43,10 @@ pub(crate) fn run_def_cfa_offset<'a, K: Keep<'a>>(
     requires { IsWithinLimit (K.machine keep.old) }
     ensures { Taken K.takes (def_cfa_offset_at at cursor.old) at keep.old result fault.new cursor.new keep.new }
 {
-    let offset = match plain(cursor, at) {
-        Ok(offset) => offset,
-        Err(refusal) => return refused(refusal, fault),
-    };
-    keep.def_cfa_offset(offset, at, fault)
+    match plain(cursor, at) {
+        Ok(offset) => keep.def_cfa_offset(offset, at, fault),
+        Err(refusal) => refused(refusal, fault),
+    }
 }
 
 /// The same with an offset that is signed and factored.
@@ -64,11 +62,10 @@ pub(crate) fn run_def_cfa_offset_sf<'a, K: Keep<'a>>(
     requires { IsWithinLimit (K.machine keep.old) }
     ensures { Taken K.takes (def_cfa_offset_sf_at factors at cursor.old) at keep.old result fault.new cursor.new keep.new }
 {
-    let offset = match signed(cursor, factors, at) {
-        Ok(offset) => offset,
-        Err(refusal) => return refused(refusal, fault),
-    };
-    keep.def_cfa_offset(offset, at, fault)
+    match signed(cursor, factors, at) {
+        Ok(offset) => keep.def_cfa_offset(offset, at, fault),
+        Err(refusal) => refused(refusal, fault),
+    }
 }
 
 /// The CFA is a register plus an offset.
@@ -87,11 +84,10 @@ pub(crate) fn run_def_cfa<'a, K: Keep<'a>>(
         Ok(register) => register,
         Err(refusal) => return refused(refusal, fault),
     };
-    let offset = match plain(cursor, at) {
-        Ok(offset) => offset,
-        Err(refusal) => return refused(refusal, fault),
-    };
-    keep.def_cfa(register, offset, at, fault)
+    match plain(cursor, at) {
+        Ok(offset) => keep.def_cfa(register, offset, at, fault),
+        Err(refusal) => refused(refusal, fault),
+    }
 }
 
 /// A register is saved at the CFA plus an offset, which is factored.
@@ -108,9 +104,8 @@ pub(crate) fn run_offset<'a, K: Keep<'a>>(
     requires { IsWithinLimit (K.machine keep.old) }
     ensures { Taken K.takes (offset_at factors at register cursor.old) at keep.old result fault.new cursor.new keep.new }
 {
-    let offset = match factored(cursor, factors, at) {
-        Ok(offset) => offset,
-        Err(refusal) => return refused(refusal, fault),
-    };
-    keep.set(register, RegRule::Offset(offset), at, fault)
+    match factored(cursor, factors, at) {
+        Ok(offset) => keep.set(register, RegRule::Offset(offset), at, fault),
+        Err(refusal) => refused(refusal, fault),
+    }
 }

@@ -6,7 +6,7 @@ ghost use Rattle.dw_cfa.specs.Inner.{Coverage.{LeavesLacking, is_unset, leaves_o
 
 use crate::instr::Factors;
 use crate::machine::{End, Machine};
-use crate::turn::turn;
+use crate::turn::turn_machine;
 use dw_num::{Code, Cursor, ReadError, Refusal};
 use dw_row::{CfaRule, Row};
 
@@ -62,7 +62,7 @@ pub(crate) fn lacks_rule<'a>(
     let code = Code::Truncated;
     let mut fault = Refusal { code, at: 0 };
     'instrs: while cursor.left() > 0 {
-        match turn(cursor, factors, machine, &mut fault) {
+        match turn_machine(cursor, factors, machine, &mut fault) {
             End::On => {}
             End::Moved => {
                 lacks = lacks_now(lacks, machine.states.row(), end, low, machine.location);

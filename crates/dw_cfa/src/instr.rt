@@ -19,9 +19,8 @@ pub enum Instr<'a> {
     Nop,
     /// `DW_CFA_set_loc` (6.4.2.1): the location is this address.
     SetLoc(u64),
-    /// `DW_CFA_advance_loc`, `DW_CFA_advance_loc1`, `DW_CFA_advance_loc2`, `DW_CFA_advance_loc4` (6.4.2.1): the location grows by
-    /// this much, in addresses: an operand below 2^32 times `code_alignment_factor`, so below 2^96 where it is read. It may lead
-    /// out of the address space; `run` refuses that.
+    /// `DW_CFA_advance_loc`, `DW_CFA_advance_loc1`, `DW_CFA_advance_loc2`, `DW_CFA_advance_loc4` (6.4.2.1): the location grows by this much, in addresses: an
+    /// operand below 2^32 times `code_alignment_factor`, so below 2^96 where it is read. It may lead out of the address space; `run` refuses that.
     Advance(u128),
     /// `DW_CFA_def_cfa`, `DW_CFA_def_cfa_sf` (6.4.2.2): the CFA is a register plus an offset, in bytes. One that is read is from -(2^63-1) to 2^63-1.
     DefCfa { register: u16, offset: i64 },

@@ -108,11 +108,9 @@ pub struct Instructions<'a> {
 }
 
 impl<'a> Model for Instructions<'a> {
-    ghost use Rattle.dw_cfa.specs.Listing.{Listing};
+    ghost use Rattle.dw_cfa.specs.{Listing.Listing, Inner.Listing.left_of};
 
     ghost Value = { Listing };
-
-    ghost use Rattle.dw_cfa.specs.Inner.Listing.{left_of};
 
     ghost view = { λ s. left_of s.has_ended s.factors s.cursor };
 }

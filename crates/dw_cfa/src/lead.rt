@@ -3,9 +3,8 @@
 ghost use Rattle.std.specs.Prelude.{◌≡◌, ◌<◌, Ok, Err, IfErr, IsTrue, OnOk, false, length};
 ghost use Rattle.dw_num.specs.Refusals.{Refuses};
 ghost use Rattle.dw_row.specs.{Rows.blank, States.BeganWith};
-ghost use Rattle.dw_cfa.specs.{Behind.LeavesTo, RowSteps.program_input};
+ghost use Rattle.dw_cfa.specs.{Behind.LeavesTo, RowSteps.program_input, declared.instr.{Factors.{Factors as TheFactors}, Instr.TheVariants.Nop}};
 ghost use Rattle.dw_cfa.specs.Inner.{Turns.Entered, FrontInstr.instr_at, RowWalk.{HasInitial, IsLed, LeadsSame, ReadAlike, led_row}};
-ghost use Rattle.dw_cfa.specs.declared.instr.{Factors.{Factors as TheFactors}, Instr.TheVariants.Nop};
 
 use crate::instr::{Factors, Instr};
 use crate::keep::Keep;
@@ -102,8 +101,7 @@ pub(crate) fn lead<'a>(leading: &Leading<'a>, machine: &mut Machine<'a>) -> Resu
     machine.states.untrack();
     machine.initial.clear();
     run_initial(leading, &mut machine.initial)?;
-    machine.states.rewind(&machine.initial)?;
-    Ok(())
+    Ok(machine.states.rewind(&machine.initial)?)
 }
 
 /// Runs a CIE's program, or brings its row back where the machine has it.
@@ -131,9 +129,8 @@ pub(crate) fn ready<'a>(
     Ok(())
 }
 
-/// Makes a row the one that a CIE's program (`initial_instructions`, 6.4.1) leaves, or answers its first fault, or want of memory
-/// (`OutOfMemory`). A refusal is one of `Instructions`, or `NotInCie` (13) or `CfaNotRegister` (18) at the opcode. Its place
-/// counts from the program's `at`. Behind an error it is some row.
+/// Makes a row the one that a CIE's program (`initial_instructions`, 6.4.1) leaves, or answers its first fault, or want of memory (`OutOfMemory`). A refusal is
+/// one of `Instructions`, or `NotInCie` (13) or `CfaNotRegister` (18) at the opcode. Its place counts from the program's `at`. Behind an error it is some row.
 pub fn become_initial<'a>(
     row: &mut Row<'a>,
     cie_program: Program<'a>,

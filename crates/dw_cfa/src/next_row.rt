@@ -6,7 +6,7 @@ ghost use Rattle.dw_cfa.specs.Inner.{RowWalk.{GoesOn, IsEntered, WalksSo}, Runs.
 use crate::instr::Factors;
 use crate::lead::{Leading, ready};
 use crate::machine::{End, Machine};
-use crate::turn::turn;
+use crate::turn::turn_machine;
 use dw_num::{Code, Cursor, ReadError, Refusal, are_bytes};
 
 /// How far the programs were run.
@@ -105,7 +105,7 @@ pub(crate) fn next_row<'a>(
     let mut fault = Refusal { code, at: 0 };
     let start = machine.location;
     'instrs: while cursor.left() > 0 {
-        match turn(cursor, factors, machine, &mut fault) {
+        match turn_machine(cursor, factors, machine, &mut fault) {
             End::On => {}
             End::Moved => return Ok(Some(start)),
             End::Refused => return Err(ReadError::Refused(fault)),

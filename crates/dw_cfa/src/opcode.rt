@@ -90,7 +90,6 @@ fn checked_offset(offset: i128, at: u64) -> Result<i64, Refusal>
     }
 }
 
-#[tactic(auto, using(crate::proofs::Products::product_is, crate::proofs::Products::product_fits))]
 fn times(operand: i128, factor: i64) -> i128
     requires { unsigned_abs operand < 2 ^ 64 }
     ensures { result ≡ operand *ℤ factor }
@@ -126,7 +125,6 @@ pub(crate) fn signed(cursor: &mut Cursor<'_>, factors: Factors, at: u64) -> Resu
 }
 
 // The expression of a block that stands at this place, with its faults at places of the section.
-#[tactic(auto, using(crate::proofs::Expressions::expressions))]
 fn accept_at<'a>(block: &'a [u8], at: u64, target: Target) -> Result<ExprRef<'a>, Refusal>
     requires { at + length block.now < 2 ^ 63 }
     ensures { result ≡ expression_in at target block.now }

@@ -9,7 +9,7 @@ use crate::instructions::Instructions;
 use dw_num::{Program, Target};
 
 /// The row at an FDE's begin, where the first instructions of its program tell it.
-#[derive(Clone, Copy, Debug, PartialEq, Eq)]
+#[derive(Clone, Copy)]
 pub enum FirstRow {
     /// The row that the program of its CIE leaves.
     Initial,

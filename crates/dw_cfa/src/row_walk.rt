@@ -121,9 +121,8 @@ impl<'a> RowWalk<'a> {
         self.progress = Progress::Begun;
     }
 
-    /// Goes to the rows of an FDE's program (`instructions`, 6.4.1) behind the CIE that `lead` named last, from an address `begin` of
-    /// its target on, which is `initial_location` where the FDE's rows are asked for. Takes no memory: the programs are run by
-    /// `advance`, also where an error was answered before.
+    /// Goes to the rows of an FDE's program (`instructions`, 6.4.1) behind the CIE that `lead` named last, from an address `begin` of its target on, which is
+    /// `initial_location` where the FDE's rows are asked for. Takes no memory: the programs are run by `advance`, also where an error was answered before.
     pub fn go_to(&mut self, fde_program: Program<'a>, begin: u64)
         requires { begin < address_limit self.old.led.program.target.size }
         ensures steps { self.new.steps ≡ stepping self.old.steps.current self.new.steps.outcome }
@@ -140,7 +139,6 @@ impl<'a> RowWalk<'a> {
 
     /// Goes on to the next row (6.4.1, 6.4.3), which `row` lends then, and answers the location that it starts at, or none behind
     /// the last row. No row is copied. An error is a refusal of `run` or `OutOfMemory`, and is answered from then on, until `go_to`.
-    #[tactic(auto, using(crate::proofs::Walks::goes_on_stands))]
     #[inline(always)]
     pub fn advance(&mut self) -> Result<Option<u128>, ReadError>
         ensures advances { Advances self.old.steps result self.new.steps }

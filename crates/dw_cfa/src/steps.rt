@@ -13,9 +13,8 @@ use dw_row::Row;
 use std::alloc::Global;
 use std::marker::Model;
 
-/// The rows that a CIE's `initial_instructions` and an FDE's `instructions` give (6.4.3), one at a time: one before each
-/// instruction that moves the location, and one at the end. A contract sees the rows still to come, the refusal behind them, the
-/// row that is lent, and the error that was answered.
+/// The rows that a CIE's `initial_instructions` and an FDE's `instructions` give (6.4.3), one at a time: one before each instruction that moves the location,
+/// and one at the end. A contract sees the rows still to come, the refusal behind them, the row that is lent, and the error that was answered.
 #[derive(Drop)]
 pub struct RowSteps<'a> {
     walk: RowWalk<'a>,

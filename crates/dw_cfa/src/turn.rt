@@ -9,7 +9,7 @@ use crate::common::{
 };
 use crate::instr::Factors;
 use crate::keep::Keep;
-use crate::machine::{End, refuse, refused};
+use crate::machine::{End, Machine, refuse, refused};
 use crate::opcode::{Opcode, distance, known_opcode};
 use crate::rare::apply_rare;
 use dw_num::{Code, Cursor, Refusal, are_bytes};
@@ -88,4 +88,20 @@ pub(crate) fn turn<'a, K: Keep<'a>>(
 {
     are_bytes(cursor.rest());
     execute(cursor, factors, keep, fault)
+}
+
+/// The same of a machine.
+#[inline(always)]
+pub(crate) fn turn_machine<'a>(
+    cursor: &mut Cursor<'a>,
+    factors: Factors,
+    machine: &mut Machine<'a>,
+    fault: &mut Refusal,
+) -> End
+    requires some { 0 < length cursor.old.bytes }
+    requires so { RunsSo machine.old cursor.old }
+    ensures turned { Turned factors cursor.old machine.old result fault.new cursor.new machine.new }
+    ensures same { Stays machine.old machine.new }
+{
+    turn(cursor, factors, machine, fault)
 }

@@ -3,7 +3,7 @@ use Rattle.dw_section.proofs.Words.{◌≡◌, ◌⊎◌, ℕ, Bool, false, List
 use Rattle.dw_section.proofs.Words.{Outcome, Among, Before, Shows, changes_among, kept_by, Stepping, Advances, AllKeep, row_then, is_before, repeats}
 use Rattle.dw_row.proofs.Lent.Equal.{row_test}
 
-before_tells : (end a : ℕ) (rows : List LocatedRow) → Decides (is_before end a rows) (Before end a rows)
+pub before_tells : (end a : ℕ) (rows : List LocatedRow) → Decides (is_before end a rows) (Before end a rows)
 before_tells end a [] = Decides-ltb a end
 before_tells end a (next ∷ rows) = Decides-and (nat_lt a next.location) (nat_lt a end) (Decides-ltb a next.location) (Decides-ltb a end)
 

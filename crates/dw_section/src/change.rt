@@ -121,7 +121,7 @@ fn list_differences(steps: &RowWalk<'_>, changed: &mut RegisterSet<'_>) -> Resul
 }
 
 /// How the row at an FDE's begin stands to the one that the program of its CIE leaves (6.4.3).
-#[derive(Clone, Copy, Debug, PartialEq, Eq)]
+#[derive(Clone, Copy)]
 pub struct Behind {
     /// The place of the CIE, `CIE_pointer` of the FDE.
     pub cie_at: u64,
@@ -287,19 +287,20 @@ impl<'a> Changes<'a> {
         ensures keeps { IfOk result (λ found. IfSome found (λ behind. IsTrue behind.keeps
             → IfSome self.new.shown (λ first. kept_by first self.new.to_come ≡ first))) }
     {
-        let Some(cie_at) = self.walks.cie_at else {
-            self.advance()?;
-            return Ok(None);
-        };
-        if !self.walks.long || self.lent || self.kept || self.failed {
-            self.advance()?;
-            return Ok(None);
+        if self.walks.long
+            && !self.lent
+            && !self.kept
+            && !self.failed
+            && let Some(cie_at) = self.walks.cie_at
+        {
+            let shown = show_behind(&mut self.walks.walk, changed, self.end, cie_at);
+            self.failed = shown.is_err();
+            let (change, behind) = shown?;
+            self.lent = change.is_some();
+            return Ok(behind);
         }
-        let shown = show_behind(&mut self.walks.walk, changed, self.end, cie_at);
-        self.failed = shown.is_err();
-        let (change, behind) = shown?;
-        self.lent = change.is_some();
-        Ok(behind)
+        self.advance()?;
+        Ok(None)
     }
 
     /// The row (6.4.1) of the change that `advance` or `next` went on to, also behind the last one, and none before the first
@@ -335,13 +336,9 @@ impl<'a> Changes<'a> {
         let Some(row) = self.row() else {
             unreachable!();
         };
-        match row.copied() {
-            Ok(row) => Ok(Some((address, row))),
-            Err(error) => {
-                self.failed = true;
-                Err(error)
-            }
-        }
+        let copied = row.copied();
+        self.failed = copied.is_err();
+        Ok(Some((address, copied?)))
     }
 
     /// The least register to which the change that is shown gives another rule (6.4.1) than the change before it, of those behind
@@ -362,9 +359,8 @@ impl<'a> Changes<'a> {
         None
     }
 
-    /// Goes on behind the last change, and drops from a row the registers that one of the changes still to come leaves
-    /// Unspecified. Where the CIE's row shows that none does, it may stay where it is. Behind want of memory, which `advance`
-    /// and `next` answer from then on, some of them are dropped.
+    /// Goes on behind the last change, and drops from a row the registers that one of the changes still to come leaves Unspecified. Where the CIE's row shows
+    /// that none does, it may stay where it is. Behind want of memory, which `advance` and `next` answer from then on, some of them are dropped.
     // No change drops a register that the CIE's program specifies, so most rows need no walk.
     #[tactic(auto, using(crate::proofs::ChangesAmong::none_dropped, crate::proofs::Dropped::next_of, crate::proofs::Dropped::kept_again))]
     pub fn narrow(&mut self, row: &mut Row<'a>) -> Result<(), AllocError>

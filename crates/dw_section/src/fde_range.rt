@@ -4,7 +4,7 @@ ghost use Rattle.std.specs.{List.AllByRecursion, Prelude.{◌≡◌, ◌<◌, tr
 ghost use Rattle.dw_num.specs.{Refusals.Refuses, Target.address_limit, declared.{refusal.Code.TheVariants.Overlap, target.Target.{Target as TheTarget}}};
 ghost use Rattle.dw_section.specs.{Accepted.{CiesRun, RulesFault}, Cut.Piece, Headers.Head, Overlap.{nonempty, AreApart, FirstOverlap}};
 ghost use Rattle.dw_section.specs.{Pieces.Pieces, Programs.{CieRuns, CieBroken}, Ranges.{AreIndexed, range_in}, Stage.FirstStuck};
-ghost use Rattle.dw_section.specs.Inner.{Index.{JudgesOne, BreaksOne, AreJudged, AreRanges, BeginsRise, ListsOf}};
+ghost use Rattle.dw_section.specs.Inner.{Index.{JudgesOne, BreaksOne, AreAllJudged, AreRanges, BeginsRise, ListsOf}};
 ghost use Rattle.dw_section.specs.Inner.{Initials.{place_of, AreAmong, AreOf, AreCies}, PieceHeader.{entry_in, initial_in}, Places.{Rises, IsAt}, Walks.AreLed};
 
 use crate::entry::next_piece;
@@ -115,7 +115,7 @@ fn run_on<'a>(
     requires run { (hs : List Head) → AreOf hs initials.now → AllByRecursion (CieRuns target) hs }
     requires led { (hs : List Head) → AreLed target hs walks.old }
     requires none { (judged.old.list.items ≡ []) × (judged.old.lacking ≡ None) }
-    ensures found { OnOk result ((hs : List Head) × CiesRun target bytes.now hs × AreJudged target hs hs judged.new.lacking judged.new.list.items) }
+    ensures found { OnOk result (AreAllJudged target bytes.now judged.new) }
     ensures first { IfErr result (Refuses (RulesFault target bytes.now)) }
 {
     let mut cursor = Cursor::new(bytes, 0, target);
@@ -131,8 +131,7 @@ fn run_on<'a>(
     Ok(())
 }
 
-/// Reads the fields of the FDEs of a section that has a cut, and runs their programs behind those of its CIEs, which run. Apart from
-/// `checked`: a function that owns walks beside a table is proved for minutes.
+/// Reads the fields of the FDEs of a section that has a cut, and runs their programs behind those of its CIEs. Apart from `checked`, which owns a table.
 pub(crate) fn run_fdes<'a>(
     alloc: Global,
     bytes: &'a [u8],
@@ -142,7 +141,7 @@ pub(crate) fn run_fdes<'a>(
     requires ascending { Rises 0 cies.now.places.items }
     requires cies { (ps : List Piece) × Pieces target bytes.now ps × AreCies target ps cies.now.places.items cies.now.initials.items }
     requires run { (hs : List Head) → AreOf hs cies.now.initials.items → AllByRecursion (CieRuns target) hs }
-    ensures found { IfOk result (λ j. (hs : List Head) × CiesRun target bytes.now hs × AreJudged target hs hs j.lacking j.list.items) }
+    ensures found { IfOk result (AreAllJudged target bytes.now) }
     ensures first { IfErr result (Refuses (RulesFault target bytes.now)) }
 {
     let mut judged = Judged {

@@ -29,11 +29,10 @@ fn want_byte(cursor: &mut Cursor<'_>, wanted: u8, code: Code) -> Result<(), Refu
 {
     let at = cursor.at();
     let byte = cursor.byte()?;
-    if byte == wanted {
-        Ok(())
-    } else {
-        Err(Refusal { code, at })
+    if byte != wanted {
+        return Err(Refusal { code, at });
     }
+    Ok(())
 }
 
 fn read_version(cursor: &mut Cursor<'_>) -> Result<u8, Refusal>
@@ -43,11 +42,10 @@ fn read_version(cursor: &mut Cursor<'_>) -> Result<u8, Refusal>
 {
     let at = cursor.at();
     let version = cursor.byte()?;
-    if matches!(version, 1 | 3 | 4) {
-        Ok(version)
-    } else {
-        Err(refusal(Code::BadVersion, at))
+    if !matches!(version, 1 | 3 | 4) {
+        return Err(refusal(Code::BadVersion, at));
     }
+    Ok(version)
 }
 
 // How many bytes stand before the first zero.
@@ -91,11 +89,9 @@ fn read_register(cursor: &mut Cursor<'_>, version: u8) -> Result<u16, Refusal>
     ensures { (rest : ℕ → Fields TheCieFields) → Passes result (fields_at (return_register version rest) cursor.old) (λ r. fields_at (rest r) cursor.new) }
 {
     if version == 1 {
-        let byte = cursor.byte()?;
-        Ok(u16::from(byte))
-    } else {
-        cursor.register()
+        return Ok(u16::from(cursor.byte()?));
     }
+    cursor.register()
 }
 
 #[inline(always)]
@@ -152,13 +148,12 @@ pub(crate) fn read_range(cursor: &mut Cursor<'_>, cie_at: u64) -> Result<FdeFiel
     let begin = cursor.address()?;
     let at = cursor.at();
     let range = cursor.address()?;
-    if u128::from(begin) + u128::from(range) <= size.address_limit() {
-        Ok(FdeFields {
-            cie_at,
-            begin,
-            range,
-        })
-    } else {
-        Err(refusal(Code::RangeTooLarge, at))
+    if u128::from(begin) + u128::from(range) > size.address_limit() {
+        return Err(refusal(Code::RangeTooLarge, at));
     }
+    Ok(FdeFields {
+        cie_at,
+        begin,
+        range,
+    })
 }

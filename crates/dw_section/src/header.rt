@@ -16,9 +16,8 @@ use dw_cfa::Factors;
 use dw_num::{Code, Cursor, Form, Program, ReadError, Refusal, Target, are_bytes};
 use std::alloc::Global;
 
-/// The fields of an entry (6.4.1). Its program is the rest of the entry's contents, nops among it. `at` is the
-/// place of the entry's first byte, `cie_at` that of the CIE that an FDE names; `begin` and `range` are in
-/// addresses, and their sum is at most 2^N.
+/// The fields of an entry (6.4.1). Its program is the rest of the entry's contents, nops among it. `at` is the place of the entry's first byte, `cie_at`
+/// that of the CIE that an FDE names; `begin` and `range` are in addresses, and their sum is at most 2^N.
 #[derive(Clone, Copy, Debug, PartialEq, Eq)]
 pub enum Header<'a> {
     /// A common information entry, whose `CIE_id` is all ones. Its `version`, `augmentation`, `address_size` and

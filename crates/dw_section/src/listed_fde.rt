@@ -1,9 +1,8 @@
 //! The FDEs of a table, read again at their places, and how many rows their programs start (6.4.3).
 
 ghost use Rattle.std.specs.Prelude.{◌≡◌, ◌≤◌, ℕ, List, length, ◌<◌, slice_index_or};
-ghost use Rattle.dw_section.specs.{Headers.{Head, Headers}, Meaning.{AreFdes, RowStarts}, Ranges.{IsRanged, fde_in}};
+ghost use Rattle.dw_section.specs.{Headers.{Head, Headers}, Meaning.{AreFdes, RowStarts}, Ranges.{IsRanged, fde_in}, declared.lookup.Fde.{Fde as TheFde}};
 ghost use Rattle.dw_section.specs.Inner.{Counted.{IsProgram, StartsOf}, Index.IsFound, Initials.AreOf, Lookup.{fde_of, IsFoundIn}};
-ghost use Rattle.dw_section.specs.declared.lookup.Fde.{Fde as TheFde};
 
 use crate::fde_range::Ranged;
 use crate::header::{FdeEntry, Initial, read_behind};

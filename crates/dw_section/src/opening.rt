@@ -10,7 +10,7 @@ use dw_cfa::{FirstRow, first_row};
 
 /// A row (6.4.1) that FDEs of one CIE begin with: the one that the program of the CIE (`initial_instructions`) leaves, or that
 /// with another offset of the CFA (6.4.2.2).
-#[derive(Clone, Copy, Debug, PartialEq, Eq)]
+#[derive(Clone, Copy, PartialEq, Eq)]
 pub struct CieRow {
     /// The place of the CIE in the section, which is `CIE_pointer` of those FDEs (6.4.1).
     pub cie_at: u64,
@@ -20,7 +20,7 @@ pub struct CieRow {
 }
 
 /// How long the program of an FDE (6.4.3) and that of its CIE are, and how its own begins.
-#[derive(Clone, Copy, Debug, PartialEq, Eq)]
+#[derive(Clone, Copy)]
 pub struct Opening {
     /// How many bytes `instructions` of the FDE (6.4.1, 6.4.2) has, with the padding.
     pub own: usize,

@@ -277,8 +277,7 @@ impl<'a> IndexedFde<'a> {
         are_bytes(own.program.bytes);
         let (begin, factors) = (own.begin, cie.factors);
         let (target, address) = (self.target, self.address);
-        room.run_to(cie.program, own.program, begin, factors, target, address)?;
-        Ok(())
+        Ok(room.run_to(cie.program, own.program, begin, factors, target, address)?)
     }
 }
 

@@ -1,7 +1,7 @@
 -- What the code keeps of nonempty FDEs.
 use Rattle.std.specs.{Prelude.{◌≡◌, ℕ, ◌+◌, ◌<◌, ◌≤◌, ◌⊎◌, List, [], ◌∷◌, ◌++◌, map, slice_index_or, Option, Result, IfErr, OnOk}, List.AllByRecursion}
 use Rattle.dw_num.specs.{Refusals.Refuses, declared.{error.ReadError.ReadError, target.Target.Target}}
-use Rattle.dw_section.specs.{Accepted.RulesHold, Among.IsAmong, Counts.AreCounts, Cut.Piece, Headers.{Head, Headers}, Inner.Initials.{AreAmong, AreOf}}
+use Rattle.dw_section.specs.{Accepted.{CiesRun, RulesHold}, Among.IsAmong, Counts.AreCounts, Cut.Piece, Headers.{Head, Headers}, Inner.Initials.{AreAmong, AreOf}}
 use Rattle.dw_section.specs.{Inner.{Initials.FirstLacking, PieceHeader.{entry_in, initial_in}, Places.RiseBy, Walks.AreLed}, Overlap.{Range, end_of, nonempty}}
 use Rattle.dw_section.specs.{Pieces.Pieces, Programs.{CieRuns, FdeBroken, FdeRuns}, Ranges.{IsRanged, range_in}, declared.entry.EntryCounts.EntryCounts}
 use Rattle.dw_section.specs.declared.{fde_range.{Judged.Judged, Ranged.Ranged}, header.Initial.Initial, listed_fde.FoundFde.FoundFde, walks.Walks.Walks}
@@ -36,6 +36,10 @@ pub record AreJudged (target : Target) (hs front : List Head) (lacking : Option 
   pub first : FirstLacking target hs front lacking
   pub are : map range_in list ≡ nonempty front
   pub each : AllByRecursion (IsRanged hs) list
+
+-- those of a section were judged, whose CIEs' programs run
+abbrev pub AreAllJudged : Target → List ℕ → Judged → Type 0
+AreAllJudged target s judged = (hs : List Head) × CiesRun target s hs × AreJudged target hs hs judged.lacking judged.list.items
 
 -- one entry more is judged, behind a CIE that was read
 abbrev pub JudgesOne : {T E : Type 0} → Target → List Initial → Walks → Head → Judged → Result T E → Judged → Type 0

@@ -45,8 +45,8 @@ pub instrs-preserved : goal.instrs-preserved
 instrs-preserved c =
     let l = c.instrs in
     let f = c.args.factors in
-    let j = c.turn.new.cursor in
-    let m = c.turn.new.keep in
+    let j = c.turn_machine.new.cursor in
+    let m = c.turn_machine.new.machine in
     let moved = c.in-Moved.ensures.turned in (
       moved.so,
       refl,

@@ -34,3 +34,12 @@ returns-clause-found c = λ hs front all runs led listed w.
     let kept = c.in_ok-keep_range.ensures in
     rw (c.or-judged.ensures, c.then_some.ensures)
     (judged_more c.args.target hs front (entry_in c.args.fde.now) c.args.judged.now.lacking c.in_ok-lacks.lacks c.args.judged.now.list.items c.keep_range.new.list.items w said.0 said.1 kept.found (kept.each hs (among here hs all) listed w.each))
+
+pub returns-in_err-lacks-clause-led : goal.returns-in_err-lacks-clause-led
+returns-in_err-lacks-clause-led c = λ hs all led. rw (c.in_err-lacks.ensures.led, c.go_to.ensures.led) (c.lead.ensures.led hs (among (goal.at.returns-in_err-lacks-clause-led c).After-go_to hs all) led)
+
+pub returns-in_err-keep_range-clause-led : goal.returns-in_err-keep_range-clause-led
+returns-in_err-keep_range-clause-led c = λ hs all led. rw (c.in_ok-lacks.ensures.led, c.go_to.ensures.led) (c.lead.ensures.led hs (among (goal.at.returns-in_err-keep_range-clause-led c).After-go_to hs all) led)
+
+pub returns-clause-led : goal.returns-clause-led
+returns-clause-led c = λ hs all led. rw (c.in_ok-lacks.ensures.led, c.go_to.ensures.led) (c.lead.ensures.led hs (among (goal.at.returns-clause-led c).After-go_to hs all) led)
