@@ -16,7 +16,7 @@ import sys
 WORD = re.compile(r"[^\s(){}\[\],;.:λ→×]+")
 # Inside a module with parameters items are indented, and so are the fields of a record, which begin with `pub` alone.
 ITEM = re.compile(
-    r"^(?:(?:abbrev|unfoldable|opaque|pub|data|record)\s+)+([^\s:({]+)"
+    r"^(?!pub use)(?:(?:abbrev|unfoldable|opaque|pub|data|record)\s+)+([^\s:({]+)"
     r"|^  (?:pub\s+)?(?:abbrev|unfoldable|opaque|data|record)\s+(?:pub\s+)?([^\s:({]+)"
 )
 # Behind its clauses a function has a body, and a method of a trait, which is never `pub`, may have none.
@@ -76,7 +76,7 @@ class Specs:
     """The definitions of all crates, each with its lines, and what its module imports."""
 
     def __init__(self, root):
-        self.items, self.uses = {}, {}
+        self.items, self.uses, self.passed = {}, {}, {}
         for crate in sorted(os.listdir(f"{root}/crates")):
             folder = f"{root}/crates/{crate}/specs"
             for at, _, names in os.walk(folder):
@@ -87,6 +87,7 @@ class Specs:
 
     def take(self, module, text):
         self.uses[module] = imports(text, "(?:pub )?use")
+        self.passed.update({(module, name): to for name, to in imports(text, "pub use").items()})
         name = None
         for line in text.split("\n"):
             match = ITEM.match(line)
@@ -98,8 +99,14 @@ class Specs:
             if name and line.strip() and not line.lstrip().startswith("--"):
                 self.items[module, name].append(line)
 
+    def stands(self, key):
+        """Where a definition stands that modules may pass on by `pub use`."""
+        while key in self.passed:
+            key = self.passed[key]
+        return key
+
     def named(self, module, text):
-        uses, found = self.uses.get(module, {}), set()
+        uses, found = {short: self.stands(it) for short, it in self.uses.get(module, {}).items()}, set()
         for word in WORD.findall(text):
             if (module, word) in self.items:
                 found.add((module, word))
@@ -124,7 +131,7 @@ class Specs:
 
 
 def rests_on(specs, uses, text):
-    return {uses[word] for word in WORD.findall(text) if uses.get(word) in specs.items}
+    return {it for it in (specs.stands(uses.get(word)) for word in WORD.findall(text)) if it in specs.items}
 
 
 def exports(text):

@@ -52,7 +52,7 @@ TOOLS = {"gcc": ["gcc"], "clang": ["clang"], "gdb": ["gdb"], "objcopy": ["objcop
 CODES = [
     ("crates/dw_num/src/refusal.rt", "Code", "Refusals of a section or of an expression"),
     ("crates/dw_eval/src/error.rt", "Kind", "Faults of an expression"),
-    ("crates/dw_unwind/src/fault.rt", "DumpCode", "Refusals of a dump"),
+    ("crates/dw_dump/src/fault.rt", "DumpCode", "Refusals of a dump"),
 ]
 
 

@@ -253,7 +253,7 @@ def wrong_numbers(own, header, rust):
 def main():
     sources = {path.name: plain(path.read_text()) for path in sorted((ROOT / "crates/dw_library/src").glob("*.rt"))}
     # The entries of an index are those of a table.
-    sources["indexing.rt"] = text_of("crates/dw_section/src/fde_range.rt")
+    sources["indexing.rt"] = text_of("crates/dw_index/src/ranged.rt")
     rattle = " ".join(sources.values())
     header = text_of("include/dwframe.h")
     rust = " ".join(plain(path.read_text()) for path in sorted((ROOT / "bindings/rust/src").glob("*.rs")))

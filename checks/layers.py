@@ -17,16 +17,17 @@ import sys
 
 from definitions import WORD, imports, read
 
-BY_PROMISES = ("dw_section", "dw_unwind")
+BY_PROMISES = ("dw_section", "dw_dump", "dw_unwind")
 # Definitions of specs/Inner, lemmas of proofs. A lemma of a crate of BY_PROMISES counts too: what is left is listed in docs/PROVING.md.
 BUDGETS = {
     "dw_op": (3, 52),
     "dw_eval": (1, 4),
     "dw_row": (4, 2),
     "dw_cfa": (8, 49),
-    "dw_section": (0, 64),
+    "dw_section": (0, 69),
     "dw_canon": (44, 97),
     "dw_normal": (43, 45),
+    "dw_dump": (0, 2),
     "dw_unwind": (0, 5),
     "dw_command": (3, 6),
     "dw_library": (0, 4),

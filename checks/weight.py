@@ -17,19 +17,22 @@ import sys
 
 # Lines of sources, and of proofs.
 BUDGET = {
-    "dw_num": (972, 1167),
-    "dw_op": (1522, 3937),
-    "dw_eval": (1160, 1097),
-    "dw_row": (2354, 2082),
-    "dw_cfa": (2408, 3587),
-    "dw_section": (2280, 5392),
-    "dw_canon": (53, 3327),
-    "dw_normal": (1990, 2731),
-    "dw_unwind": (1347, 2278),
-    "dw_words": (821, 1076),
-    "dw_command": (1926, 1720),
-    "dwframe": (262, 0),
-    "dw_library": (1601, 790),
+    "dw_num": (969, 1167),
+    "dw_index": (68, 148),
+    "dw_op": (1514, 3976),
+    "dw_eval": (1156, 1097),
+    "dw_row": (2353, 2082),
+    "dw_cfa": (2406, 3587),
+    "dw_section": (2227, 5273),
+    "dw_canon": (52, 3327),
+    "dw_normal": (1988, 2911),
+    "dw_dump": (611, 1351),
+    "dw_unwind": (741, 951),
+    "dw_files": (340, 39),
+    "dw_words": (811, 1071),
+    "dw_command": (1691, 1683),
+    "dwframe": (165, 0),
+    "dw_library": (1600, 790),
 }
 # How many characters a line of sources may have.
 LONGEST = 160

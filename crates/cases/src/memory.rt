@@ -1,6 +1,6 @@
 //! A dump's memory whose device fails at one read.
 
-ghost use Rattle.dw_unwind.specs.Ranges.{byte_in};
+ghost use Rattle.dw_dump.specs.Ranges.{byte_in};
 
 use dw_eval::{Memory, ReadFault};
 use dw_num::Order;

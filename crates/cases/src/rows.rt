@@ -76,28 +76,61 @@ fn agree(
     compare("a look-up", text.as_str(), wanted)
 }
 
-// In its own section; in one that ends before the FDE's place; where another FDE stands at the place; and where what stands
-// there is refused.
+const THIRD: &str =
+    "0x401000 Row { cfa: Register { register: 6, offset: 16 }, registers: { 6: Offset(-16), 16: Offset(-8), } }";
+
+const FIRST: &str =
+    "0x401000 Row { cfa: Register { register: 7, offset: 8 }, registers: { 16: Offset(-8), } }";
+
+const OTHER: &str =
+    "0x1000 Row { cfa: Register { register: 7, offset: 8 }, registers: { 16: Offset(-8), } }";
+
+// In its own section, and in one that ends before the FDE's place.
+const LOOK_UPS: &[(&[u8], u64, &str)] = &[
+    (TWO, 0x401004, THIRD),
+    (TWO, 0x401000, FIRST),
+    (TWO, 0x1003, OTHER),
+    (TWO, 0x100f, OTHER),
+    (TWO, 0xfff, "none"),
+    (TWO, 0x401010, "none"),
+    (PLAIN, 0x401000, FIRST),
+    (PLAIN, 0x1003, "BadIndex"),
+];
+
+// The section with one byte changed, at a place: another FDE stands there, or what stands there is refused.
+const CHANGED: &[(usize, u8, &str)] = &[
+    (0x21, 0x20, "BadIndex"),
+    (
+        0x30,
+        0x2e,
+        "Refused(Refusal { code: UnknownInstruction, at: 48 })",
+    ),
+];
+
+fn changed_is(
+    alloc: Global,
+    index: &[Ranged],
+    at: usize,
+    byte: u8,
+    wanted: &str,
+) -> Result<(), Fail> {
+    agree(
+        alloc,
+        &changed(alloc, TWO, at, byte)?,
+        index,
+        0x401004,
+        wanted,
+    )
+}
+
 fn all_agree(alloc: Global, index: &[Ranged]) -> Result<(), Fail> {
-    let third =
-        "0x401000 Row { cfa: Register { register: 6, offset: 16 }, registers: { 6: Offset(-16), 16: Offset(-8), } }";
-    let first =
-        "0x401000 Row { cfa: Register { register: 7, offset: 8 }, registers: { 16: Offset(-8), } }";
-    let other =
-        "0x1000 Row { cfa: Register { register: 7, offset: 8 }, registers: { 16: Offset(-8), } }";
-    agree(alloc, TWO, index, 0x401004, third)?;
-    agree(alloc, TWO, index, 0x401000, first)?;
-    agree(alloc, TWO, index, 0x1003, other)?;
-    agree(alloc, TWO, index, 0x100f, other)?;
-    agree(alloc, TWO, index, 0xfff, "none")?;
-    agree(alloc, TWO, index, 0x401010, "none")?;
-    agree(alloc, PLAIN, index, 0x401000, first)?;
-    agree(alloc, PLAIN, index, 0x1003, "BadIndex")?;
-    let moved = changed(alloc, TWO, 0x21, 0x20)?;
-    agree(alloc, &moved, index, 0x401004, "BadIndex")?;
-    let refused = changed(alloc, TWO, 0x30, 0x2e)?;
-    let told = "Refused(Refusal { code: UnknownInstruction, at: 48 })";
-    agree(alloc, &refused, index, 0x401004, told)
+    for (bytes, address, wanted) in LOOK_UPS {
+        agree(alloc, *bytes, index, *address, *wanted)?;
+    }
+    for (at, byte, wanted) in CHANGED {
+        changed_is(alloc, index, *at, *byte, *wanted)?;
+    }
+    Ok(())
 }
 
 #[test]

@@ -1,5 +1,4 @@
-//! What the normal form of call frame information is, and what holds of it. There is no code here: the functions do nothing,
-//! and their contracts are proved.
+//! What the normal form of call frame information is, and what holds of it. The functions do nothing: their contracts are proved.
 //!
 //! Read `specs/Headline.antt` first, then `specs/Members.antt` and `specs/Canon.antt`.
 #![tactic(auto)]

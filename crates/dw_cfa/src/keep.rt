@@ -76,22 +76,17 @@ pub(crate) trait Keep<'a> {
 pub(crate) fn cfa_behind<'a>(instr: Instr<'a>, cfa: &CfaRule<'a>) -> Option<CfaRule<'a>>
     ensures { IsCfaBehind instr.entry cfa.now result }
 {
-    match (instr, cfa) {
-        (Instr::DefCfa { register, offset }, _) => Some(CfaRule::Register { register, offset }),
-        (Instr::DefCfaExpression(expression), _) => Some(CfaRule::Expression(expression)),
-        (Instr::DefCfaRegister(register), CfaRule::Register { offset, .. }) => {
-            Some(CfaRule::Register {
-                register,
-                offset: *offset,
-            })
-        }
-        (Instr::DefCfaOffset(offset), CfaRule::Register { register, .. }) => {
-            Some(CfaRule::Register {
-                register: *register,
-                offset,
-            })
-        }
-        (Instr::DefCfaRegister(_) | Instr::DefCfaOffset(_), _) => None,
+    match instr {
+        Instr::DefCfa { register, offset } => Some(CfaRule::Register { register, offset }),
+        Instr::DefCfaExpression(expression) => Some(CfaRule::Expression(expression)),
+        Instr::DefCfaRegister(register) => match *cfa {
+            CfaRule::Register { offset, .. } => Some(CfaRule::Register { register, offset }),
+            _ => None,
+        },
+        Instr::DefCfaOffset(offset) => match *cfa {
+            CfaRule::Register { register, .. } => Some(CfaRule::Register { register, offset }),
+            _ => None,
+        },
         _ => Some(cfa.copied()),
     }
 }

@@ -27,8 +27,13 @@ fn rule_behind<'a>(
         Opcode::ValOffset => Ok(RegRule::ValOffset(factored(cursor, factors, at)?)),
         Opcode::ValOffsetSf => Ok(RegRule::ValOffset(signed(cursor, factors, at)?)),
         Opcode::Register => Ok(RegRule::Register(cursor.register()?)),
-        Opcode::Expression => Ok(RegRule::Expression(block(cursor)?)),
-        _ => Ok(RegRule::ValExpression(block(cursor)?)),
+        _ => {
+            let expression = block(cursor)?;
+            match opcode {
+                Opcode::Expression => Ok(RegRule::Expression(expression)),
+                _ => Ok(RegRule::ValExpression(expression)),
+            }
+        }
     }
 }
 
@@ -73,22 +78,20 @@ fn read_other<'a>(
     ensures exact { Gives (λ i. i) result (other_at factors at opcode cursor.old) cursor.new }
     ensures limit { IfOk result (InLimit (address_limit cursor.old.target.size)) }
 {
+    let register = match opcode {
+        Opcode::SetLoc => return Ok(Instr::SetLoc(cursor.address()?)),
+        Opcode::AdvanceLoc4 => return Ok(Instr::Advance(distance(cursor.fixed(4)?, factors))),
+        Opcode::DefCfaExpression => return Ok(Instr::DefCfaExpression(block(cursor)?)),
+        _ => cursor.register()?,
+    };
     match opcode {
-        Opcode::SetLoc => Ok(Instr::SetLoc(cursor.address()?)),
-        Opcode::AdvanceLoc4 => Ok(Instr::Advance(distance(cursor.fixed(4)?, factors))),
-        Opcode::RestoreExtended => Ok(Instr::Restore(cursor.register()?)),
+        Opcode::RestoreExtended => Ok(Instr::Restore(register)),
+        Opcode::DefCfaRegister => Ok(Instr::DefCfaRegister(register)),
         Opcode::DefCfaSf => {
-            let register = cursor.register()?;
             let offset = signed(cursor, factors, at)?;
             Ok(Instr::DefCfa { register, offset })
         }
-        Opcode::DefCfaRegister => Ok(Instr::DefCfaRegister(cursor.register()?)),
-        Opcode::DefCfaExpression => Ok(Instr::DefCfaExpression(block(cursor)?)),
-        _ => {
-            let register = cursor.register()?;
-            let rule = rule_behind(opcode, cursor, factors, at)?;
-            Ok(Instr::Set(register, rule))
-        }
+        _ => Ok(Instr::Set(register, rule_behind(opcode, cursor, factors, at)?)),
     }
 }
 

@@ -2,7 +2,7 @@
 use Rattle.dw_command.proofs.Words.{◌≡◌, ◌∙◌, ℕ, zero, suc, ◌+◌, ◌<◌, ◌≤◌, Bool, true, false, List, [], ◌∷◌, ◌++◌, length, take, drop, Option, Some, None, Result, Ok, Err, refl, sym, ap, arith, inl, inr, ◌==◌, append_assoc, append-nil}
 use Rattle.dw_command.proofs.Words.{length-drop, Size, addresses_of, behind_line, ReadUpTo, behind, line_len}
 use Rattle.std.proofs.lemmas.Bool.Decides.{eqb_tells}
-use Rattle.dw_unwind.specs.Lines.{in_front, lines_of}
+use Rattle.dw_dump.specs.Lines.{in_front, lines_of}
 use Rattle.dw_words.specs.Values.{address}
 
 -- ---- the first line

@@ -8,5 +8,4 @@ pub mod HexLines
 pub mod Members
 pub mod OpLines
 pub mod Puts
-pub mod Shows
 pub mod TextLines

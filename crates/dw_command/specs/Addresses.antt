@@ -2,8 +2,8 @@
 use Rattle.std.specs.Prelude.{◌≡◌, ⊤, ℕ, suc, List, [], ◌∷◌, codes, Option, Some, None, Result, Ok, Err}
 use Rattle.clap.specs.Words.{Text}
 use Rattle.dw_num.specs.declared.target.Size.{Size}
-use Rattle.dw_unwind.specs.declared.fault.{DumpCode.TheVariants.BadLine, DumpError.DumpError}
-use Rattle.dw_unwind.specs.declared.fault.DumpError.TheVariants as dump_error
+use Rattle.dw_dump.specs.declared.fault.{DumpCode.TheVariants.BadLine, DumpError.DumpError}
+use Rattle.dw_dump.specs.declared.fault.DumpError.TheVariants as dump_error
 use Rattle.dw_words.specs.Values.{address}
 
 -- a line says this address, the lines behind it say those

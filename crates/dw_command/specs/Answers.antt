@@ -12,17 +12,18 @@ use Rattle.dw_section.specs.{Meaning.{AreFdes, Covers, NoneCovers, RowStarts, Ru
 use Rattle.dw_section.specs.declared.{entry.Entry.Entry, entry.EntryCounts.EntryCounts, lookup.Fde.Fde}
 use Rattle.dw_canon.specs.{Members.{AreMembers, Member, changes_of}, Normal.IsNormalForm}
 use Rattle.dw_normal.specs.Answers.{FitsCap, NormalFault, SameFault}
-use Rattle.dw_unwind.specs.{Describes.{Describes, RefusesDump}, Dump.Say, Lines.lines_of, Ranges.byte_in, Statement.Statement}
-use Rattle.dw_unwind.specs.{Unwound.{Unwound, stopped}, declared.dump.Dump.Dump, declared.frame.Frame.Frame}
+use Rattle.dw_dump.specs.{Describes.{Describes, RefusesDump}, Dump.Say, Lines.lines_of, Ranges.byte_in, Statement.Statement, declared.dump.Dump.Dump}
+use Rattle.dw_unwind.specs.{Unwound.{Unwound, stopped}, declared.frame.Frame.Frame}
 use Rattle.dw_unwind.specs.declared.frame.UnwindError.TheVariants as unwind_error
 use Rattle.dw_words.specs.{Plan.Planned, declared.request.Evaluation.Evaluation}
 use Rattle.dw_words.specs.declared.request.{Lookup.Lookup, Request.Request, Task.Task, Unwinding.Unwinding}
 use Rattle.dw_words.specs.declared.request.Request.TheVariants as requests
 use Rattle.dw_words.specs.declared.request.Task.TheVariants as tasks
+use Rattle.dw_files.specs.declared.files.{LoadError.LoadError, LoadError.TheVariants.CannotRead}
 use Rattle.dw_command.specs.{Addresses.{RefusesLine, addresses_of, lines_in}, Failure.{OfLoad, OfSame, OfUnwind, of_read, of_dump, of_eval, of_plan, status_of}}
 use Rattle.dw_command.specs.{Output.Output, RowTexts.{At, at_text, member_text}}
 use Rattle.dw_command.specs.Texts.{block_text, cost_text, counts_text, entry_text, frame_text, lines, sameness_text, value_text}
-use Rattle.dw_command.specs.declared.{failure.Failure.Failure, files.LoadError.LoadError, files.LoadError.TheVariants.CannotRead}
+use Rattle.dw_command.specs.declared.failure.Failure.{Failure}
 use Rattle.dw_command.specs.declared.failure.Failure.TheVariants as failures
 
 -- ---- one thing after another

@@ -1,7 +1,8 @@
 -- What the command does to its output, by what the output holds.
 use Rattle.std.specs.Prelude.{◌≡◌, ℕ, List, Option, Result}
 use Rattle.clap.specs.Words.{Text}
-use Rattle.dw_command.specs.{Answers.{Ends, exit_of}, Output.Output, declared.failure.Failure.Failure, declared.files.LoadError.LoadError}
+use Rattle.dw_files.specs.declared.files.LoadError.{LoadError}
+use Rattle.dw_command.specs.{Answers.{Ends, exit_of}, Output.Output, declared.failure.Failure.Failure}
 
 -- an output that holds all that was put, and failed so often
 abbrev pub holding : Option (List ℕ) → ℕ → Output

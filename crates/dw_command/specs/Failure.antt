@@ -7,14 +7,16 @@ use Rattle.dw_eval.specs.declared.error.EvalError.{EvalError}
 use Rattle.dw_eval.specs.declared.error.EvalError.TheVariants as eval_error
 use Rattle.dw_normal.specs.declared.error.{SameError.SameError, Which.TheVariants.{First, Second}}
 use Rattle.dw_normal.specs.declared.error.SameError.TheVariants as same_error
-use Rattle.dw_unwind.specs.declared.{fault.DumpError.DumpError, frame.Column.Column, frame.UnwindError.UnwindError}
-use Rattle.dw_unwind.specs.declared.fault.DumpError.TheVariants as dump_error
+use Rattle.dw_dump.specs.declared.fault.DumpError.{DumpError}
+use Rattle.dw_unwind.specs.declared.frame.{Column.Column, UnwindError.UnwindError}
+use Rattle.dw_dump.specs.declared.fault.DumpError.TheVariants as dump_error
 use Rattle.dw_unwind.specs.declared.frame.UnwindError.TheVariants as unwind_error
+use Rattle.dw_files.specs.declared.files.LoadError.{LoadError}
+use Rattle.dw_files.specs.declared.files.LoadError.TheVariants as load_error
 use Rattle.dw_words.specs.declared.request.PlanError.{PlanError}
 use Rattle.dw_words.specs.declared.request.PlanError.TheVariants as plan_error
-use Rattle.dw_command.specs.declared.{failure.Failure.Failure, files.LoadError.LoadError}
+use Rattle.dw_command.specs.declared.failure.Failure.{Failure}
 use Rattle.dw_command.specs.declared.failure.Failure.TheVariants as failures
-use Rattle.dw_command.specs.declared.files.LoadError.TheVariants as load_error
 
 -- the exit status of a failure: 2 for what is wrong with a section, a dump or an expression, 3 for wrong words,
 -- 4 for a file or an output that fails, 5 for want of memory

@@ -3,5 +3,4 @@ pub mod Failure
 pub mod Lent
 pub mod Lines
 pub mod Output
-pub mod Terminal
 pub mod Exits

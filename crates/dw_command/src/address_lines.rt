@@ -1,7 +1,7 @@
 //! Addresses in the lines of a text, one a line.
 
 ghost use Rattle.std.specs.Prelude.{◌≡◌, ◌≤◌, ◌++◌, List, ℕ, length, Ok, MatchResult};
-ghost use Rattle.dw_unwind.specs.Lines.{lines_of};
+ghost use Rattle.dw_dump.specs.Lines.{lines_of};
 ghost use Rattle.dw_command.specs.{Addresses.{RefusesLine, addresses_of}, Inner.Lines.line_len};
 
 use dw_num::Size;

@@ -5,12 +5,12 @@ ghost use Rattle.dw_command.specs.{Answers.{Ends, PrintsText, TaskEnds}, Engine.
 
 use crate::expression::{run_eval, run_expr};
 use crate::failure::Failure;
-use crate::files::Load;
 use crate::lent::Lent;
 use crate::listing::Listing;
 use crate::rows::{run_at, run_rows};
 use crate::section::{run_check, run_cost, run_entries, run_normal, run_same};
 use crate::unwind::run_unwind;
+use dw_files::Load;
 use dw_words::{Job, Request, Task, plan};
 use std::alloc::Global;
 use std::io::Write;

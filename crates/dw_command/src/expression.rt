@@ -4,10 +4,11 @@ ghost use Rattle.std.specs.Prelude.{◌≡◌, false};
 ghost use Rattle.dw_command.specs.{Answers.{EvalEnds, OverBlock}, Texts.{least_text, numbered}, Inner.Output.{Adds, output_of}};
 
 use crate::failure::Failure;
-use crate::files::{Load, load_text};
+use crate::files::load_text;
 use crate::listing::Listing;
 use crate::texts::{put_hex, put_op};
 use dw_eval::{Env, evaluate};
+use dw_files::Load;
 use dw_num::Target;
 use dw_op::{EncodeError, Op, OpList, Profile, decode, encode};
 use dw_unwind::Dump;

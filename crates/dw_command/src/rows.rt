@@ -9,10 +9,11 @@ ghost use Rattle.dw_command.specs.{RowTexts.{At, at_text, member_text, row_text}
 
 use crate::address_lines::add_lines;
 use crate::failure::Failure;
-use crate::files::{Load, STDIN, load_file, load_text};
+use crate::files::{load_file, load_text};
 use crate::listing::Listing;
 use crate::row_text::{put_fde, put_none, put_row};
 use dw_cfa::RowRoom;
+use dw_files::{Load, STDIN};
 use dw_num::Target;
 use dw_section::{Changes, FdeRef, Table, check};
 use dw_words::Lookup;

@@ -6,8 +6,9 @@ ghost use Rattle.dw_command.specs.{Answers.{ChangeCount, Costs, Cuts, Normalises
 ghost use Rattle.dw_command.specs.{Inner.Output.{Adds, output_of}, Texts.{cost_text, counts_text, entry_text, form_text, kind_text, lines, sameness_text}};
 
 use crate::failure::Failure;
-use crate::files::{LIMIT, Load, load_file};
+use crate::files::load_file;
 use crate::listing::Listing;
+use dw_files::{LIMIT, Load};
 use dw_normal::{normal_length, normalise_to, same};
 use dw_num::{Form, Target};
 use dw_section::{Changes, Entry, FdeRef, Kind, Table, check, entries};

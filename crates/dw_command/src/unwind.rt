@@ -4,8 +4,9 @@ ghost use Rattle.std.specs.Prelude.{◌≡◌, false};
 ghost use Rattle.dw_command.specs.{Answers.{Before, Frames, Prints, UnwindEnds}, Texts.{frame_text, lines, register_text}, Inner.Output.{Adds, output_of}};
 
 use crate::failure::Failure;
-use crate::files::{Load, load_dump, load_file};
+use crate::files::{load_dump, load_file};
 use crate::listing::Listing;
+use dw_files::Load;
 use dw_num::Target;
 use dw_section::{Table, check};
 use dw_unwind::{Dump, Frame, FrameRoom, unwind};

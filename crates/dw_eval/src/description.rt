@@ -212,8 +212,7 @@ fn run<'a, M: Memory>(
 
 /// The pieces that a location description describes (2.6), in order: at least one, which is `Part::Whole` where no piece or bit_piece is executed. The
 /// addresses and values of places are below 2^N, where an address has N bits. The stack begins empty; the list's target has to be that of the environment.
-/// `steps` is the most operations that are executed, as in `evaluate`. Takes memory where the stack or the list of pieces grows, and answers `OutOfMemory`
-/// where it is refused.
+/// `steps` is the most operations that are executed, as in `evaluate`. Takes memory for the stack and the list (`OutOfMemory`).
 ///
 /// While a place waits for its piece, an operation other than piece, bit_piece and nop is `StackUnderflow`, where the stack has too few entries for it, or
 /// else `MissingPiece`; behind pieces nothing may be left at the end, else `MissingPiece` there. The other faults are those of `evaluate`, but `EmptyResult`

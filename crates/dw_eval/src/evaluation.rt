@@ -69,8 +69,7 @@ fn run<M: Memory>(
 
 /// The value of an expression (2.5): the top of the stack when the end is reached. It is below 2^N, where an address has N bits. The stack begins with
 /// `start` modulo 2^N alone, or empty; the list's target has to be that of the environment. `steps` is the most operations that are executed, those of a loop
-/// counted each time; if the last of them leads to the end, that is no fault. Takes memory where the stack grows, and answers `OutOfMemory` where it is
-/// refused.
+/// counted each time; if the last of them leads to the end, that is no fault. Takes memory where the stack grows (`OutOfMemory`).
 ///
 /// A fault names the operation that it comes from: `StepLimit` the one that is not executed since so many steps were taken, `EmptyResult` the end. `Device`
 /// is answered exactly where the memory's count of failures grew; which of several reads failed is not said by the contract. All kinds of `Kind` may come but

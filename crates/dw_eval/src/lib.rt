@@ -1,9 +1,7 @@
-//! Evaluation of DWARF expressions (2.5) and location descriptions (2.6), over registers and a memory whose
-//! device may fail.
+//! Evaluation of DWARF expressions (2.5) and location descriptions (2.6), over registers and a memory whose device may fail.
 //!
-//! An expression has exactly one value or fault, and a description one list of pieces or fault: these are
-//! answered, or want of memory; `Device` exactly where the memory's count of failures grew. Read
-//! `specs/Effect.antt` first, the table of operations, and `specs/Runs.antt`, which says what a run answers.
+//! An expression has exactly one value or fault, and a description one list of pieces or fault: these are answered, or want of memory; `Device` exactly
+//! where the memory's count of failures grew. Read `specs/Effect.antt` first, the table of operations, and `specs/Runs.antt`, which says what a run answers.
 #![tactic(auto)]
 
 mod action;

@@ -4,8 +4,8 @@ use Rattle.dw_num.specs.declared.{refusal.Refusal.Refusal, target.Target.Target}
 use Rattle.dw_op.specs.{Expression.{Expression as Operations}, Faults.IsWithin, Least.LeastBlock}
 use Rattle.dw_row.specs.{Rows.Rules, declared.rule.{CfaRule.CfaRule, RegRule.{RegRule, TheVariants.{Expression, ValExpression}}}}
 use Rattle.dw_row.specs.declared.rule.CfaRule.TheVariants as cfa
-use Rattle.dw_section.specs.{Meaning.{AreFdes, NoneCovers, RulesAt}, Ranges.{LeadsTo, Uncovered, IsTable}}
-use Rattle.dw_section.specs.{StandingFde.{LookUpFault, Misleads, Ruled, RulesOf}, declared.fde_range.Ranged.Ranged, declared.lookup.Fde.Fde}
+use Rattle.dw_section.specs.{Meaning.{AreFdes, NoneCovers, RulesAt}, Ranges.{LeadsTo, Ranged, Uncovered, IsTable}}
+use Rattle.dw_section.specs.{StandingFde.{LookUpFault, Misleads, Ruled, RulesOf}, declared.lookup.Fde.Fde}
 use Rattle.dw_library.specs.Answers.{ok, refused, out_of_memory, bad_argument, too_short, not_refused, told}
 use Rattle.dw_library.specs.declared.{answer.Refused.Refused, expressions.Block.Block, expressions.Blocks.Blocks}
 

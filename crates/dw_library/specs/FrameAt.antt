@@ -2,7 +2,7 @@
 use Rattle.std.specs.Prelude.{◌≡◌, ◌⊎◌, ℕ, List, map, Option, Some, None, Result, Ok, Err}
 use Rattle.dw_num.specs.declared.target.Target.{Target}
 use Rattle.dw_eval.specs.{Registers.held, declared.policy.Policy.Policy}
-use Rattle.dw_section.specs.{Ranges.IsTable, declared.fde_range.Ranged.Ranged}
+use Rattle.dw_section.specs.Ranges.{IsTable, Ranged}
 use Rattle.dw_unwind.specs.{Unwound.stopped, UnwoundAt.UnwoundAt, declared.by_index.UnwindAtError.UnwindAtError}
 use Rattle.dw_unwind.specs.declared.{by_index.UnwindAtError.TheVariants.{BadIndex, Refused, Unwind}, frame.Frame.{Frame as CallerFrame}}
 use Rattle.dw_library.specs.Answers.{refused, out_of_memory, bad_argument, not_refused, told}

@@ -7,8 +7,8 @@ use Rattle.dw_row.specs.declared.rule.RegRule.TheVariants.{Unspecified, Undefine
 use Rattle.dw_row.specs.declared.rule.CfaRule.{CfaRule}
 use Rattle.dw_row.specs.Rows.{Rules}
 use Rattle.dw_row.specs.declared.rule.CfaRule.TheVariants as cfa
-use Rattle.dw_section.specs.{Accepted.CheckFault, Among.IsAmong, Meaning.{AreFdes, NoneCovers, RulesAt}, Ranges.{LeadsTo, Uncovered, IsTable}}
-use Rattle.dw_section.specs.{StandingFde.{LookUpFault, Misleads, Ruled, RulesOf}, declared.fde_range.Ranged.Ranged, declared.lookup.Fde.Fde}
+use Rattle.dw_section.specs.{Accepted.CheckFault, Among.IsAmong, Meaning.{AreFdes, NoneCovers, RulesAt}, Ranges.{LeadsTo, Ranged, Uncovered, IsTable}}
+use Rattle.dw_section.specs.{StandingFde.{LookUpFault, Misleads, Ruled, RulesOf}, declared.lookup.Fde.Fde}
 use Rattle.dw_library.specs.Answers.{AreAtFront, ok, refused, out_of_memory, bad_argument, too_short, not_refused, told}
 use Rattle.dw_library.specs.declared.{answer.Refused.Refused, index.Row.Row, index.Rule.Rule}
 

@@ -1,5 +1,5 @@
 -- Sets of registers outside which two rows are the same: as they are listed, and as one is known by another.
-use Rattle.dw_normal.proofs.Words.{◌≡◌, ℕ, ◌<◌, false, List, Option, Some, None, sym, ap, subst, inl, inr, IfSome, BTreeMap, Rules, rule, Changing, row_of, row_or_blank, shown_row, ◌||◌, Registers, SameBeside, has, CieLeaves, Section}
+use Rattle.dw_normal.proofs.Words.{◌≡◌, ℕ, ◌<◌, false, List, Option, Some, None, sym, subst, inl, inr, IfSome, BTreeMap, Rules, rule, Changing, row_of, shown_row, ◌||◌, Registers, SameBeside, has, CieLeaves, Section}
 use Rattle.dw_normal.proofs.Words.{rules, Behind, NotesSame, ShownBehind, AreSame, HoldsAt, CieSet, Known}
 
 -- ---- registers that are listed
@@ -28,14 +28,14 @@ module _ (s : Section) (rows : List (ℕ × Rules)) where
         let here = subst (λ (o : Option CieSet). IfSome o (SameAt place)) is (known place) in
         subst (λ (o : Option Rules). IfSome o (λ shared. SameBeside set shared row)) look (here row leaves)
 
-    -- of the CIE of an FDE, whose first row is this
-    pub known_first : (changes : Changing) (first : Rules) → changes.shown ≡ Some first → (behind : Option Behind) (changed : Registers) (cies : BTreeMap ℕ CieSet) → changes.section ≡ s → IfSome behind (ShownBehind changes changed)
-        → AreSame s rows cies → IfSome behind (λ b. (row : Rules) × HoldsAt (λ set. SameBeside set shared row) b.cie_at register cies × SameBeside changed row first)
-    known_first changes first shown None changed cies section stands known = tt
-    known_first changes first shown (Some b) changed cies section stands known = (
+    -- of the CIE of an FDE, whose first row is shown
+    pub known_first : (changes : Changing) (behind : Option Behind) (changed : Registers) (cies : BTreeMap ℕ CieSet) → changes.section ≡ s → IfSome behind (ShownBehind changes changed)
+        → AreSame s rows cies → IfSome behind (λ b. (row : Rules) × HoldsAt (λ set. SameBeside set shared row) b.cie_at register cies × SameBeside changed row (shown_row changes))
+    known_first changes None changed cies section stands known = tt
+    known_first changes (Some b) changed cies section stands known = (
       stands.row,
       known_same cies known b.cie_at stands.row (subst (λ (t : Section). CieLeaves t.target t.bytes b.cie_at stands.row) section stands.leaves),
-      subst (λ (row : Rules). SameBeside changed stands.row row) (ap row_or_blank shown) stands.beside,
+      stands.beside,
     )
 
     -- a set that is noted of the CIE of an FDE

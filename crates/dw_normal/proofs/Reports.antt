@@ -1,5 +1,5 @@
 -- From what is known of a section's members to what the calls over normal forms answer.
-use Rattle.dw_normal.proofs.Words.{◌≡◌, ◌⊎◌, ℕ, ◌-◌, ◌<◌, ◌≤◌, Bool, false, List, [], length, length-append, take, take-append_seam, Option, Some, Result, Ok, Err, refl, sym, ap, ◌∙◌, subst, inl, inr, arith, Decides, Appends, Keeps-refl, AreBytes, Target, Refuses, Accepted}
+use Rattle.dw_normal.proofs.Words.{◌≡◌, ◌⊎◌, ℕ, ◌+◌, ◌-◌, ◌<◌, ◌≤◌, Bool, false, List, [], length, length-append, take, take-append_seam, Option, Some, Result, Ok, Err, refl, sym, ap, ◌∙◌, subst, inl, inr, arith, Decides, Appends, Keeps-refl, AreBytes, Target, Refuses, Accepted}
 use Rattle.dw_normal.proofs.Words.{CheckFault, canon, Member, AreMembers, members_exist, normal_form_is_one, same_exactly, IsTooLong, FitsCap, NormalFault, SameFault, WentOut, Writes, too_long, Puts, Sends, Takes, Place, Stop, Full, Failed, Memory, First, Second, IfOk}
 use Rattle.dw_normal.proofs.Words.{IfErr, Likens, Refusal, ReadError, IsShort, IsMeasured, LengthFault, blamed, unread, unwritten, SameError, WriteError, Section}
 use Rattle.dw_section.specs.Meanings.{SameMeaning}
@@ -20,6 +20,13 @@ is_too_long t s cap counts e old new b ok room full put =
     let found = members_exist t s b ok in
     let long : old.room < length (canon t found.0) = subst (λ (x : Stop). Puts counts (canon t found.0) (Err x) old new) full (put found.0 found.1) in
     (canon t found.0, is_normal t s found.0 b ok found.1, omega (arith, long, room))
+
+-- there was room for them, and so many bytes were counted
+pub is_measured : (t : Target) (s : List ℕ) (cap old new : ℕ) → AreBytes s → Accepted t s → old ≡ cap → ((ms : List Member) → AreMembers t s ms → new + length (canon t ms) ≡ old) → IsMeasured t cap s (cap - new)
+is_measured t s cap old new b ok room put = record {
+  short = record { bytes = b; accepted = ok; within = λ ms are. omega (arith, put ms are, room) };
+  len_is = λ ms are. omega (arith, put ms are, room);
+}
 
 -- the normal form of a section that is short
 pub record Whole (t : Target) (cap : ℕ) (s : List ℕ) : Type 0 where
@@ -65,6 +72,13 @@ length_found t cap s len h = let w = whole_of t cap s h.short in (canon t w.memb
 
 pub length_only : (t : Target) (s : List ℕ) (cap len : ℕ) → AreBytes s → IsMeasured t cap s len → (n : List ℕ) → IsNormalForm t s n → len ≡ length n
 length_only t s cap len b h n normal = h.len_is normal.members normal.are ∙ ap length (sym (whole_is t s n b normal))
+
+-- a checked table whose normal form is too long
+pub long_fault : {A : Type 0} (t : Target) (cap : ℕ) (s : List ℕ) (table : Section) (result : Result A ReadError) → table ≡ record { target = t; bytes = s }
+    → IfErr result (Refuses (λ r. IsTooLong table.target cap table.bytes × (r ≡ too_long))) → IfErr result (Refuses (NormalFault t cap s))
+long_fault t cap s table (Ok x) same h = tt
+long_fault t cap s table (Err read_error.OutOfMemory) same h = tt
+long_fault t cap s table (Err (read_error.Refused r)) same h = inr (subst (λ (x : Section). IsTooLong x.target cap x.bytes) same h.0, h.1)
 
 -- ---- what went out
 
@@ -129,6 +143,11 @@ module _ (t : Target) (cap : ℕ) (s : List ℕ) (b : AreBytes s) (failed failed
   tape_only count items w is n normal =
       let out = w.1 in
       on_tape out.0 items old new empty out.4 is ∙ normal_form_is_one t s out.0 n b out.1 normal
+
+  pub tape_found : (count : ℕ) (items : List ℕ) → Writes t cap s (Ok count) failed failed' old new → new ≡ Some items → IsNormalForm t s items × (length items ≤ cap)
+  tape_found count items w is =
+      let out = w.1 in
+      subst (λ (l : List ℕ). IsNormalForm t s l × (length l ≤ cap)) (sym (on_tape out.0 items old new empty out.4 is)) (out.1, out.2)
 
 pub tape_fault : (t : Target) (cap : ℕ) (s : List ℕ) (failed failed' : ℕ) (old new : Option (List ℕ)) (e : WriteError) (result : ReadError)
     → Writes t cap s (Err e) failed failed' old new → result ≡ unread e → Refuses (NormalFault t cap s) result
@@ -198,6 +217,23 @@ compared_only t a b one two e f ba bb result fault left right =
     by_result : (r : Result Bool SameError) → IfErr r (LengthFault t 2147483647 a b) → IfErr r (λ x. x ≡ same_error.OutOfMemory)
     by_result (Ok is) h = tt
     by_result (Err x) h = by_error x h
+
+-- two checked sections that were compared
+module _ (t : Target) (a b : List ℕ) (one two : Section) (e : one ≡ record { target = t; bytes = a }) (f : two ≡ record { target = t; bytes = b }) where
+  pub both_same : Accepted t a → Accepted t b → (result : Result Bool SameError) → IfOk result (λ (d : Bool). Decides d (SameMeaning one.target one.bytes two.bytes))
+      → IfOk result (λ (d : Bool). Accepted t a × Accepted t b × Decides d (SameMeaning t a b))
+  both_same ok ok' (Err x) h = tt
+  both_same ok ok' (Ok d) h = (ok, ok', subst (λ (x : Section). Decides d (SameMeaning t a x.bytes)) f (subst (λ (x : Section). Decides d (SameMeaning x.target x.bytes two.bytes)) e h))
+
+  pub same_fault : Accepted t b → (result : Result Bool SameError) → IfErr result (LengthFault one.target 2147483647 one.bytes two.bytes) → IfErr result (SameFault t 2147483647 a b)
+  same_fault ok result fault =
+      by_result result (subst (λ (x : Section). IfErr result (LengthFault t 2147483647 a x.bytes)) f (subst (λ (x : Section). IfErr result (LengthFault x.target 2147483647 x.bytes two.bytes)) e fault))
+    where
+      by_result : (r : Result Bool SameError) → IfErr r (LengthFault t 2147483647 a b) → IfErr r (SameFault t 2147483647 a b)
+      by_result (Ok is) h = tt
+      by_result (Err same_error.OutOfMemory) h = tt
+      by_result (Err (same_error.Refused First r)) h = inr (h.0, ok, h.1)
+      by_result (Err (same_error.Refused Second r)) h = inr h
 
 pub second_too_long : (first second : Section) (e : ReadError) (result : SameError) → first.target ≡ second.target
     → IsShort first.target 2147483647 first.bytes → Refuses (λ r. IsTooLong second.target 2147483647 second.bytes × (r ≡ too_long)) e → result ≡ blamed Second e

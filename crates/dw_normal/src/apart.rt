@@ -2,13 +2,12 @@
 
 ghost use Rattle.std.specs.{Prelude.{◌≡◌, ℕ, false, None, IfSome, OnOk}, BTreeMap.get, Ordering.nat_cmp};
 ghost use Rattle.dw_row.specs.{Difference.{FirstDifference, place_behind}, RegisterSets.SameBeside, Rows.{AreSpecified, Rules}};
-ghost use Rattle.dw_normal.specs.Inner.{Apart.{KnownBeside, NotesSame, NotesSameAt, StandsApart}, Differences.Tells};
+ghost use Rattle.dw_normal.specs.Inner.{Apart.{KnownBeside, NotesSame, NotesSameAt, StandsApart}, ChangeWalk.{IsShown, shown_row}, Differences.Tells};
 
 use crate::known::Known;
 use dw_row::{RegisterSet, Row};
 use dw_section::{Behind, Changes};
 use std::alloc::{AllocError, Global};
-use std::mem;
 
 /// How the registers are found to which two rows give different rules: by what costs least.
 #[derive(Clone, Copy)]
@@ -111,28 +110,30 @@ impl<'a> Apart<'a> {
             None => list_differences(&mut self.registers, shared, first, Differences::Rows)?,
         }
         self.known.changed.add_all(&self.registers)?;
-        let none = RegisterSet::new(self.known.alloc);
-        let set = mem::replace(&mut self.known.changed, none);
-        self.known.put(cie_at, register, set);
+        self.known.note(cie_at, register);
         Ok(())
     }
 
-    /// Lists the registers where the CIE's program is long, and else leaves them to be found by both rows.
+    /// Lists the registers where the CIE's program is long, and else leaves them to be found by both rows. One of them is the row that is shown.
     #[inline(always)]
     pub(crate) fn list(
         &mut self,
         shared: &Row<'a>,
-        first: &Row<'a>,
+        changes: &Changes<'a>,
         behind: Option<Behind>,
         register: u16,
     ) -> Result<(), AllocError>
-        requires { IfSome behind (λ b. KnownBeside b.cie_at register self.old.known shared.now first.now) }
-        ensures stands { OnOk result (StandsApart self.new shared.now first.now) }
-        ensures known { OnOk result (NotesSame behind register self.old.known shared.now first.now self.new.known.cies) }
+        requires shown { IsShown changes.now }
+        requires known { IfSome behind (λ b. KnownBeside b.cie_at register self.old.known shared.now (shown_row changes.now)) }
+        ensures stands { OnOk result (StandsApart self.new shared.now (shown_row changes.now)) }
+        ensures known { OnOk result (NotesSame behind register self.old.known shared.now (shown_row changes.now) self.new.known.cies) }
     {
         self.listed = false;
         let Some(behind) = behind else {
             return Ok(());
+        };
+        let Some(first) = changes.row() else {
+            unreachable!();
         };
         self.list_behind(shared, first, behind.cie_at, register)?;
         self.listed = true;

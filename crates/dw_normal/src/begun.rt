@@ -94,18 +94,17 @@ pub(crate) fn begin_fde<'r, 'a>(begun: &mut Begun<'r, 'a>, fde: FdeRef) -> Resul
     ensures walks { OnOk result (Walks begun.new) }
     ensures same { (begun.new.ready ≡ begun.old.ready) × (begun.new.places ≡ begun.old.places) }
 {
-    let (table, rows) = (&begun.ready.table, &begun.ready.rows);
+    let table = &begun.ready.table;
     table.accepted();
     section_laws();
     let changed = &mut begun.apart.known.changed;
     let behind = go_behind_first(&mut begun.changes, table, fde, changed)?;
-    let Some(first) = begun.changes.row() else {
-        unreachable!();
-    };
     let known = begun.fde.return_register;
     begun.fde = table.fde(fde);
     let register = begun.fde.return_register;
-    begun.shared = shared_row(rows, register, known, begun.shared);
+    begun.shared = shared_row(&begun.ready.rows, register, known, begun.shared);
     begun.cie_at = cie_of(begun.places, register, known, begun.cie_at);
-    begun.apart.list(begun.shared, first, behind, register)
+    begun
+        .apart
+        .list(begun.shared, &begun.changes, behind, register)
 }

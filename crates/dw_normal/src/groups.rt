@@ -87,7 +87,7 @@ fn begin_group<'a>(
     };
     let mut row = first.copied()?;
     changes.narrow(&mut row)?;
-    rows.insert(register, row)?;
+    drop(rows.insert(register, row)?);
     Ok(())
 }
 
@@ -143,10 +143,8 @@ fn is_joined(joined: Option<Joined>, row: Option<CieRow>, register: u16) -> bool
 fn joined_by(row: Option<CieRow>, register: u16) -> Option<Joined>
     ensures { result ≡ joined_by row register }
 {
-    match row {
-        Some(row) => Some(Joined { row, register }),
-        None => None,
-    }
+    let row = row?;
+    Some(Joined { row, register })
 }
 
 // Narrows the row of an FDE's group to what the FDE shares with it, and answers which FDEs share all that is left then. An FDE
@@ -251,7 +249,8 @@ pub(crate) fn make_ready<'a>(
     ensures short { IfOk result (λ ready. IsTrue ready.short → OfMembers table.entry (λ ms. length (canon table.entry.target ms) ≤ cap)) }
 {
     let mut rows = BTreeMap::new(alloc);
-    let (mut changes, mut known) = (table.no_changes(), Known::none(alloc));
+    let mut changes = table.no_changes();
+    let mut known = Known::none(alloc);
     let short = gather(&mut rows, &mut changes, &mut known, &table, cap);
     drop(changes);
     drop(known);

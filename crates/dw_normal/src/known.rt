@@ -50,11 +50,11 @@ impl<'a> Known<'a> {
         }
     }
 
-    /// Makes a set what is known of a CIE and of the group of a return address register. Where there is no memory for it, it is forgotten.
-    pub(crate) fn put(&mut self, cie_at: u64, register: u16, set: RegisterSet<'a>)
-        ensures puts { Puts cie_at (record { register = register; set = set.entry }) self.old.cies self.new.cies }
-        ensures changed { self.new.changed ≡ self.old.changed }
+    /// Makes the registers that were changed what is known of a CIE and of the group of a return address register, or forgets it for want of memory.
+    pub(crate) fn note(&mut self, cie_at: u64, register: u16)
+        ensures { Puts cie_at (record { register = register; set = self.old.changed }) self.old.cies self.new.cies }
     {
+        let set = mem::replace(&mut self.changed, RegisterSet::new(self.alloc));
         drop(self.cies.insert(cie_at, CieSet { register, set }));
     }
 
@@ -79,8 +79,7 @@ impl<'a> Known<'a> {
             }
             None => shared.agree(first),
         }
-        let changed = mem::replace(&mut self.changed, RegisterSet::new(self.alloc));
-        self.put(cie_at, register, changed);
+        self.note(cie_at, register);
         Ok(())
     }
 }

@@ -44,7 +44,9 @@ pub(crate) fn measured_section(
 {
     let table = check(alloc, bytes, target)?;
     let ready = make_ready(alloc, table, cap)?;
-    measured_within(alloc, &ready, cap)
+    let measured = measured_within(alloc, &ready, cap);
+    drop(ready);
+    measured
 }
 
 /// What a table is written with, where its normal form is within a cap. It is measured only where the lengths of its programs do not show that.

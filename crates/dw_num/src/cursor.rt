@@ -87,9 +87,7 @@ pub fn number_of(order: Order, bytes: &[u8]) -> u64
     }
 }
 
-/// A slice of a section that is read from its front on. A contract sees the bytes that are left, where in the
-/// section they begin, and the target.
-///
+/// A slice of a section that is read from its front on. A contract sees the bytes that are left, where in the section they begin, and the target.
 /// A read that is refused leaves the cursor as it was. No call takes memory.
 #[derive(Drop)]
 pub struct Cursor<'a> {

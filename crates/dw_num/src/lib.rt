@@ -1,9 +1,8 @@
-//! Numbers as DWARF spells them, read from a slice and written to a vector: LEB128 numbers (7.6), numbers of
-//! a fixed width and unit lengths (7.4, 7.5), with the types that every layer above shares.
+//! Numbers as DWARF spells them, read from a slice and written to a vector: LEB128 numbers (7.6), numbers of a fixed width and unit
+//! lengths (7.4, 7.5), with the types that every layer above shares.
 //!
-//! A read answers a number exactly where a beginning of what is left spells it, and takes that spelling;
-//! otherwise it names the fault and its place, and takes nothing. A write appends the one shortest spelling.
-//! Read `specs/Leb.antt` and `specs/Fixed.antt` first: they say what a spelling is.
+//! A read answers a number exactly where a beginning of what is left spells it, and takes that spelling; otherwise it names the fault and its place, and
+//! takes nothing. A write appends the one shortest spelling. Read `specs/Leb.antt` and `specs/Fixed.antt` first: they say what a spelling is.
 #![tactic(auto)]
 
 mod cursor;

@@ -1,6 +1,7 @@
 -- The table of least spellings gives the least of all spellings.
-use Rattle.dw_op.specs.Inner.LeastOf.{address}
-use Rattle.dw_op.proofs.Words.{◌≡◌, ℕ, ◌+◌, ◌%◌, ◌^◌, ◌<◌, ◌≤◌, suc, List, [], ◌∷◌, ◌++◌, length, refl, sym, ap, subst, ◌∙◌, inl, inr, arith, ℤ, FitsSigned, ◌⊎◌, None, Some, Result, Ok, Err, OnOk, append_assoc, w64, cases_lt, length-append, mod-eq_of_lt, Target}
+use Rattle.std.proofs.{Common.{OnErr, is_ok, if◌then◌else◌}, lemmas.List.take-take}
+use Rattle.dw_op.specs.Inner.LeastOf.{Puts, address}
+use Rattle.dw_op.proofs.Words.{◌≡◌, ℕ, ◌+◌, ◌%◌, ◌^◌, ◌<◌, ◌≤◌, suc, List, [], ◌∷◌, ◌++◌, length, refl, sym, ap, subst, ◌∙◌, inl, inr, arith, ℤ, FitsSigned, ◌⊎◌, None, Some, Result, Ok, Err, OnOk, take, take-append-le, take-length, append_assoc, w64, cases_lt, length-append, mod-eq_of_lt, Target}
 use Rattle.dw_op.proofs.Words.{Order, Size, Four, Eight, byte_count, fixed_bytes, Fixed, Uleb, Sleb, Register, length-fixed, shortest_uleb, shortest_sleb, shortest_uleb-spells, shortest_uleb-least, shortest_uleb-only}
 use Rattle.dw_op.proofs.Words.{shortest_sleb-least, leb_some, Op, Addr, Const, Pick, PlusUconst, Bra, Skip, Reg, Breg, Fbreg, Piece, DerefSize, BitPiece, Implicit, Spelling, Code, Both, AnyTwo, IsSpelled, Counted}
 use Rattle.dw_op.proofs.{Words.{AtMost, Least, operand_bytes, spelling_bytes, register_form, register_offset, least_spelling, least_bytes, bare, branch_target, Displaced, InRange, bits_of}, Branches.bytes_of_two}
@@ -148,10 +149,25 @@ only t all len k other b r l d = (table_best t 0 other r.bytes (by_table t other
 
 -- ---- the table and what the code does with it
 
--- what is appended behind what was appended
-pub behind : {A E : Type 0} (r : Result A E) (P : Type 0) (old mid new front back : List ℕ) → OnOk r P → (P → new ≡ mid ++ back) → mid ≡ old ++ front → OnOk r (new ≡ old ++ (front ++ back))
-behind (Ok x) P old mid new front back h f e = f h ∙ ap (λ (l : List ℕ). l ++ back) e ∙ append_assoc old front back
-behind (Err x) P old mid new front back h f e = tt
+-- what is appended by a call, and what behind that
+pub puts_by : {A E : Type 0} (r : Result A E) (P : Type 0) (old new bytes : List ℕ) → OnOk r P → (P → new ≡ old ++ bytes) → OnErr r (new ≡ old) → Puts r old new bytes
+puts_by (Ok x) P old new bytes h f e = f h
+puts_by (Err x) P old new bytes h f e = rw e (take-length old)
+
+pub puts_slice : {A E : Type 0} (r : Result A E) (old new bytes : List ℕ) → new ≡ (if is_ok r then old ++ bytes else old) → Puts r old new bytes
+puts_slice (Ok x) old new bytes h = h
+puts_slice (Err x) old new bytes h = rw h (take-length old)
+
+front_kept : (old mid new front : List ℕ) → mid ≡ old ++ front → take (length mid) new ≡ mid → take (length old) new ≡ old
+front_kept old mid new front e h = sym (take-take (length old) (length mid) new (omega (arith, ap length e, length-append old front))) ∙ ap (take (length old)) (h ∙ e) ∙ take-append-le (length old) old front (omega arith) ∙ take-length old
+
+pub puts_behind : {A E : Type 0} (r : Result A E) (old mid new front back : List ℕ) → mid ≡ old ++ front → Puts r mid new back → Puts r old new (front ++ back)
+puts_behind (Ok x) old mid new front back e h = h ∙ ap (λ (l : List ℕ). l ++ back) e ∙ append_assoc old front back
+puts_behind (Err x) old mid new front back e h = front_kept old mid new front e h
+
+pub puts_all : {A E : Type 0} (r : Result A E) (old new bytes : List ℕ) → Puts r old new bytes → OnOk r (new ≡ old ++ bytes)
+puts_all (Ok x) old new bytes h = h
+puts_all (Err x) old new bytes h = tt
 
 -- where the bytes of a block lie is no matter
 pub bare_bytes : (t : Target) (d : ℕ) (op : Op) → least_bytes t d (bare op) ≡ least_bytes t d op

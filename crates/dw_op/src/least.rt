@@ -2,7 +2,7 @@
 
 ghost use Rattle.std.specs.Prelude.{◌≡◌, ◌++◌, OnOk, take, ℕ, ◌-◌, ◌<◌, ◌^◌, length};
 ghost use Rattle.dw_num.specs.{Target.address_limit, declared.target.Order.Order};
-ghost use Rattle.dw_op.specs.{Expression.bare, Inner.LeastOf.{address, operand_bytes, least_bytes}};
+ghost use Rattle.dw_op.specs.{Expression.bare, Inner.LeastOf.{Puts, address, operand_bytes, least_bytes}};
 ghost use Rattle.dw_op.specs.Inner.LeastOf.{constant, register_form, register_offset, least_spelling};
 
 use crate::op::{Op, alone_code};
@@ -136,10 +136,8 @@ pub(crate) fn op_least_len(op: &Op<'_>, target: Target) -> usize
 }
 
 // Appends an operand, and may leave some of it where memory runs out.
-#[tactic(auto, using(dw_num::proofs::Lent::Shortest::puts_uleb, dw_num::proofs::Lent::Shortest::puts_sleb, std::proofs::Common::append_assoc))]
 fn push_operand(out: &mut Vec<u8>, order: Order, operand: Operand<'_>) -> Result<(), AllocError>
-    ensures ok { OnOk result (out.new.items ≡ out.old.items ++ operand_bytes order operand.entry) }
-    ensures front { take (length out.old.items) out.new.items ≡ out.old.items }
+    ensures { Puts result out.old.items out.new.items (operand_bytes order operand.entry) }
 {
     match operand {
         Operand::Nothing => Ok(()),

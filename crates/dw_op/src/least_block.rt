@@ -108,9 +108,8 @@ fn push_ops(
     Ok(())
 }
 
-/// The block of the operations' least spellings: no block of the same operations is shorter.
-/// `BranchTooFar` names the first branch whose displacement does not fit 16 signed bits; the
-/// operations then have no block at all. Takes memory for the block and for a number an operation. (DWARF 5, 2.5 and 7.7.1.)
+/// The block (2.5, 7.7.1) of the operations' least spellings: no block of the same operations is shorter. `BranchTooFar` names the first branch whose
+/// displacement does not fit 16 signed bits; the operations then have no block. Takes memory for the block and for a number an operation.
 #[tactic(auto, using(crate::proofs::Lent::LeastBlocks::least_block_is))]
 pub fn encode(alloc: Global, list: &OpList<'_>) -> Result<Vec<u8>, EncodeError>
     // What is answered is the least block.

@@ -5,12 +5,7 @@ ghost use Rattle.dw_op.specs.Inner.{Codes.alone_code, Ranges.IsTyped};
 
 /// An operation (2.5.1, 2.6.1, 7.7.1). A branch names the operation that it goes to by its index in the list, which is
 /// the list's length for the end. N is the number of bits of an address. A variant that several operations are
-/// read as names each of them.
-///
-/// Not read, and so refused as `UnknownOperation`, are `DW_OP_xderef`, `DW_OP_xderef_size`, `DW_OP_call2`, `DW_OP_call4`,
-/// `DW_OP_call_ref`, `DW_OP_form_tls_address`, `DW_OP_implicit_pointer`, `DW_OP_addrx`, `DW_OP_constx`, `DW_OP_entry_value`,
-/// `DW_OP_const_type`, `DW_OP_regval_type`, `DW_OP_deref_type`, `DW_OP_xderef_type`, `DW_OP_convert`, `DW_OP_reinterpret`,
-/// and those from `DW_OP_lo_user` to `DW_OP_hi_user`.
+/// read as names each of them. Those that are not read are listed at `Code::UnknownOperation`.
 #[derive(Clone, Copy, Debug, PartialEq, Eq)]
 pub enum Op<'a> {
     /// `DW_OP_addr`: push this address (2.5.1.1).

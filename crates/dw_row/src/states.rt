@@ -14,8 +14,7 @@ use std::alloc::{AllocError, Global};
 use std::marker::Model;
 
 /// The current row and the remembered ones. Most programs remember one row at a time: that one is saved, and beneath all others.
-/// Of any other, what was changed since is listed, and taken back. So is what was changed since the beginning, where that is
-/// tracked.
+/// Of any other, and of the first row where that is tracked, what was changed since is listed, and taken back.
 #[derive(Drop)]
 pub struct States<'a> {
     row: Row<'a>,

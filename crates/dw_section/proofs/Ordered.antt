@@ -1,54 +1,8 @@
--- FDEs in order, and the first that begins below the end of one before it.
-use Rattle.dw_section.proofs.Words.{◌≡◌, ℕ, suc, ◌+◌, ◌<◌, ◌≤◌, Bool, List, [], ◌∷◌, ◌++◌, map, length, get_or, take, drop, refl, ap, ◌∙◌, arith, inl, inr, add-one, Greater, sym, ◌==◌, nat_cmp, is_lt, AllByRecursion}
-use Rattle.dw_section.proofs.Words.{IsDistinct, IsPermutation, IsNonDecreasingBy, IsSortedByKey, IsStableByKey, ne_eqb, drop_more, map-append, take-append-drop, All-permutation, IsPermutation-map, IsPermutation-sym}
-use Rattle.dw_section.proofs.{Words.{ties_still_rise, All-from_recursion, recursion_from_All, Overlap, Ranged, PlacesRise, EndsAt, range_in, Range, Precedes, Ascends, AreApart, FirstOverlap, end_of, IsAmong, nat_tests}, Lent.Index.all_from}
-use Rattle.dw_section.proofs.{Words.RiseBy, Places.rise_at, Stages.{all_push, among_here, all_weaker}}
-use Rattle.std.specs.Cmp.{nat_cmp_is}
-use Rattle.std.proofs.lemmas.Map.Keys.{IsDistinct-from_apart, apart_from_distinct, IsDistinct-IsPermutation}
-
--- ---- overlaps
-
-pub apart_more : (rs : List Range) (x : Range) (greatest : ℕ) → AreApart rs → AllByRecursion (λ a. end_of a ≤ greatest) rs → greatest ≤ x.begin → AreApart (rs ++ x ∷ [])
-apart_more [] x greatest h e le = (tt, tt)
-apart_more (a ∷ rs) x greatest h e le = (all_push (λ b. end_of a ≤ b.begin) rs x h.0 (omega (arith, e.0)), apart_more rs x greatest h.1 e.1 le)
-
-pub overlap_more : (rs : List Range) (x : Range) (greatest : ℕ) → AreApart rs × EndsAt rs greatest → greatest ≤ x.begin → AreApart (rs ++ x ∷ []) × EndsAt (rs ++ x ∷ []) (x.begin + x.range)
-overlap_more rs x greatest h le = (
-  apart_more rs x greatest h.0 h.1.0 le,
-  (all_push (λ a. end_of a ≤ x.begin + x.range) rs x (all_weaker (λ (a : Range). end_of a ≤ greatest) (λ (a : Range). end_of a ≤ x.begin + x.range) (λ a ends. omega (arith, ends)) rs h.1.0) (omega arith), inr (x, among_here rs x [], refl)),
-)
-
-pub overlap_at : (xs : List Ranged) (i : ℕ) (d : Ranged) (greatest : ℕ) → i < length xs → AreApart (map range_in (take i xs)) × EndsAt (map range_in (take i xs)) greatest → (get_or xs i d).begin < greatest
-    → FirstOverlap (map range_in xs) (record { code = Overlap; at = (get_or xs i d).at })
-overlap_at xs i d greatest lt h below = elim h.1.1 [
-  | inl none ↦ absurd (omega arith)
-  | inr some ↦ record {
-    before = map range_in (take i xs);
-    it = range_in (get_or xs i d);
-    after = map range_in (drop (i + 1) xs);
-    whole = ap (map range_in) (sym (take-append-drop i xs) ∙ ap (λ (l : List Ranged). take i xs ++ l) (drop_more xs i d lt)) ∙ map-append range_in (take i xs) (get_or xs i d ∷ drop (i + 1) xs);
-    apart = h.0;
-    other = some.0;
-    other_in = some.1;
-    meets = omega (arith, some.2);
-    is = refl;
-  }
-]
-
--- ---- order
-
-pub ascends_from : (ys : List Ranged) → ((k : ℕ) (d : Ranged) → suc k < length ys → Precedes (range_in (get_or ys k d)) (range_in (get_or ys (suc k) d))) → Ascends (map range_in ys)
-ascends_from [] h = tt
-ascends_from (y ∷ []) h = (tt, tt)
-ascends_from (y ∷ z ∷ ys) h =
-    let p = h 0 y (omega arith) in
-    let rest = ascends_from (z ∷ ys) (λ k d lt. h (suc k) d (omega arith)) in
-    ((p, all_weaker (Precedes (range_in z)) (Precedes (range_in y)) (λ x later. grind (arith, p, later)) (map range_in ys) rest.0), rest)
-
--- ---- members
-
-pub all_permuted : {X : Type 0} (P : X → Type 0) (xs ys : List X) → IsPermutation xs ys → AllByRecursion P xs → AllByRecursion P ys
-all_permuted P xs ys p h = recursion_from_All P ys (All-permutation P xs ys p (All-from_recursion P xs h))
+-- FDEs in order, and their members.
+use Rattle.dw_section.proofs.Words.{ℕ, suc, ◌<◌, List, [], ◌∷◌, map, AllByRecursion, IsPermutation, IsPermutation-map, IsPermutation-sym, Range, Ranged, PlacesRise, IsAmong, arith, range_in}
+use Rattle.dw_section.proofs.{Lent.Index.all_from}
+use Rattle.dw_index.specs.Ranges.{StandInOrder}
+pub use Rattle.dw_index.proofs.Lent.Lists.{all_permuted, apart_more}
 
 pub members : (rs : List Range) → AllByRecursion (λ a. IsAmong a rs) rs
 members rs = all_from (λ a. IsAmong a rs) rs (λ a i. i)
@@ -60,33 +14,10 @@ permuted_members xs ys p =
     let q = IsPermutation-map range_in xs ys p in
     (all_permuted (λ a. IsAmong a rs) rs ss q (members rs), all_permuted (λ a. IsAmong a ss) ss rs (IsPermutation-sym rs ss q) (members ss))
 
--- ---- places are apart
+all_behind : (place low : ℕ) (xs : List Ranged) → place < low → PlacesRise low (map range_in xs) → AllByRecursion (λ f. place < f.at) xs
+all_behind place low [] lt up = tt
+all_behind place low (e ∷ xs) lt up = (omega (arith, up.0), all_behind place (suc e.at) xs (omega (arith, up.0)) up.1)
 
-abbrev same_place : Ranged → Ranged → Bool
-same_place e f = e.at == f.at
-
--- ---- a stable sort by begin
-
-own_places : (low : ℕ) (xs : List Ranged) → PlacesRise low (map range_in xs) → RiseBy (λ (e : Ranged). e.at) low xs
-own_places low [] up = tt
-own_places low (e ∷ xs) up = (up.0, own_places (suc e.at) xs up.1)
-
-later_place : (xs : List Ranged) (i j : ℕ) (d : Ranged) → PlacesRise 0 (map range_in xs) → i < j → j < length xs → (get_or xs i d).at < (get_or xs j d).at
-later_place xs i j d up less lt = rise_at (λ (e : Ranged). e.at) 0 xs (own_places 0 xs up) i j d less lt
-
-places_apart : (xs : List Ranged) → PlacesRise 0 (map range_in xs) → IsDistinct same_place xs
-places_apart xs up = IsDistinct-from_apart same_place xs (λ i j d less lt. ne_eqb (get_or xs i d).at (get_or xs j d).at (λ same. omega (arith, later_place xs i j d up less lt, same)))
-
-places_sorted : (xs : List Ranged) → PlacesRise 0 (map range_in xs) → IsSortedByKey (λ (e : Ranged). e.at) nat_cmp xs
-places_sorted xs up = λ k d le lt. rw add-one (ap is_lt (sym (nat_cmp_is (get_or xs (suc k) d).at (get_or xs k d).at Greater (later_place xs k (suc k) d up (omega arith) (omega arith)))))
-
-pub sorted_ascends : (xs ys : List Ranged) → PlacesRise 0 (map range_in xs) → IsPermutation xs ys → IsNonDecreasingBy (λ (e : Ranged). e.begin) ys → IsStableByKey (λ (e : Ranged). e.begin) nat_cmp xs ys → Ascends (map range_in ys)
-sorted_ascends xs ys up p sorted stable = ascends_from ys next
-  where
-    next : (k : ℕ) (d : Ranged) → suc k < length ys → Precedes (range_in (get_or ys k d)) (range_in (get_or ys (suc k) d))
-    next k d lt =
-        let le : (get_or ys k d).begin ≤ (get_or ys (suc k) d).begin = sorted k (suc k) d (omega arith) lt in
-        let rise : (get_or ys k d).begin ≡ (get_or ys (suc k) d).begin → (get_or ys k d).at ≤ (get_or ys (suc k) d).at =
-        λ same. rw add-one at (ties_still_rise (λ (e : Ranged). e.at) (λ (e : Ranged). e.begin) xs ys (places_sorted xs up) stable k d (omega arith) (rw add-one same)) in
-        let apart = apart_from_distinct same_place ys k (suc k) d (IsDistinct-IsPermutation same_place (λ e f. grind (arith, nat_tests)) xs ys p (places_apart xs up)) (omega arith) lt in
-        grind (arith, nat_tests, le, rise, apart)
+pub in_place : (low : ℕ) (xs : List Ranged) → PlacesRise low (map range_in xs) → StandInOrder xs
+in_place low [] up = tt
+in_place low (e ∷ xs) up = (all_behind e.at (suc e.at) xs (omega arith) up.1, in_place (suc e.at) xs up.1)

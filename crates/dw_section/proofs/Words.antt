@@ -36,11 +36,11 @@ pub use Rattle.dw_section.specs.{Fields.{string_fault, unless, unsigned}, Fits.{
 pub use Rattle.dw_section.specs.{Headers.{HasFields, Head, Headers, HeadersFault, IsCie, IsFde, cie, cie_head, fde, fde_head, head_in}, Laws.{ChangesMean, LastChangeRules, OneCieRow, RulesFit}}
 pub use Rattle.dw_section.specs.{Meaning.{AreFdes, ChangesOf, Covers, FdeSays, HasLengths, Lists, NoneCovers, Returns, RowStarts, RulesAt, Starts, total}, Meanings.SameMeaning, Opening.{AreChanged, CieLeaves, OpensBehind}}
 pub use Rattle.dw_section.specs.{Overlap.{AreApart, Ascends, FirstOverlap, IsIndex, Precedes, Range, end_of, nonempty, range_of, with_range}, Pieces.{Entries, Pieces, entry_of}, Places.{cie_places, place_if}, Programs.CieBroken}
-pub use Rattle.dw_section.specs.{Programs.{CieRuns, FdeBroken, FdeRuns, HasCfa, HasRules, InitialInstrs, Instrs, LacksCfa, LacksRule, factors_of}, Ranges.{AreIndexed, IsRanged, IsTable, fde_in, range_in}, Stage.{FirstStuck, Then}}
-pub use Rattle.dw_section.specs.{StandingFde.{BothStuck, FdeStands, LookUpFault, NamesCieAt, RefusesAs, Ruled, RulesOf, StandingFault, StandsAs, StandsIn}, Table.Section, declared.entry.{Kind.Kind, Placed.Placed}, declared.fde_range.Ranged.Ranged}
+pub use Rattle.dw_section.specs.{Programs.{CieRuns, FdeBroken, FdeRuns, HasCfa, HasRules, InitialInstrs, Instrs, LacksCfa, LacksRule, factors_of}, Ranges.{AreIndexed, IsRanged, IsTable, Ranged, fde_in, range_in}, Stage.{FirstStuck, Then}}
+pub use Rattle.dw_section.specs.{StandingFde.{BothStuck, FdeStands, LookUpFault, NamesCieAt, RefusesAs, Ruled, RulesOf, StandingFault, StandsAs, StandsIn}, Table.Section, declared.entry.{Kind.Kind, Placed.Placed}}
 pub use Rattle.dw_section.specs.declared.{fields.CieFields.CieFields, fields.FdeFields.FdeFields, header.FdeEntry.FdeEntry, header.Initial.Initial, listed_fde.FoundFde.FoundFde, lookup.Fde.Fde, opening.CieRow.CieRow}
 pub use Rattle.dw_section.specs.Inner.{Agree.{Agree, AgreeAt}, Changes.{Among, Before, Passed, ShownBehind, Shows, changes_among, is_before, repeats}, Counted.{StartsOf, moves_in}, Fields.{Passes, behind_id}}
-pub use Rattle.dw_section.specs.Inner.{Fields.fields_at, Heads.{FdeFits, HasBytes, HeadsRise, cie_at_of, cie_ats, head_at, head_program}, Index.{AreJudged, EndsAt, IsFound, PlacesRise}}
+pub use Rattle.dw_section.specs.Inner.{Fields.fields_at, Heads.{FdeFits, HasBytes, HeadsRise, cie_at_of, cie_ats, head_at, head_program}, Index.{AreJudged, IsFound, PlacesRise}}
 pub use Rattle.dw_section.specs.Inner.{Initials.{AreAmong, AreCies, AreOf, FirstLacking, HasOrLacks, IsRead, cie_pieces, if_cie, place_of}, Left.{HeadsLeft, PiecesLeft}}
 pub use Rattle.dw_section.specs.Inner.{Lookup.{AreRowsOf, IsFoundIn, RunsSo, fde_of}, NarrowRow.NarrowedBy, PieceHeader.{SaysFde, Tells, cie_of_piece, contents_of, entry_head, entry_in, fde_of_piece}}
 pub use Rattle.dw_section.specs.Inner.{PieceHeader.{initial_head, initial_in, program_of}, Pieces.{IsPlaced, item_of, piece_in}, Places.{IsAt, RiseBy, Rises}, Shown.{shown_if, shown_of}, StandingFde.{FoundStands, StandsAt}, Walks.{AreAway, AreLed, LedTo, led_by}}

@@ -1,7 +1,2 @@
--- Elements of a list.
-use Rattle.std.specs.Prelude.{◌≡◌, ◌⊎◌, List, [], ◌∷◌}
-
--- a list has an element
-abbrev pub IsAmong : {X : Type 0} → X → List X → Type 0
-IsAmong x [] = ⊥
-IsAmong x (y ∷ xs) = (x ≡ y) ⊎ IsAmong x xs
+-- Elements of a list. Declares nothing.
+pub use Rattle.dw_index.specs.Among.{IsAmong}

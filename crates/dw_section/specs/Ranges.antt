@@ -1,11 +1,9 @@
 -- An index: a list of FDEs' ranges, each with the place of its FDE. It need not be that of a section.
 use Rattle.std.specs.{Prelude.{◌≡◌, ℕ, ◌+◌, ◌<◌, ◌≤◌, List, length, map, slice_index_or}, List.AllByRecursion}
 use Rattle.dw_num.specs.declared.target.Target.{Target}
-use Rattle.dw_section.specs.{Accepted.RulesHold, Headers.Head, Meaning.{Covers, NoneCovers, Returns}, Overlap.{Range, Ascends, AreApart, IsIndex}}
-use Rattle.dw_section.specs.declared.{fde_range.Ranged.Ranged, lookup.Fde.Fde}
-
-abbrev pub range_in : Ranged → Range
-range_in e = record { at = e.at; begin = e.begin; range = e.range }
+use Rattle.dw_section.specs.{Accepted.RulesHold, Headers.Head, Meaning.{Covers, NoneCovers, Returns}, Overlap.{Ascends, AreApart, IsIndex}}
+use Rattle.dw_section.specs.declared.lookup.Fde.{Fde}
+pub use Rattle.dw_index.specs.{Ranges.range_in, declared.ranged.Ranged.Ranged}
 
 abbrev pub fde_in : Ranged → Fde
 fde_in e = record { begin = e.begin; end = e.begin + e.range; return_register = e.return_register }

@@ -15,7 +15,7 @@ use Rattle.dw_row.specs.Rows.{Rules}
 use Rattle.dw_cfa.specs.{Faults.{FaultUpTo, NoFaultUpTo}, Gives.RunsTo, RuleAt.last_at, Runs.Outcome}
 use Rattle.dw_section.specs.{Cut.{Item, IsItem, Piece, id_width, item_bytes, piece_of}, Faults.item_at}
 use Rattle.dw_section.specs.{Headers.{CieHead, FdeHead, Has, cie, fde, CieStuck, FdeHolds, FdeStuck}, Meaning.Covers, Programs.factors_of}
-use Rattle.dw_section.specs.{Ranges.LeadsTo, Stage.Then, declared.entry.Kind.Kind, declared.fde_range.Ranged.Ranged, declared.lookup.Fde.Fde}
+use Rattle.dw_section.specs.{Ranges.{LeadsTo, Ranged}, Stage.Then, declared.entry.Kind.Kind, declared.lookup.Fde.Fde}
 use Rattle.dw_section.specs.declared.standing_fde.{LookUpError.LookUpError, LookUpError.TheVariants.{Refused, BadIndex, OutOfMemory}}
 use Rattle.dw_section.specs.declared.entry.Kind.TheVariants as kind
 

@@ -220,9 +220,7 @@ impl<'a> Table<'a> {
     }
 
     /// Goes to the changes of an FDE of the list of `fdes`, in the room of changes of this section, also where memory ran out. Programs are run by
-    /// `Changes::next`, that of a CIE once more only where its walk was not kept. That of the FDE before was, also where its CIE is another one with an equal
-    /// program; where it is the same CIE, no bytes of its program are read again. The walk of each CIE with a long program is kept, and memory is taken for
-    /// that alone: where there is none, the walk is dropped, and the program is run once more.
+    /// `Changes::next`, that of a CIE only where its walk was not kept. Memory is taken only to keep the walk of a CIE with a long program.
     pub fn go_on(&self, changes: &mut Changes<'a>, fde: FdeRef)
         requires place { (fs : List TheFde) → AreFdes self.now.target self.now.bytes fs → fde.place < length fs }
         requires section { changes.old.section ≡ self.now }

@@ -1,34 +1,20 @@
-//! Running the programs of a section (6.4.2, 6.4.3), and its nonempty FDEs in the order of their begins.
+//! Running the programs of a section (6.4.2, 6.4.3), and its nonempty FDEs.
 
-ghost use Rattle.std.specs.{List.AllByRecursion, Prelude.{◌≡◌, ◌<◌, true, List, map, IfErr, IfOk, OnOk, MatchOption, ◌≤◌, ℕ, None, [], ◌∷◌, ◌++◌, length}};
-ghost use Rattle.dw_num.specs.{Refusals.Refuses, Target.address_limit, declared.{refusal.Code.TheVariants.Overlap, target.Target.{Target as TheTarget}}};
-ghost use Rattle.dw_section.specs.{Accepted.{CiesRun, RulesFault}, Cut.Piece, Headers.Head, Overlap.{nonempty, AreApart, FirstOverlap}};
-ghost use Rattle.dw_section.specs.{Pieces.Pieces, Programs.{CieRuns, CieBroken}, Ranges.{AreIndexed, range_in}, Stage.FirstStuck};
-ghost use Rattle.dw_section.specs.Inner.{Index.{JudgesOne, BreaksOne, AreAllJudged, AreRanges, BeginsRise, ListsOf}};
+ghost use Rattle.std.specs.{List.AllByRecursion, Prelude.{◌≡◌, ◌<◌, List, map, IfErr, IfOk, OnOk, ◌≤◌, None, [], ◌∷◌, ◌++◌}};
+ghost use Rattle.dw_num.specs.{Refusals.Refuses, Target.address_limit};
+ghost use Rattle.dw_section.specs.{Accepted.{CiesRun, RulesFault}, Cut.Piece, Headers.Head, Overlap.nonempty};
+ghost use Rattle.dw_section.specs.{Pieces.Pieces, Programs.{CieRuns, CieBroken}, Ranges.range_in, Stage.FirstStuck};
+ghost use Rattle.dw_section.specs.Inner.{Index.{JudgesOne, BreaksOne, AreAllJudged, ListsOf}};
 ghost use Rattle.dw_section.specs.Inner.{Initials.{place_of, AreAmong, AreOf, AreCies}, PieceHeader.{entry_in, initial_in}, Places.{Rises, IsAt}, Walks.AreLed};
 
 use crate::entry::next_piece;
 use crate::header::{Cies, FdeEntry, Initial, fde_of, or_fields_fault};
 use crate::walks::Walks;
 use dw_cfa::become_initial;
+use dw_index::Ranged;
 use dw_num::{Cursor, ReadError, Target, are_bytes};
 use dw_row::Row;
 use std::alloc::{AllocError, Global};
-
-/// A nonempty FDE as an index lists it: its first address (`initial_location`), how many addresses it covers
-/// (`address_range`), the place of its entry, and the return address register of its CIE. 24 bytes, as C lays them out.
-#[repr(C)]
-#[derive(Clone, Copy, Debug, PartialEq, Eq)]
-pub struct Ranged {
-    /// `initial_location` (6.4.1).
-    pub begin: u64,
-    /// `address_range`.
-    pub range: u64,
-    /// The place of the FDE's `length` in the section.
-    pub at: u32,
-    /// `return_address_register` of the CIE that `CIE_pointer` names.
-    pub return_register: u16,
-}
 
 /// What judging FDEs finds: the nonempty ones in order of place, and the place of the first one with an address that has no rule for the CFA.
 #[derive(Drop)]
@@ -154,41 +140,4 @@ pub(crate) fn run_fdes<'a>(
     drop(walks);
     ran?;
     Ok(judged)
-}
-
-// Whether each begins behind the begin of the one before it.
-fn begins_rise(list: &[Ranged]) -> bool
-    ensures { result ≡ true → BeginsRise (length list.now) list.now }
-{
-    for i in 1..list.len() {
-        if list[i].begin <= list[i - 1].begin {
-            return false;
-        }
-    }
-    true
-}
-
-/// Puts FDEs in the order of their begins, and those of one begin in that of their places.
-pub(crate) fn put_in_order(list: &mut Vec<Ranged>) -> Result<(), AllocError>
-    ensures { (target : TheTarget) (s : List ℕ) → AreRanges target s list.old.items → OnOk result (AreIndexed target s list.new.items) }
-{
-    if !begins_rise(list) {
-        list.sort_by_key(|fde| fde.begin)?;
-    }
-    Ok(())
-}
-
-/// The place of the first FDE in that order that begins below the end of one before it.
-pub(crate) fn first_overlap(list: &[Ranged]) -> Option<u64>
-    ensures { MatchOption result (AreApart (map range_in list.now)) (λ at. FirstOverlap (map range_in list.now) (record { code = Overlap; at = at })) }
-{
-    let mut greatest: u128 = 0;
-    for fde in list {
-        let begin = u128::from(fde.begin);
-        if begin < greatest {
-            return Some(u64::from(fde.at));
-        }
-        greatest = begin + u128::from(fde.range);
-    }
-    None
 }

@@ -4,12 +4,12 @@ ghost use Rattle.std.specs.Prelude.{◌≡◌, ◌≤◌, ℕ, List, length, ◌
 ghost use Rattle.dw_section.specs.{Headers.{Head, Headers}, Meaning.{AreFdes, RowStarts}, Ranges.{IsRanged, fde_in}, declared.lookup.Fde.{Fde as TheFde}};
 ghost use Rattle.dw_section.specs.Inner.{Counted.{IsProgram, StartsOf}, Index.IsFound, Initials.AreOf, Lookup.{fde_of, IsFoundIn}};
 
-use crate::fde_range::Ranged;
 use crate::header::{FdeEntry, Initial, read_behind};
 use crate::lookup::FdeRef;
 use crate::standing_fde::{piece_at, pointer_of};
 use crate::table::Table;
 use dw_cfa::{Instr, Instructions};
+use dw_index::Ranged;
 use dw_num::Target;
 
 /// A nonempty FDE, and the CIE that it names.

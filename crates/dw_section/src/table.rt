@@ -7,8 +7,9 @@ ghost use Rattle.dw_section.specs.{Accepted.{CheckFault, Accepted}, Counts.AreCo
 ghost use Rattle.dw_section.specs.{Inner.Index.AreAllJudged, declared.lookup.Fde.{Fde as TheFde}};
 
 use crate::entry::{EntryCounts, refusal};
-use crate::fde_range::{Judged, Ranged, first_overlap, put_in_order, run_cies, run_fdes};
+use crate::fde_range::{Judged, run_cies, run_fdes};
 use crate::header::{Initial, cies_of, or_fields_fault};
+use dw_index::{Ranged, first_overlap, put_in_order};
 use dw_num::{Code, Cursor, ReadError, Target, are_bytes};
 use std::alloc::Global;
 use std::marker::Model;
@@ -75,6 +76,7 @@ impl<'a> Table<'a> {
 
 // Puts in order what was judged of a section, unless an address lacks a rule or two FDEs share one.
 fn ordered(judged: Judged) -> Result<Vec<Ranged>, ReadError>
+    requires { (target : TheTarget) × (s : List ℕ) × AreAllJudged target s judged }
     ensures found { (target : TheTarget) (s : List ℕ) → AreAllJudged target s judged → IfOk result (λ index. IsTable target s index.items) }
     ensures first { (target : TheTarget) (s : List ℕ) → AreAllJudged target s judged → IfErr result (Refuses (CheckFault target s)) }
 {
@@ -114,8 +116,7 @@ fn checked<'a>(alloc: Global, bytes: &'a [u8], target: Target) -> Result<Table<'
 /// by place, as `dw_cfa::run` has it: `Truncated` (1), `NumberTooLarge` (8), `RegisterTooLarge` (9), `BadDerefSize` (23) at the operand; `UnknownInstruction`
 /// (12), `NotInCie` (13), `LocationBackwards` (14), `LocationTooLarge` (15), `EmptyStateStack` (16), `StateStackFull` (17), `CfaNotRegister` (18),
 /// `OffsetTooLarge` (19), `UnknownOperation` (20), `NotInFrame` (21), `BadBranch` (22) at the opcode; then `NoCfaRule` (24) at the FDE, by place; and last
-/// `Overlap` (25) at the first nonempty FDE, in order of begin and place, that begins below the end of one before it. `OutOfMemory` may come in place of any
-/// answer.
+/// `Overlap` (25) at the first nonempty FDE, in order of begin and place, that begins below the end of one before it. `OutOfMemory` may come instead.
 pub fn check<'a>(alloc: Global, bytes: &'a [u8], target: Target) -> Result<Table<'a>, ReadError>
     // It is the table of an accepted section.
     ensures found { IfOk result (λ table. (table ≡ record { target = target; bytes = bytes.now }) × Accepted target bytes.now) }

@@ -1,21 +1,9 @@
 -- What holds of each element of a list.
-use Rattle.dw_unwind.proofs.Words.{List, [], ◌∷◌, ◌++◌, sym, subst, inl, inr, AllByRecursion, AllZip, IsAmong}
-
-pub all_push : {X : Type 0} (P : X → Type 0) (xs : List X) (x : X) → AllByRecursion P xs → P x → AllByRecursion P (xs ++ x ∷ [])
-all_push P [] x h p = (p, tt)
-all_push P (y ∷ xs) x h p = (h.0, all_push P xs x h.1 p)
-
-pub all_more : {X : Type 0} (P Q : X → Type 0) (xs : List X) → ((x : X) → P x → Q x) → AllByRecursion P xs → AllByRecursion Q xs
-all_more P Q [] f h = tt
-all_more P Q (x ∷ xs) f h = (f x h.0, all_more P Q xs f h.1)
+use Rattle.dw_unwind.proofs.Words.{List, [], ◌∷◌, sym, subst, inl, inr, AllByRecursion, IsAmong}
+pub use Rattle.dw_dump.proofs.Lent.Elements.{all_more, all_push}
 
 -- so also of one among them
 pub all_among : {X : Type 0} (P : X → Type 0) (xs : List X) (x : X) → AllByRecursion P xs → IsAmong x xs → P x
 all_among P [] x h i = absurd i
 all_among P (y ∷ xs) x h (inl is) = subst P (sym is) h.0
 all_among P (y ∷ xs) x h (inr i) = all_among P xs x h.1 i
-
-pub zip_push : {X Y : Type 0} (R : X → Y → Type 0) (xs : List X) (ys : List Y) (x : X) (y : Y) → AllZip R xs ys → R x y → AllZip R (xs ++ x ∷ []) (ys ++ y ∷ [])
-zip_push R [] [] x y h k = (k, tt)
-zip_push R (u ∷ xs) (v ∷ ys) x y h k = (h.0, zip_push R xs ys x y h.1 k)
-zip_push R xs ys x y h k = absurd h

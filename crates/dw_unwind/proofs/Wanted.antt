@@ -1,6 +1,6 @@
 -- What a fault of an unwinding asks for is missing.
 use Rattle.dw_eval.specs.declared.error.EvalError.TheVariants as eval
-use Rattle.dw_section.specs.declared.fde_range.Ranged.{Ranged}
+use Rattle.dw_section.specs.Ranges.{Ranged}
 use Rattle.dw_unwind.specs.declared.by_index.UnwindAtError.TheVariants.{Unwind}
 use Rattle.dw_unwind.proofs.Words.{ℕ, List, Result, Ok, Err, sym, subst, inl, inr, Target, Expression, Rules, rule, EvalError, Context, Evaluates, WantedByValue, Policy, UnwindAtError, Column}
 use Rattle.dw_unwind.proofs.{Words.{Frame, UnwindError, NoFde, OutOfMemory, in_column, FaultMisses, WantedIsMissing, FrameIs, LacksRow, by_index}, ColumnErrors.{Holds, cfa_holds, register_holds}}

@@ -1,9 +1,4 @@
 -- How the code keeps what the contracts say. No clause of a `pub fn` reaches these.
-pub mod Stated
-pub mod Gathered
 pub mod Recovery
 pub mod Found
-pub mod Dump
-pub mod Ranges
-pub mod Spelling
 pub mod Room

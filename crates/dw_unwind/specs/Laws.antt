@@ -1,16 +1,13 @@
--- What holds of frames and of dumps, for the layers above.
-use Rattle.std.specs.Prelude.{◌≡◌, ◌⊎◌, ◌≤◌, ℕ, List, length, Option, Some, None, Err, ⊤, IsTrue}
+-- What holds of frames, for the layers above.
+use Rattle.std.specs.Prelude.{◌≡◌, ◌⊎◌, ℕ, List, Option, Some, None, Err, ⊤, IsTrue}
 use Rattle.dw_num.specs.declared.target.Target.{Target}
 use Rattle.dw_eval.specs.{Context.{Context, read_at}, Wanted.IsMissing, declared.policy.Policy.Policy}
 use Rattle.dw_row.specs.Rows.{Rules}
-use Rattle.dw_section.specs.declared.fde_range.Ranged.{Ranged}
-use Rattle.dw_unwind.specs.{Dump.{Say, FirstFault}, Statement.Statement, Unwound.{IsCovered, is_listed, FrameIs, Unwound, UnwindFails}, UnwoundAt.UnwoundAt}
-use Rattle.dw_unwind.specs.declared.{by_index.UnwindAtError.TheVariants.Unwind, fault.DumpError.DumpError, fault.DumpFault.DumpFault}
+use Rattle.dw_section.specs.Ranges.{Ranged}
+use Rattle.dw_unwind.specs.{Unwound.{IsCovered, is_listed, FrameIs, Unwound, UnwindFails}, UnwoundAt.UnwoundAt}
+use Rattle.dw_unwind.specs.declared.by_index.UnwindAtError.TheVariants.{Unwind}
 use Rattle.dw_unwind.specs.declared.frame.{Column.Column, Column.TheVariants.{Cfa, Register}, UnwindError.UnwindError}
 use Rattle.dw_unwind.specs.declared.frame.UnwindError.TheVariants.{Eval, Unreadable, Device, NoRegister}
-use Rattle.dw_unwind.specs.declared.fault.DumpError.TheVariants as dumps
-
--- ---- frames
 
 -- the column that a fault names
 abbrev pub column_of : UnwindError → Option Column
@@ -50,17 +47,3 @@ pub record WantedIsMissing : Type 0 where
       → Unwound target s pc c policy limit (Err e) → FaultMisses c e
   pub by_index : (target : Target) (s : List ℕ) (index : List Ranged) (pc : ℕ) (c : Context) (policy : Policy) (limit : ℕ) (e : UnwindError)
       → UnwoundAt target s index pc c policy limit (Err (Unwind e)) → FaultMisses c e
-
--- ---- dumps
-
--- a fault's line is one of these, counted from 1
-abbrev pub NamesLine : List (List ℕ) → DumpError → Type 0
-NamesLine lines (dumps.Fault fault) = (1 ≤ fault.line) × (fault.line ≤ length lines)
-NamesLine lines dumps.OutOfMemory = ⊤
-
--- lines say one list of things, or have one first fault, and not both
-pub record OneDump : Type 0 where
-  pub exists : (limit : ℕ) (lines : List (List ℕ)) → ((statements : List Statement) × Say limit lines statements) ⊎ ((fault : DumpFault) × FirstFault limit lines fault)
-  pub said : (limit : ℕ) (lines : List (List ℕ)) (ss ts : List Statement) → Say limit lines ss → Say limit lines ts → ss ≡ ts
-  pub fault : (limit : ℕ) (lines : List (List ℕ)) (f g : DumpFault) → FirstFault limit lines f → FirstFault limit lines g → f ≡ g
-  pub apart : (limit : ℕ) (lines : List (List ℕ)) (ss : List Statement) (f : DumpFault) → Say limit lines ss → FirstFault limit lines f → ⊥

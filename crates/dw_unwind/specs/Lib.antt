@@ -1,10 +1,4 @@
-pub mod Statement
-pub mod Spelling
-pub mod Lines
-pub mod Dump
 pub mod Codes
-pub mod Ranges
-pub mod Describes
 pub mod Columns
 pub mod Unwound
 pub mod UnwoundAt

@@ -4,8 +4,8 @@ use Rattle.dw_num.specs.declared.target.Target.{Target}
 use Rattle.dw_op.specs.Faults.{IsWithin}
 use Rattle.dw_eval.specs.{Context.Context, declared.policy.Policy.Policy}
 use Rattle.dw_row.specs.{Rows.Rules, declared.rule.CfaRule.TheVariants.Unset}
-use Rattle.dw_section.specs.{Ranges.{LeadsTo, Uncovered}, StandingFde.{LookUpFault, Misleads, RulesOf}}
-use Rattle.dw_section.specs.declared.{fde_range.Ranged.Ranged, lookup.Fde.Fde}
+use Rattle.dw_section.specs.{Ranges.{LeadsTo, Ranged, Uncovered}, StandingFde.{LookUpFault, Misleads, RulesOf}}
+use Rattle.dw_section.specs.declared.lookup.Fde.{Fde}
 use Rattle.dw_unwind.specs.Unwound.{FrameIs, FrameFails}
 use Rattle.dw_unwind.specs.declared.by_index.{UnwindAtError.UnwindAtError, UnwindAtError.TheVariants.{BadIndex, Refused, Unwind}}
 use Rattle.dw_unwind.specs.declared.frame.{Frame.Frame, UnwindError.UnwindError, UnwindError.TheVariants.{NoFde, OutOfMemory}}

@@ -63,10 +63,9 @@ fn row_at<'a>(
     }
 }
 
-/// The caller's frame as `unwind` answers it, by an index of a section's nonempty FDEs that was kept (`Table::index`), in bytes that are not judged again: as
-/// `look_up` does, it finds the entry that covers `pc`, and reads and judges the FDE at its place, and the CIE that this names, up to the row. So bytes and
-/// index need not belong together: where they do not, the answer is by the FDE that stands at the place, or an error. `room` is where the row is made, and
-/// `frame_room` where the registers are put; both may be those of an earlier call.
+/// The caller's frame as `unwind` answers it, by an index of a section's nonempty FDEs that was kept (`Table::index`), in bytes that are not judged again:
+/// the row is looked up as `look_up` does. So bytes and index need not belong together: where they do not, the answer is by the FDE that stands at the place,
+/// or an error. `room` is where the row is made, and `frame_room` where the registers are put; both may be those of an earlier call.
 pub fn unwind_at<'a, 'r, M: Memory>(
     alloc: Global,
     bytes: &'a [u8],

@@ -29,8 +29,7 @@ impl<'r> FrameRegisters<'r> {
     }
 }
 
-/// Room for the registers of a caller's frame, of which 64 take no memory. It may be used for one frame after another. A contract
-/// sees the registers that it has.
+/// Room for the registers of a caller's frame, of which 64 take no memory. It may be used again. A contract sees the registers in it.
 // An array is cleared where it stands: a `SmallVec` is moved as it is made, at 460 instructions more for a frame.
 #[derive(Drop)]
 pub struct FrameRoom {

@@ -1,9 +1,9 @@
 //! The command line as `clap` reads it, with its texts of help.
 
-ghost use Rattle.std.specs.Prelude.{◌≡◌, IfOk, fold};
-ghost use Rattle.clap.specs.Words.{App, with_rule};
-ghost use Rattle.dw_words.specs.Inner.CommandLine.{IsArg, IsCommand, asked, command_named, own_rules, rule_of, with_arguments, with_subcommands};
+ghost use Rattle.std.specs.Prelude.{◌≡◌, IfOk, Some, fold};
+ghost use Rattle.clap.specs.Words.{App, new_rule, with_rule};
 ghost use Rattle.dw_words.specs.Inner.Plan.{text_of};
+ghost use Rattle.dw_words.specs.Inner.CommandLine.{IsArg, IsCommand, asked, command_named, own_rules, rule_of, with_arguments, with_subcommands};
 
 use crate::help;
 use crate::request::Name;
@@ -24,8 +24,7 @@ const NAMES: [Name; 10] = [
     Name::Cost,
 ];
 
-// An argument with what help says of it: an option, which may be required, and its value's name;
-// a flag; an operand, which may be required; or any number of them.
+// An argument with its help: an option, which may be required, and its value's name; a flag; an operand, which may be required; or any number of them.
 #[derive(Clone, Copy)]
 pub(crate) enum Argument {
     Option(&'static str, bool, &'static str, &'static str),
@@ -44,16 +43,6 @@ const FILE: Argument = Argument::Operand("FILE", true, help::FILE);
 const HEX: Argument = Argument::Operand("HEX", true, help::HEX);
 
 const STEPS: Argument = Argument::Option("steps", false, "L", help::STEPS);
-
-const OVER_FILE: &[Argument] = &[FILE];
-
-const AT: &[Argument] = &[FILE, Argument::Operands("ADDRESS", help::ADDRESS)];
-
-const EXPR: &[Argument] = &[Argument::Flag("frame", help::FRAME), HEX];
-
-const NORMAL: &[Argument] = &[Argument::Option("cap", false, "L", help::CAP), FILE];
-
-const SAME: &[Argument] = &[FILE, Argument::Operand("FILE2", true, help::FILE2)];
 
 const EVAL: &[Argument] = &[
     STEPS,
@@ -86,27 +75,27 @@ fn text_of(name: Name) -> &'static str
     }
 }
 
+fn arg<'a>(alloc: Global, id: &'a str, required: bool, action: ArgAction, help: &'a str) -> Arg<'a>
+    ensures { IsArg (record (new_rule id.now) { required = required; action = Some action }) result }
+{
+    Arg::new(alloc, id)
+        .required(required)
+        .action(action)
+        .help(help)
+}
+
 fn arg_of<'a>(alloc: Global, own: Argument) -> Arg<'a>
     ensures { IsArg (rule_of own) result }
 {
     match own {
-        Argument::Option(name, required, value, help) => Arg::new(alloc, name)
-            .long(name)
-            .required(required)
-            .action(ArgAction::Set)
-            .value_name(value)
-            .help(help),
-        Argument::Flag(name, help) => Arg::new(alloc, name)
-            .long(name)
-            .action(ArgAction::SetTrue)
-            .help(help),
-        Argument::Operand(name, required, help) => Arg::new(alloc, name)
-            .required(required)
-            .action(ArgAction::Set)
-            .help(help),
-        Argument::Operands(name, help) => Arg::new(alloc, name)
-            .action(ArgAction::Append)
-            .help(help),
+        Argument::Option(name, needed, value, help) => {
+            arg(alloc, name, needed, ArgAction::Set, help)
+                .long(name)
+                .value_name(value)
+        }
+        Argument::Flag(name, help) => arg(alloc, name, false, ArgAction::SetTrue, help).long(name),
+        Argument::Operand(name, needed, help) => arg(alloc, name, needed, ArgAction::Set, help),
+        Argument::Operands(name, help) => arg(alloc, name, false, ArgAction::Append, help),
     }
 }
 
@@ -114,24 +103,20 @@ fn own_args(name: Name) -> &'static [Argument]
     ensures { (a : App) → with_arguments a result.now ≡ fold with_rule a (own_rules name) }
 {
     match name {
-        Name::At => AT,
+        Name::At => &[FILE, Argument::Operands("ADDRESS", help::ADDRESS)],
         Name::Eval => EVAL,
-        Name::Expr => EXPR,
-        Name::Normal => NORMAL,
-        Name::Same => SAME,
+        Name::Expr => &[Argument::Flag("frame", help::FRAME), HEX],
+        Name::Normal => &[Argument::Option("cap", false, "L", help::CAP), FILE],
+        Name::Same => &[FILE, Argument::Operand("FILE2", true, help::FILE2)],
         Name::Unwind => UNWIND,
-        _ => OVER_FILE,
+        _ => &[FILE],
     }
 }
 
-fn add_arguments<'a>(
-    alloc: Global,
-    command: Command<'a>,
-    own: &[Argument],
-) -> Result<Command<'a>, AllocError>
-    ensures { (a : App) → IsCommand a command.entry → IfOk result (λ c. IsCommand (with_arguments a own.now) c) }
+fn add_args<'a>(alloc: Global, to: Command<'a>, own: &[Argument]) -> Result<Command<'a>, AllocError>
+    ensures { (a : App) → IsCommand a to.entry → IfOk result (λ c. IsCommand (with_arguments a own.now) c) }
 {
-    let mut command = command;
+    let mut command = to;
     for one in own {
         command = command.arg(arg_of(alloc, *one))?;
     }
@@ -145,7 +130,7 @@ fn subcommand_named<'a>(alloc: Global, name: Name) -> Result<Command<'a>, AllocE
     let (about, after) = help::of(name);
     let text: &'a str = text_of(name);
     let begun = Command::new(alloc, text).about(about).after_help(after);
-    add_arguments(alloc, add_arguments(alloc, begun, COMMON)?, own_args(name))
+    add_args(alloc, add_args(alloc, begun, COMMON)?, own_args(name))
 }
 
 // The command with these subcommands, in their order.

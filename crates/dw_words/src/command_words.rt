@@ -2,7 +2,7 @@
 
 ghost use Rattle.std.specs.Prelude.{◌≡◌, ◌≤◌, [], IfOk, IfSome, None, Some, map, option_and_then, option_map, string_bytes};
 ghost use Rattle.clap.specs.Words.{all_of, first_of, found_of, rows_of};
-ghost use Rattle.dw_words.specs.{Plan.Planned, Inner.{Plan.{cap_in, file_in, name_of, own, start_in, steps_in}, Values.{IsValue, either}}};
+ghost use Rattle.dw_words.specs.{Plan.Planned, Inner.{Plan.{cap_in, default_in, file_in, name_of, own, start_in, steps_in}, Values.{IsValue, either}}};
 ghost use Rattle.dw_num.specs.declared.target.Size.{Size as TheSize};
 ghost use Rattle.dw_words.specs.declared.request.{Name.TheVariants.{At, Check, Eval, Expr, Normal, Same, Unwind}, PlanError.TheVariants.BadValue};
 ghost use Rattle.dw_words.specs.Inner.Plan.{Answers, FromFault, Given, GivenAt, Jobs, Targets, Tasks, addresses_in, asked_by, block_in};
@@ -195,13 +195,19 @@ fn same_in<'a>(matches: &ArgMatches<'a>) -> Result<Task<'a>, PlanError>
     Ok(Task::Same { path, other })
 }
 
+fn default_in(matches: &ArgMatches<'_>) -> Result<Policy, PlanError>
+    ensures { Answers (rows_of (found_of matches.now)) (Given (own Unwind)) default_in (λ policy. policy) result }
+{
+    let same = ("same", Policy::SameValue);
+    let undefined = ("undefined", Policy::Undefined);
+    either(matches, "default", "--default", same, undefined)
+}
+
 fn unwind_in<'a>(matches: &ArgMatches<'a>) -> Result<Task<'a>, PlanError>
     ensures { (size : TheSize) → Tasks (rows_of (found_of matches.now)) Unwind size result }
 {
     let steps = needed(steps_in(matches), "--steps")?;
-    let same = ("same", Policy::SameValue);
-    let undefined = ("undefined", Policy::Undefined);
-    let default = either(matches, "default", "--default", same, undefined)?;
+    let default = default_in(matches)?;
     let path = needed(text_of(matches, "FILE"), "FILE")?;
     let dump = needed(text_of(matches, "DUMP"), "DUMP")?;
     Ok(Task::Unwind(Unwinding {
@@ -272,8 +278,7 @@ fn asked_by(words: &[String]) -> Option<Name>
 ///
 /// A run is answered exactly where `clap` reads the words as that subcommand with that size, order, options and operands, and each value is one that it may
 /// have. `Help` is answered where they ask for help or the version. `Words` is answered where `clap` refuses them, and `BadValue` where it takes them and a
-/// value is none that it may have: the first of `--size`, `--order`, `--cap`, `--steps`, `--start`, `--default`, `HEX` and `ADDRESS`, whatever the order of
-/// the words.
+/// value is none that it may have: the first of `--size`, `--order`, `--cap`, `--steps`, `--start`, `--default`, `HEX` and `ADDRESS`, in any order.
 pub fn plan<'a>(alloc: Global, words: &'a [String]) -> Result<Request<'a>, PlanError>
     ensures { Planned (map string_bytes words.entry.now) result }
 {

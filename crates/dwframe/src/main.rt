@@ -1,15 +1,15 @@
-//! The command `dwframe`: answers about one raw section of call frame information (DWARF 5, 6.4.1).
-//!
-//! `dw_command::engine` is the whole command over a list of words, files and two outputs; `main` runs it over the real ones.
+//! The command `dwframe`: answers about one raw section of call frame information (DWARF 5, 6.4.1). `dw_command::engine` is the whole command over a list
+//! of words, files and two outputs; `main` runs it over the real ones.
 #![tactic(auto)]
 
 ghost use Rattle.std.specs.{Prelude.{◌≡◌, ◌≢◌, ⊤, ◌≤◌, map, string_bytes}, IoError.error_kind};
 ghost use Rattle.dw_command.specs.Engine.{Runs};
 
-mod explained;
+mod held;
 
-use crate::explained::{Explained, Held, Piped};
+use crate::held::Held;
 use dw_command::{Disk, Hinted, Load, Shown, engine};
+use dw_files::{Explained, Piped};
 use std::io::{ErrorKind, IsTerminal, Write};
 use std::process::ExitCode;
 use std::{env, io};

@@ -1,7 +1,7 @@
 -- Lines as the code reads them, one behind another.
 use Rattle.std.specs.Prelude.{◌≡◌, ℕ, ◌+◌, suc, ◌==◌, ◌≤◌, if◌then◌else◌, List, [], ◌∷◌, ◌++◌, length, Result, Ok, Err}
 use Rattle.dw_num.specs.declared.target.Size.{Size}
-use Rattle.dw_unwind.specs.Lines.{lines_of}
+use Rattle.dw_dump.specs.Lines.{lines_of}
 use Rattle.dw_command.specs.Addresses.{addresses_of}
 
 -- how many characters stand before the first line feed, or all of them

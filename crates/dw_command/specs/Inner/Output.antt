@@ -1,8 +1,9 @@
 -- A listing as an output, and what its calls say of that.
 use Rattle.std.specs.{Prelude.{◌≡◌, ℕ, Bool, false, if◌then◌else◌, List, ◌++◌, Option, take, Result, Ok, Err}, Io.KnownBytes.{Appends, Keeps, append_known}}
 use Rattle.clap.specs.Words.{Text}
+use Rattle.dw_files.specs.declared.files.LoadError.{LoadError}
 use Rattle.dw_command.specs.{Answers.{OverFile, Prints, Unprinted}, Output.Output}
-use Rattle.dw_command.specs.declared.{failure.Failure.Failure, files.LoadError.LoadError, listing.Listing.Listing}
+use Rattle.dw_command.specs.declared.{failure.Failure.Failure, listing.Listing.Listing}
 
 -- what was put so far, where it is known: what the output holds, and behind it what is left in the room
 abbrev pub put_so_far : Option (List ℕ) → ℕ → List ℕ → Option (List ℕ)

@@ -1,7 +1,7 @@
 -- What the code says beside Index.
 use Rattle.std.specs.Prelude.{◌≡◌, ℕ, List, Result, Ok, Err, IfOk}
 use Rattle.dw_num.specs.declared.target.Target.{Target}
-use Rattle.dw_section.specs.declared.{fde_range.Ranged.Ranged, standing_fde.{LookUpError.LookUpError, LookUpError.TheVariants.OutOfMemory}}
+use Rattle.dw_section.specs.{Ranges.Ranged, declared.standing_fde.{LookUpError.LookUpError, LookUpError.TheVariants.OutOfMemory}}
 use Rattle.dw_library.specs.{Index.{TellsFde, TellsRules}, declared.index.{Row.Row, Rule.Rule}}
 
 -- a row and its rules are told by the index of an accepted section, or memory was wanting

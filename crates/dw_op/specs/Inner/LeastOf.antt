@@ -1,5 +1,5 @@
 -- The least spelling of each operation, as a table.
-use Rattle.std.specs.Prelude.{ℕ, ◌+◌, ◌-◌, ◌%◌, ◌^◌, List, [], ◌∷◌, ◌++◌, length, ℤ, negsuc, nat_lt, if◌then◌else◌}
+use Rattle.std.specs.Prelude.{◌≡◌, ℕ, ◌+◌, ◌-◌, ◌%◌, ◌^◌, List, [], ◌∷◌, ◌++◌, length, take, Result, Ok, Err, ℤ, negsuc, nat_lt, if◌then◌else◌}
 use Rattle.dw_num.specs.{Fixed.fixed_bytes, Shortest.{shortest_uleb, shortest_sleb}, Target.address_limit}
 use Rattle.dw_num.specs.declared.target.{Order.Order, Size.Size, Size.TheVariants.{Four, Eight}, Target.Target}
 use Rattle.dw_op.specs.declared.{least.Operand.Operand, op.Op.Op, op.Op.TheVariants.{Addr, Const, Pick, PlusUconst}}
@@ -17,6 +17,11 @@ operand_bytes order (operand.Signed z) = shortest_sleb z
 operand_bytes order (operand.Offset r z) = shortest_uleb r ++ shortest_sleb z
 operand_bytes order (operand.Pair a b) = shortest_uleb a ++ shortest_uleb b
 operand_bytes order (operand.Block block) = shortest_uleb (length block.now) ++ block.now
+
+-- bytes were appended, or some of them
+abbrev pub Puts : {A E : Type 0} → Result A E → List ℕ → List ℕ → List ℕ → Type 0
+Puts (Ok x) old new bytes = new ≡ old ++ bytes
+Puts (Err e) old new bytes = take (length old) new ≡ old
 
 -- a code, and what follows it
 abbrev pub Spelling : Type 0

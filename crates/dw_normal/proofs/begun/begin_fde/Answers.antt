@@ -1,4 +1,4 @@
-use Rattle.dw_normal.proofs.Words.{◌≡◌, get_or, List, map, sym, ap, ◌∙◌, subst, get_or-map, Rules, Member, AreMembers, fde_of, members_exist, Begun, IsBegun, Walks, IsReady, Known, NotesSame, row_or_blank, shown_row, StandsApart}
+use Rattle.dw_normal.proofs.Words.{get_or, List, map, ap, ◌∙◌, get_or-map, Member, AreMembers, fde_of, members_exist, Begun, IsBegun, Walks, IsReady, Known, NotesSame, row_or_blank, shown_row, StandsApart}
 use Rattle.dw_normal.proofs.{Apartness.{known_first, still_same}, Filled.on_ok, Grouped.no_member, Located.has_place, Placed.{below, listed_row, listed_some, ready_at, same_row}, begun.begin_fde.Goals.After-list}
 use Rattle.dw_normal.proofs.begun.begin_fde.Goals as goal
 
@@ -11,10 +11,10 @@ cie_of-begun-requires-clause-some c =
     has_place ready.table.target ready.rows.entries c.args.begun.now.places.now.entries c.fde-begun.result.return_register c.requires.walks.places
     (listed_some c.accepted.ensures.bytes c.accepted.ensures.accepted c.requires.walks.rows c.requires.place c.fde-begun.ensures)
 
-pub list-requires : goal.list-requires
-list-requires c =
+pub list-requires-clause-known : goal.list-requires-clause-known
+list-requires-clause-known c =
     let ready = c.args.begun.now.ready.now in
-    known_first ready.table ready.rows.entries c.fde-begun.result.return_register c.shared_row-begun.result.now c.shared_row-begun.ensures c.go_behind_first.new.changes c.in-Some.first.now c.in-Some.ensures c.in_ok-behind.behind
+    known_first ready.table ready.rows.entries c.fde-begun.result.return_register c.shared_row-begun.result.now c.shared_row-begun.ensures c.go_behind_first.new.changes c.in_ok-behind.behind
     c.go_behind_first.new.changed c.args.begun.now.apart.known.cies c.in_ok-behind.ensures.section c.in_ok-behind.ensures.stands c.requires.walks.known
 
 abbrev new : After-list → Begun
@@ -37,10 +37,6 @@ begins c ms are d =
       later = behind.later;
     }
 
--- the row that is shown is the first one
-first : (c : After-list) → c.in-Some.first.now ≡ shown_row c.go_behind_first.new.changes
-first c = sym (ap row_or_blank c.in-Some.ensures)
-
 pub returns-clause-is : goal.returns-clause-is
 returns-clause-is c = λ ms are d. on_ok c.list.result _ _ (λ apart. begins (goal.at.returns-clause-is c).After-list ms are d) c.list.ensures.stands
 
@@ -51,9 +47,8 @@ returns-clause-ready c =
     let s = c.args.begun.now.ready.now.table.bytes in
     let some = members_exist t s c.accepted.ensures.bytes c.accepted.ensures.accepted in
     let is = begins at some.0 some.1 no_member in
-    on_ok c.list.result (StandsApart c.list.new.self c.shared_row-begun.result.now c.in-Some.first.now) (IsReady t (new at))
-    (λ apart. ready_at t s c.accepted.ensures.bytes c.accepted.ensures.accepted some.0 some.1 c.args.fde.place no_member (below c.args.fde.place some.1 c.requires.place) (new at) is c.in_ok-behind.ensures.shown
-    (subst (λ (row : Rules). StandsApart c.list.new.self c.shared_row-begun.result.now row) (first at) apart))
+    on_ok c.list.result (StandsApart c.list.new.self c.shared_row-begun.result.now (shown_row c.go_behind_first.new.changes)) (IsReady t (new at))
+    (λ apart. ready_at t s c.accepted.ensures.bytes c.accepted.ensures.accepted some.0 some.1 c.args.fde.place no_member (below c.args.fde.place some.1 c.requires.place) (new at) is c.in_ok-behind.ensures.shown apart)
     c.list.ensures.stands
 
 pub returns-clause-walks : goal.returns-clause-walks
@@ -65,7 +60,7 @@ returns-clause-walks c =
     let register = c.fde-begun.result.return_register in
     let known : Known = record { changed = c.go_behind_first.new.changed; cies = c.args.begun.now.apart.known.cies; alloc = c.args.begun.now.apart.known.alloc } in
     let cies = c.list.new.self.known.cies in
-    on_ok c.list.result (NotesSame behind register known shared c.in-Some.first.now cies) (Walks (new at))
+    on_ok c.list.result (NotesSame behind register known shared (shown_row c.go_behind_first.new.changes) cies) (Walks (new at))
     (λ notes. record {
       rows = c.requires.walks.rows;
       places = c.requires.walks.places;
@@ -75,7 +70,6 @@ returns-clause-walks c =
       stands = c.cie_of-begun.ensures;
       known =
           still_same ready.table ready.rows.entries register shared c.shared_row-begun.ensures c.go_behind_first.new.changes behind known cies
-          (λ place x y. c.section_laws.ensures.left ready.table.target ready.table.bytes place x y c.accepted.ensures.bytes) c.in_ok-behind.ensures.section c.in_ok-behind.ensures.stands c.requires.walks.known
-          (subst (λ (row : Rules). NotesSame behind register known shared row cies) (first at) notes);
+          (λ place x y. c.section_laws.ensures.left ready.table.target ready.table.bytes place x y c.accepted.ensures.bytes) c.in_ok-behind.ensures.section c.in_ok-behind.ensures.stands c.requires.walks.known notes;
     })
     c.list.ensures.known

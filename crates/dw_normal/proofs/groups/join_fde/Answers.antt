@@ -25,3 +25,20 @@ returns-clause-joined c =
     ap (λ (f : Fde). f.return_register) (sym (c.fde-register.ensures (map fde_of ms) are.fdes (fde_of d) ∙ get_or-map fde_of ms place d)) in
     subst (HasJoined t s c.add_fde.new.rows.entries) (sym c.joined_by.ensures)
     (then_joined t s c.accepted.ensures.bytes c.accepted.ensures.accepted place register c.args.row c.args.rows.now.entries c.add_fde.new.rows.entries lt opens c.requires.rows c.in_ok-add_fde.ensures.rows own)
+
+pub returns-then-is_joined-clause-joined : goal.returns-then-is_joined-clause-joined
+returns-then-is_joined-clause-joined c = c.requires.joined
+
+pub returns-then-is_joined-clause-known : goal.returns-then-is_joined-clause-known
+returns-then-is_joined-clause-known c = c.requires.known
+
+pub add_fde-requires : goal.add_fde-requires
+add_fde-requires c =
+    let first = c.in_ok-behind.ensures in
+    record { place = c.requires.place; behind = first.behind; shown = first.shown; section = first.section; stands = first.stands; known = c.requires.known }
+
+pub returns-clause-rows : goal.returns-clause-rows
+returns-clause-rows c = c.in_ok-add_fde.ensures.rows
+
+pub returns-clause-known : goal.returns-clause-known
+returns-clause-known c = c.in_ok-add_fde.ensures.known

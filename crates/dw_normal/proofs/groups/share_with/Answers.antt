@@ -20,6 +20,12 @@ returns-then-behind-clause-row c = λ first shown.
     let up = subst (λ (x : Rules). AreSpecified 0 x.registers) one c.ascends-2.ensures in
     c.in_ok-agree.ensures.row ∙ ap (agreed s) one ∙ sym (still_kept s first later c.ascends.ensures up keeps)
 
+pub returns-clause-row : goal.returns-clause-row
+returns-clause-row c = λ first shown.
+    let both = sym c.in-Some.ensures ∙ shown in
+    let one : c.in-Some.first.now ≡ first = cc in
+    subst (λ (row : Rules). OnOk c.narrow_further.result (c.narrow_further.new.row ≡ kept_by row c.args.changes.now.to_come)) (c.in_ok-agree.ensures.row ∙ ap (agreed c.args.shared.now) one) c.narrow_further.ensures.row
+
 pub narrow_further-requires : goal.narrow_further-requires
 narrow_further-requires c =
     let first = c.in-Some.first.now in

@@ -1,4 +1,4 @@
-use Rattle.dw_normal.proofs.{Words.{◌≡◌, ◌∙◌, Some, ap, sym, length, canon, cies_bytes, fdes_bytes}, Alike.{alike, canon_like, cies_unlike, if_likens, unlike}, Placed.as_many, Reports.on_tape, likeness.same_tables.Goals.After-ne}
+use Rattle.dw_normal.proofs.{Words.{◌≡◌, ◌∙◌, Some, arith, ap, sym, length, canon, cies_bytes, fdes_bytes}, Alike.{alike, canon_like, cies_unlike, if_likens, unlike}, Placed.as_many, Reports.on_tape, likeness.same_tables.Goals.After-ne}
 use Rattle.dw_normal.proofs.likeness.same_tables.Goals as goal
 
 pub returns-then-fde_count-count : goal.returns-then-fde_count-count
@@ -20,6 +20,34 @@ returns-then-ne c = λ ms ns are others.
     let at = (goal.at.returns-then-ne c).After-ne in
     let not = unlike c.into_bytes.result.items c.into_bytes-2.result.items c.ne.result c.ne.ensures c.if-ne.true in
     (λ same. absurd (cies_unlike c.requires.target ms ns c.args.one.now.rows.entries c.args.two.now.rows.entries (c.requires.rows ms are) (c.requires.other_rows ns others) (λ e. not (ones at ∙ e ∙ sym (others_are at))) same), λ is. absurd cc)
+
+pub room_for-first-requires : goal.room_for-first-requires
+room_for-first-requires c = record {
+  place = λ fs are. omega (arith, c.fde_count-count.ensures fs are, c.if-count-eq0.false);
+  rows = c.requires.rows;
+  places = c.in_ok-write_cies.ensures.places;
+  low = omega (arith, c.in_ok-write_cies.ensures.puts.1, c.new-mine.ensures.room);
+}
+
+pub room_for-second-requires : goal.room_for-second-requires
+room_for-second-requires c = record {
+  place = λ fs are. omega (arith, c.fde_count.ensures fs are, c.if-fde_count-count.false, c.if-count-eq0.false);
+  rows = c.requires.other_rows;
+  places = c.in_ok-write_cies-2.ensures.places;
+  low = omega (arith, c.in_ok-write_cies-2.ensures.puts.1, c.new-other.ensures.room);
+}
+
+pub same_over-same-requires : goal.same_over-same-requires
+same_over-same-requires c = record {
+  target = rw (c.room_for-first.ensures.ready, c.room_for-second.ensures.ready) c.requires.target;
+  count = rw c.room_for-first.ensures.ready c.fde_count-count.ensures;
+  other_count = rw c.room_for-second.ensures.ready (λ fs are. omega (arith, c.fde_count.ensures fs are, c.if-fde_count-count.false));
+  walks = (c.room_for-first.ensures.walks, c.room_for-second.ensures.walks);
+  kept =
+      let one = c.in_ok-write_cies.ensures in
+      let two = c.in_ok-write_cies-2.ensures in
+      ((one.counts ∙ c.new-mine.ensures.counts, omega (arith, one.puts.1, c.new-mine.ensures.room)), (two.counts ∙ c.new-other.ensures.counts, omega (arith, two.puts.1, c.new-other.ensures.room)));
+}
 
 pub returns : goal.returns
 returns c = λ ms ns are others.

@@ -1,4 +1,4 @@
-use Rattle.dw_normal.proofs.{Words.{First, Second}, FaultPlaces.{first_within, lengths_within, second_within}, Reports.{first_fault, second_fault, blamed_only, both_within, compared_only}}
+use Rattle.dw_normal.proofs.{Words.{First, Second}, FaultPlaces.{first_within, lengths_within, second_within}, Reports.{first_fault, second_fault, blamed_only, both_same, both_within, same_fault, compared_only}}
 use Rattle.dw_normal.proofs.normal.same.Goals as goal
 
 pub returns-in-Err-clause-only : goal.returns-in-Err-clause-only
@@ -14,6 +14,16 @@ returns-in-Err-check-clause-only c =
 pub returns-in-Err-check-clause-refused : goal.returns-in-Err-check-clause-refused
 returns-in-Err-check-clause-refused c =
     second_fault c.args.target c.args.first.now c.args.second.now c.in-Err-check.error c.blamed-in-Err-check.result (c.in-Ok.ensures).found.1 c.in-Err-check.ensures.first c.blamed-in-Err-check.ensures
+
+pub returns-clause-found : goal.returns-clause-found
+returns-clause-found c =
+    both_same c.args.target c.args.first.now c.args.second.now c.in-Ok.one c.in-Ok-check.two (c.in-Ok.ensures).found.0 (c.in-Ok-check.ensures).found.0 (c.in-Ok.ensures).found.1 (c.in-Ok-check.ensures).found.1
+    c.compared.result c.compared.ensures.found
+
+pub returns-clause-refused : goal.returns-clause-refused
+returns-clause-refused c =
+    same_fault c.args.target c.args.first.now c.args.second.now c.in-Ok.one c.in-Ok-check.two (c.in-Ok.ensures).found.0 (c.in-Ok-check.ensures).found.0 (c.in-Ok-check.ensures).found.1
+    c.compared.result c.compared.ensures.refused
 
 pub returns-clause-only : goal.returns-clause-only
 returns-clause-only c =

@@ -1,4 +1,4 @@
-use Rattle.dw_normal.proofs.{Words.{refl, arith, members_exist}, Reports.is_too_long}
+use Rattle.dw_normal.proofs.{Words.{refl, arith, members_exist}, Reports.{is_measured, is_too_long}}
 use Rattle.dw_normal.proofs.preparation.measured_within.Goals as goal
 
 pub overflow_sub-result : goal.overflow_sub-result
@@ -11,3 +11,8 @@ pub returns-in-Err-Full-clause-first : goal.returns-in-Err-Full-clause-first
 returns-in-Err-Full-clause-first c =
     let table = c.args.ready.now.table in
     (is_too_long table.target table.bytes c.args.cap c.new-out.result.counts c.in-Err-Full.field-0 _ _ c.accepted.ensures.bytes c.accepted.ensures.accepted c.new-out.ensures.room c.in-Err-Full.field-0-is c.in-Err-Full.ensures, refl)
+
+pub returns-in-Ok-clause-found : goal.returns-in-Ok-clause-found
+returns-in-Ok-clause-found c =
+    let table = c.args.ready.now.table in
+    is_measured table.target table.bytes c.args.cap c.new-out.result.room c.write_entries.new.out.room c.accepted.ensures.bytes c.accepted.ensures.accepted c.new-out.ensures.room (λ ms are. (c.in-Ok.ensures ms are).1)

@@ -1,4 +1,4 @@
-use Rattle.dw_unwind.proofs.{FaultColumns.faults_in_frame, OneDump.one_dump, OneFrame.one_frame, SomeFrame.some_frame, Wanted.wanted_is_missing}
+use Rattle.dw_unwind.proofs.{FaultColumns.faults_in_frame, OneFrame.one_frame, SomeFrame.some_frame, Wanted.wanted_is_missing}
 use Rattle.dw_unwind.proofs.laws.unwind_laws.Goals as goal
 
 pub returns : goal.returns
@@ -10,5 +10,4 @@ returns c =
       some = some_frame c.evaluation_laws.ensures.value c.block_laws.ensures.in_range laws.listed laws.ruled laws.fit laws.set one;
       column = faults_in_frame;
       wanted = wanted_is_missing c.evaluation_laws.ensures.wanted;
-      dump = one_dump;
     }

@@ -17,6 +17,6 @@ returns-clause-known c =
     let set = c.args.self.now.changed in
     let is = returns-clause-row c in
     let holds : (row : Rules) → SameBeside set row first → AgreesBeside set c.match-take.shared row = λ row same. subst (λ (s : Rules). AgreesBeside set s row) (sym is) (agreed_beside set old first row c.ascends.ensures same) in
-    let put = subst (λ (x : Registers). Puts c.args.cie_at (record { register = c.args.register; set = x }) c.take.new.self.cies c.put.new.self.cies) (c.replace-changed.ensures.value ∙ c.take.ensures.changed) c.put.ensures.puts in
-    puts_notes (λ (x : Registers). (row : Rules) → SameBeside set row first → AgreesBeside x c.match-take.shared row) c.args.cie_at c.args.register set c.args.self.now.cies c.take.new.self.cies c.put.new.self.cies c.take.ensures.less
+    let put = subst (λ (x : Registers). Puts c.args.cie_at (record { register = c.args.register; set = x }) c.take.new.self.cies c.note.new.self.cies) c.take.ensures.changed c.note.ensures in
+    puts_notes (λ (x : Registers). (row : Rules) → SameBeside set row first → AgreesBeside x c.match-take.shared row) c.args.cie_at c.args.register set c.args.self.now.cies c.take.new.self.cies c.note.new.self.cies c.take.ensures.less
     put holds

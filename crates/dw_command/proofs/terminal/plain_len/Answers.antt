@@ -1,5 +1,0 @@
-use Rattle.dw_command.proofs.Shows.{plain_of}
-use Rattle.dw_command.proofs.terminal.plain_len.Goals as goal
-
-pub returns : goal.returns
-returns c = plain_of c.args.bytes.now c.first_order.result c.unwrap_or.result c.first_order.ensures c.unwrap_or.ensures

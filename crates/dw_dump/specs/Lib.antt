@@ -1,0 +1,9 @@
+pub mod Statement
+pub mod Spelling
+pub mod Lines
+pub mod Dump
+pub mod Codes
+pub mod Ranges
+pub mod Describes
+pub mod Laws
+pub mod Inner

@@ -1,0 +1,3 @@
+pub mod Among
+pub mod Ranges
+pub mod Inner

@@ -1,9 +1,0 @@
-use Rattle.dw_unwind.proofs.Words.{length}
-use Rattle.dw_unwind.specs.Inner.Gathered.{SoFar}
-use Rattle.dw_unwind.proofs.dump.gather.Given as goal
-
-abbrev pub invariant-loop-rest : goal.invariant-loop-rest
-invariant-loop-rest l = SoFar l.limit l.text l.rest l.line l.kept
-
-abbrev pub decreases-loop-rest : goal.decreases-loop-rest
-decreases-loop-rest l = length l.rest
