@@ -10,6 +10,8 @@ mod expressions;
 #[cfg(test)]
 mod frames;
 #[cfg(test)]
+mod index;
+#[cfg(test)]
 mod memory;
 #[cfg(test)]
 mod rows;
