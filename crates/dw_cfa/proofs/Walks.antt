@@ -1,6 +1,6 @@
 -- A walk from one FDE's program to another's, behind a CIE's row that is run or brought back.
 use Rattle.dw_cfa.specs.RowSteps.{Advances}
-use Rattle.dw_cfa.specs.Inner.RowWalk.{GoesOn}
+use Rattle.dw_cfa.specs.Inner.RowWalk.{GoesOn, LeadsSame, ReadAlike}
 use Rattle.dw_cfa.specs.declared.next_row.Progress.TheVariants as progress
 use Rattle.dw_cfa.proofs.Words.{◌≡◌, ◌⊎◌, ℕ, Bool, true, false, Option, Some, None, Ok, Result, Err, refl, sym, ap, subst, ◌∙◌, inl, inr, ◌↔◌, IsTrue, MatchOption, AreBytes}
 use Rattle.dw_cfa.proofs.Words.{Factors, Input, Leading, Machine, Outcome, Progress, ReadError, Refuses, Rules, Stepping, Target, ProgramSpells, blank, fails, finished, RunsSo, initial_row, placed}
@@ -15,6 +15,11 @@ initial_elsewhere f i j row bytes same target is =
     let here = initial_leaves f i row bytes is in
     let program : ProgramSpells j.target f here.0 j.bytes = subst (λ (t : Target). ProgramSpells t f here.0 j.bytes) target (subst (ProgramSpells i.target f here.0) same here.1.program) in
     sym (to_leaves f j (subst AreBytes same bytes) (Ok row) (here.0, record { program = program; kept = here.1.kept; cfa = here.1.cfa; rules = here.1.rules; listed = here.1.listed }))
+
+pub same_led : (l k : Leading) → AreBytes l.program.bytes.now → ReadAlike l k → LeadsSame l k
+same_led l k bytes alike m has =
+    initial_elsewhere k.factors (program_input l.program l.target) (program_input k.program k.target) m.initial bytes alike.0 alike.1
+    (subst (λ (f : Factors). initial_row (placed f (program_input l.program l.target)) blank ≡ Ok m.initial) alike.2 has)
 
 -- it is refused where that one is
 pub led_stuck : (l : Leading) (fde : Input) (begin : ℕ) (e : ReadError) → Refuses (λ r. led_row l ≡ Err r) e → Refuses (λ r. led_rows l fde begin ≡ fails r) e

@@ -32,7 +32,6 @@ fn is_equal(leading: Leading<'_>, other: Leading<'_>) -> bool
 }
 
 /// Whether both leave the same row: equal programs are read alike, wherever they stand.
-#[tactic(auto, using(crate::proofs::Walks::initial_elsewhere))]
 pub(crate) fn leads_same(leading: Leading<'_>, other: Leading<'_>) -> bool
     ensures { IsTrue result → LeadsSame leading.entry other.entry }
 {

@@ -1,6 +1,6 @@
 //! Blocks: judged without memory, and as lists of operations.
 
-ghost use Rattle.std.specs.Prelude.{◌≡◌, List, map, MatchResult, IfOk, IfErr, ◌⊎◌, None, Some, Ok, Err, false};
+ghost use Rattle.std.specs.Prelude.{◌≡◌, List, [], map, MatchResult, IfOk, IfErr, OnOk, ◌⊎◌, None, Some, Ok, Err, false};
 ghost use Rattle.dw_num.specs.{Refusals.Refuses, declared.refusal.Refusal.Refusal};
 ghost use Rattle.dw_op.specs.{Expression.bare, Faults.{IsBlock, BlockFault, IsWithin}, declared.op.Op.Op, declared.profile.Profile.TheVariants.Frame};
 ghost use Rattle.dw_op.specs.Inner.{Accepted.{IsAccepted, IsDecoded}, Walk.{walk, block_input, decode_at}};
@@ -46,24 +46,24 @@ pub(crate) fn judge(bytes: &[u8], target: Target) -> Result<(), Refusal>
     Ok(())
 }
 
-// The operations of a block, or its first fault.
+// Fills a list with the operations of a block, up to its first fault.
 #[tactic(auto, using(crate::proofs::Judgement::judging))]
 fn decode_ops<'a>(
-    alloc: Global,
     bytes: &'a [u8],
     target: Target,
     profile: Profile,
-) -> Result<Vec<Op<'a>>, ReadError>
-    ensures found { IfOk result (λ v. decode_at profile (block_input target bytes.now) ≡ Ok (map bare v.items)) }
+    ops: &mut Vec<Op<'a>>,
+) -> Result<(), ReadError>
+    requires { ops.old.items ≡ [] }
+    ensures found { OnOk result (decode_at profile (block_input target bytes.now) ≡ Ok (map bare ops.new.items)) }
     ensures first { IfErr result (Refuses (λ r. decode_at profile (block_input target bytes.now) ≡ Err r)) }
 {
     has_branch(bytes, target, profile)?;
     let mut walker = Walker::new(bytes, target, Measure::Operations);
-    let mut ops = Vec::new(alloc);
     'ops: while let Some(op) = walker.next_op()? {
         ops.push(op)?;
     }
-    Ok(ops)
+    Ok(())
 }
 
 /// The operations of a block for a target, or the first fault that keeps it from being a block of the profile (2.5 and 7.7.1).
@@ -89,7 +89,8 @@ pub fn decode<'a>(
     ensures within { IfErr result (Refuses (IsWithin bytes.now)) }
 {
     are_bytes(bytes);
-    let ops = decode_ops(alloc, bytes, target, profile)?;
+    let mut ops = Vec::new(alloc);
+    decode_ops(bytes, target, profile, &mut ops)?;
     Ok(OpList { target, ops })
 }
 

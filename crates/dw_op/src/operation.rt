@@ -68,10 +68,9 @@ fn read_deref_size<'a>(cursor: &mut Cursor<'a>) -> Result<Step<'a>, Refusal>
     let at = cursor.at();
     let most = cursor.target().size.byte_count();
     let size = cursor.byte()?;
-    if 1 <= size && size <= most {
-        Ok(Step::Plain(Op::DerefSize(size)))
-    } else {
-        refused(Code::BadDerefSize, at)
+    match size {
+        1.. if size <= most => Ok(Step::Plain(Op::DerefSize(size))),
+        _ => refused(Code::BadDerefSize, at),
     }
 }
 

@@ -2,7 +2,7 @@
 use Rattle.dw_row.specs.declared.kept_row.KeptRow.{KeptRow}
 use Rattle.dw_row.proofs.Words.{◌≡◌, ◌↔◌, ◌||◌, ℕ, suc, ◌+◌, ◌<◌, ◌≤◌, Bool, List, [], ◌∷◌, refl, sym, ap, ◌∙◌, subst, arith, inl, inr, ◌*◌, ◌%◌, ◌^◌, bit_or}
 use Rattle.dw_row.proofs.Words.{nat_eq, IsTrue, Result, OnOk, filter, nat_tests, cases_lt, false, on_ok_weaker, KeptSo, Registers, has, RegRule, Rules}
-use Rattle.dw_row.proofs.Words.{SameValue, AreSpecified, rule_in, put, DiffersFirst, SameBetween, CopiedUpTo, SameUnlisted}
+use Rattle.dw_row.proofs.Words.{SameValue, AreSpecified, rule_in, put, length, None, DiffersFirst, FirstDifference, SameBetween, CopiedUpTo, SameUnlisted}
 use Rattle.dw_row.proofs.{Difference.FromOn, Lent.{Narrowed.{filter_keeps, filter_rule}, RowLists.{Entry, lower, put_rule, unlisted}, SameRows.one_row}}
 use Rattle.dw_row.proofs.Slots.{bit_set_other, bit_set_same}
 
@@ -61,6 +61,11 @@ module _ (p : Entry → Bool) (from : ℕ) (on : FromOn p from) where
       let yes = (on (r, rule_in far r)).0 le in
       let is : rule_in (filter p far) r ≡ rule_in far r = filter_rule p low far r up ∙ rw yes refl in
       same r le (sym is ∙ none)
+
+-- where none is listed, none differs
+pub none_listed : (from : ℕ) (far kept row : List Entry) → length far ≡ 0 → SameUnlisted from far kept row → FirstDifference from kept row None
+none_listed from [] kept row none same = λ r le. same r le refl
+none_listed from (x ∷ xs) kept row none same = absurd cc
 
 -- the first that is left has another rule, or the same
 module _ (from : ℕ) (left rest kept row : List Entry) (q : ℕ) (rule : RegRule) (e : left ≡ (q, rule) ∷ rest) (up : AreSpecified from left) (same : SameUnlisted from left kept row) where

@@ -101,6 +101,7 @@ fn next_listed_difference(
 
 // The same of a tree that is mostly empty.
 #[inline(always)]
+#[tactic(auto, using(crate::proofs::Marked::none_listed))]
 fn next_far_difference(
     kept: &Row<'_>,
     row: &Row<'_>,

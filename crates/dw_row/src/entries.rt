@@ -106,17 +106,15 @@ impl<'a> Entries<'a> {
     // The first register behind another one, or from the first one on, that has no slot and whose rule differs. Out
     // of line: room for two walks is cleared at each call else.
     #[inline(never)]
-    #[tactic(auto, using(crate::proofs::Difference::part_up, crate::proofs::Difference::first_from, crate::proofs::Difference::range_on))]
+    #[tactic(auto, using(crate::proofs::Difference::part_up))]
     pub(crate) fn far_difference(&self, others: &Entries<'_>, behind: Option<u16>) -> Option<u16>
         requires so { EntriesSo self.now }
         requires others { EntriesSo others.now }
         ensures { FirstDifference (place_behind behind) self.now.far.entries others.now.far.entries result }
     {
         let start = start_behind(behind);
-        first_difference(
-            self.far.range((start, Bound::Unbounded)),
-            others.far.range((start, Bound::Unbounded)),
-        )
+        let rules = self.far.range((start, Bound::Unbounded));
+        first_difference(rules, others.far.range((start, Bound::Unbounded)))
     }
 
     // Whether both trees are empty.
