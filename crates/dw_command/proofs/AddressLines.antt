@@ -3,7 +3,7 @@ use Rattle.dw_command.proofs.Words.{◌≡◌, ◌∙◌, ℕ, zero, suc, ◌+�
 use Rattle.dw_command.proofs.Words.{length-drop, Size, addresses_of, behind_line, ReadUpTo, behind, line_len}
 use Rattle.std.proofs.lemmas.Bool.Decides.{eqb_tells}
 use Rattle.dw_dump.specs.Lines.{in_front, lines_of}
-use Rattle.dw_words.specs.Values.{address}
+use Rattle.dw_values.specs.Values.{address}
 
 -- ---- the first line
 

@@ -4,7 +4,7 @@ use Rattle.clap.specs.Words.{Text}
 use Rattle.dw_num.specs.declared.target.Size.{Size}
 use Rattle.dw_dump.specs.declared.fault.{DumpCode.TheVariants.BadLine, DumpError.DumpError}
 use Rattle.dw_dump.specs.declared.fault.DumpError.TheVariants as dump_error
-use Rattle.dw_words.specs.Values.{address}
+use Rattle.dw_values.specs.Values.{address}
 
 -- a line says this address, the lines behind it say those
 abbrev pub behind_line : Option ℕ → ℕ → Result (List ℕ) ℕ → Result (List ℕ) ℕ

@@ -1,6 +1,5 @@
 mod Words
 mod Arguments
-mod Digits
 mod AllRead
 mod Rows
 mod Subcommands

@@ -4,7 +4,8 @@ use Rattle.std.specs.Option.{option_map_or}
 use Rattle.clap.specs.{Words.{IsAmong, Row, Text, all_of, fault_of, first_of, kind_of, subcommand_of}, declared.error.ErrorKind.ErrorKind}
 use Rattle.clap.specs.declared.error.ErrorKind.TheVariants as kinds
 use Rattle.dw_num.specs.declared.target.Size.{Size}
-use Rattle.dw_words.specs.{CommandLine.dwframe, Values.{address, all_read, block_of, cap_of, decimal, default_of, order_of, profile_of, size_of}}
+use Rattle.dw_values.specs.Values.{address, decimal, order_of, size_of}
+use Rattle.dw_words.specs.{CommandLine.dwframe, Values.{all_read, block_of, cap_of, default_of, profile_of}}
 use Rattle.dw_words.specs.declared.request.{Job.Job, PlanError.PlanError, Request.Request, Task.Task}
 use Rattle.dw_words.specs.declared.request.PlanError.TheVariants as errors
 use Rattle.dw_words.specs.declared.request.Request.TheVariants as requests

@@ -133,7 +133,6 @@ fn subcommand_named<'a>(alloc: Global, name: Name) -> Result<Command<'a>, AllocE
     add_args(alloc, add_args(alloc, begun, COMMON)?, own_args(name))
 }
 
-// The command with these subcommands, in their order.
 fn with_subcommands<'a>(alloc: Global, names: &[Name]) -> Result<Command<'a>, AllocError>
     ensures { IfOk result (λ c. IsCommand (with_subcommands names.now) c) }
 {

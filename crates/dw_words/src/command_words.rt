@@ -9,12 +9,12 @@ ghost use Rattle.dw_words.specs.Inner.Plan.{Answers, FromFault, Given, GivenAt, 
 
 use crate::command_line::command_line;
 use crate::request::{Evaluation, Job, Lookup, Name, PlanError, Request, Task, Unwinding, Writing};
-use crate::values::{address, decimal};
 use clap::ArgMatches;
 use clap::error::ErrorKind;
 use dw_eval::Policy;
-use dw_num::{Order, Size, Target};
+use dw_num::{Size, Target};
 use dw_op::Profile;
+use dw_values::{address, decimal, order_named, size_named};
 use hex::FromHexError;
 use std::alloc::Global;
 
@@ -42,21 +42,13 @@ fn needed<T>(value: Option<T>, name: &'static str) -> Result<T, PlanError>
     value.ok_or(PlanError::BadValue(name))
 }
 
-// The value by the name of one of two, or the option whose value is bad.
-fn either<T: Copy>(
-    matches: &ArgMatches<'_>,
-    id: &str,
-    option: &'static str,
-    first: (&str, T),
-    second: (&str, T),
-) -> Result<T, PlanError>
-    ensures { let said = first_of id.now (rows_of (found_of matches.now)) in
-        IsValue (option_and_then (either first.entry.0.now first.entry.1 second.entry.0.now second.entry.1) said) (BadValue option.entry) result }
+fn either<T: Copy>(said: Option<&str>, first: (&str, T), second: (&str, T)) -> Option<T>
+    ensures { result ≡ option_and_then (either first.entry.0.now first.entry.1 second.entry.0.now second.entry.1) (option_map (λ s. s.now) said.entry) }
 {
-    match text_of(matches, id) {
-        Some(text) if text == first.0 => Ok(first.1),
-        Some(text) if text == second.0 => Ok(second.1),
-        _ => Err(PlanError::BadValue(option)),
+    match said {
+        Some(text) if text == first.0 => Some(first.1),
+        Some(text) if text == second.0 => Some(second.1),
+        _ => None,
     }
 }
 
@@ -81,10 +73,10 @@ fn name_of(text: &str) -> Option<Name>
 fn target_in(matches: &ArgMatches<'_>) -> Result<Target, PlanError>
     ensures { Targets (rows_of (found_of matches.now)) result }
 {
-    let (four, eight) = (("4", Size::Four), ("8", Size::Eight));
-    let size = either(matches, "size", "--size", four, eight)?;
-    let (little, big) = (("little", Order::Little), ("big", Order::Big));
-    let order = either(matches, "order", "--order", little, big)?;
+    let size = text_of(matches, "size").and_then(|text| size_named(text));
+    let size = needed(size, "--size")?;
+    let order = text_of(matches, "order").and_then(|text| order_named(text));
+    let order = needed(order, "--order")?;
     Ok(Target { size, order })
 }
 
@@ -92,23 +84,16 @@ fn cap_in(matches: &ArgMatches<'_>) -> Option<u64>
     ensures value { result ≡ cap_in (rows_of (found_of matches.now)) }
     ensures within { IfSome result (λ cap. cap ≤ 2147483647) }
 {
-    let Some(text) = text_of(matches, "cap") else {
-        return Some(CAP);
-    };
-    let cap = decimal(text)?;
+    let cap = text_of(matches, "cap").map_or(Some(CAP), |text| decimal(text))?;
     if cap <= CAP { Some(cap) } else { None }
 }
 
 fn steps_in(matches: &ArgMatches<'_>) -> Option<u64>
     ensures { result ≡ steps_in (rows_of (found_of matches.now)) }
 {
-    match text_of(matches, "steps") {
-        Some(text) => decimal(text),
-        None => Some(STEPS),
-    }
+    text_of(matches, "steps").map_or(Some(STEPS), |text| decimal(text))
 }
 
-// The value that the stack starts with, where one is given.
 fn start_in(matches: &ArgMatches<'_>, size: Size) -> Option<Option<u64>>
     ensures { result ≡ start_in size (rows_of (found_of matches.now)) }
 {
@@ -137,9 +122,7 @@ fn addresses_in(alloc: Global, matches: &ArgMatches<'_>, size: Size) -> Result<V
         return Ok(addresses);
     };
     for text in texts {
-        let Some(value) = address(text.as_bytes(), size) else {
-            return Err(PlanError::BadValue("ADDRESS"));
-        };
+        let value = needed(address(text.as_bytes(), size), "ADDRESS")?;
         let Ok(()) = addresses.push(value) else {
             return Err(PlanError::OutOfMemory);
         };
@@ -174,7 +157,7 @@ fn expr_in<'a>(alloc: Global, matches: &ArgMatches<'a>) -> Result<Task<'a>, Plan
 {
     // What `clap` gives a flag.
     let (given, none) = (("true", Profile::Frame), ("false", Profile::Location));
-    let profile = either(matches, "frame", "--frame", given, none)?;
+    let profile = needed(either(text_of(matches, "frame"), given, none), "--frame")?;
     let block = block_in(alloc, matches)?;
     Ok(Task::Expr { profile, block })
 }
@@ -195,19 +178,19 @@ fn same_in<'a>(matches: &ArgMatches<'a>) -> Result<Task<'a>, PlanError>
     Ok(Task::Same { path, other })
 }
 
-fn default_in(matches: &ArgMatches<'_>) -> Result<Policy, PlanError>
-    ensures { Answers (rows_of (found_of matches.now)) (Given (own Unwind)) default_in (λ policy. policy) result }
+fn default_in(matches: &ArgMatches<'_>) -> Option<Policy>
+    ensures { result ≡ default_in (rows_of (found_of matches.now)) }
 {
     let same = ("same", Policy::SameValue);
     let undefined = ("undefined", Policy::Undefined);
-    either(matches, "default", "--default", same, undefined)
+    either(text_of(matches, "default"), same, undefined)
 }
 
 fn unwind_in<'a>(matches: &ArgMatches<'a>) -> Result<Task<'a>, PlanError>
     ensures { (size : TheSize) → Tasks (rows_of (found_of matches.now)) Unwind size result }
 {
     let steps = needed(steps_in(matches), "--steps")?;
-    let default = default_in(matches)?;
+    let default = needed(default_in(matches), "--default")?;
     let path = needed(text_of(matches, "FILE"), "FILE")?;
     let dump = needed(text_of(matches, "DUMP"), "DUMP")?;
     Ok(Task::Unwind(Unwinding {
@@ -246,7 +229,6 @@ fn task_in<'a>(
     }
 }
 
-// The run of a subcommand of this name.
 fn run_in<'a>(alloc: Global, text: &str, matches: &ArgMatches<'a>) -> Result<Job<'a>, PlanError>
     ensures { Jobs (rows_of (found_of matches.now)) text.now result }
 {
@@ -277,8 +259,8 @@ fn asked_by(words: &[String]) -> Option<Name>
 /// What the words ask for, before any file is read. The first word is the program's name.
 ///
 /// A run is answered exactly where `clap` reads the words as that subcommand with that size, order, options and operands, and each value is one that it may
-/// have. `Help` is answered where they ask for help or the version. `Words` is answered where `clap` refuses them, and `BadValue` where it takes them and a
-/// value is none that it may have: the first of `--size`, `--order`, `--cap`, `--steps`, `--start`, `--default`, `HEX` and `ADDRESS`, in any order.
+/// have. `Help` is answered where they ask for help or the version, `Words` where `clap` refuses them, and `BadValue` where it takes them and a value is none
+/// that it may have: the first of `--size`, `--order`, `--cap`, `--steps`, `--start`, `--default`, `HEX` and `ADDRESS`, whatever the order of the words.
 pub fn plan<'a>(alloc: Global, words: &'a [String]) -> Result<Request<'a>, PlanError>
     ensures { Planned (map string_bytes words.entry.now) result }
 {

@@ -6,8 +6,9 @@ use Rattle.clap.specs.declared.error.ErrorKind.TheVariants as kinds
 use Rattle.dw_num.specs.declared.target.{Size.Size, Target.Target}
 use Rattle.dw_op.specs.declared.profile.Profile.{Profile}
 use Rattle.dw_eval.specs.declared.policy.Policy.{Policy}
+use Rattle.dw_values.specs.Values.{address, decimal, order_of, size_of}
 use Rattle.dw_words.specs.Plan.{IsBad, IsJob, IsTask, Says, is_help, texts_of}
-use Rattle.dw_words.specs.Values.{address, all_read, block_of, cap_of, decimal, default_of, order_of, profile_of, size_of}
+use Rattle.dw_words.specs.Values.{all_read, block_of, cap_of, default_of, profile_of}
 use Rattle.dw_words.specs.declared.request.{Job.Job, Name.Name, PlanError.PlanError, Request.Request, Task.Task}
 use Rattle.dw_words.specs.declared.request.Name.TheVariants as names
 use Rattle.dw_words.specs.declared.request.PlanError.TheVariants as errors

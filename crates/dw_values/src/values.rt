@@ -1,27 +1,42 @@
-//! What the texts of options and operands say.
+//! A value by its name, and numbers digit by digit.
 
 ghost use Rattle.std.specs.Prelude.{◌≡◌, ◌<◌, option_and_then};
-ghost use Rattle.dw_num.specs.Digits.{below, digit_value, number_behind};
-ghost use Rattle.dw_words.specs.{Values.{decimal, address}, Inner.Values.digit_behind};
+ghost use Rattle.dw_num.specs.Digits.{below, number_behind};
+ghost use Rattle.dw_values.specs.{Values.{address, decimal, order_of, size_of}, Inner.Values.digit_behind};
 
-use dw_num::Size;
+use dw_num::{Order, Size};
 
-fn digit_of(byte: u8) -> Option<u8>
-    ensures { result ≡ digit_value byte }
+/// The size of an address that `4` or `8` says. Any other text is none.
+pub fn size_named(text: &str) -> Option<Size>
+    ensures { result ≡ size_of text.now }
 {
-    match byte {
-        b'0'..=b'9' => Some(byte - b'0'),
-        b'a'..=b'f' => Some(byte - b'a' + 10),
-        b'A'..=b'F' => Some(byte - b'A' + 10),
+    match text {
+        "4" => Some(Size::Four),
+        "8" => Some(Size::Eight),
         _ => None,
     }
 }
 
-// A number with one digit more behind it.
+/// The byte order that `little` or `big` says. Any other text is none.
+pub fn order_named(text: &str) -> Option<Order>
+    ensures { result ≡ order_of text.now }
+{
+    match text {
+        "little" => Some(Order::Little),
+        "big" => Some(Order::Big),
+        _ => None,
+    }
+}
+
 fn digit_behind(base: u8, number: u64, byte: u8) -> Option<u64>
     ensures { result ≡ digit_behind base number byte }
 {
-    let digit = digit_of(byte)?;
+    let digit = match byte {
+        b'0'..=b'9' => byte - b'0',
+        b'a'..=b'f' => byte - b'a' + 10,
+        b'A'..=b'F' => byte - b'A' + 10,
+        _ => return None,
+    };
     if digit >= base {
         return None;
     }
@@ -29,7 +44,6 @@ fn digit_behind(base: u8, number: u64, byte: u8) -> Option<u64>
     u64::try_from(number).ok()
 }
 
-// The number of the digits, unless it passes 64 bits.
 fn number_of(base: u8, text: &[u8]) -> Option<u64>
     requires base { 0 < base }
     ensures { result ≡ option_and_then (below 18446744073709551616) (number_behind base 0 text.now) }
@@ -41,14 +55,14 @@ fn number_of(base: u8, text: &[u8]) -> Option<u64>
     Some(number)
 }
 
-pub(crate) fn decimal(text: &str) -> Option<u64>
+/// The number that one or more decimal digits say, below 2^64. Any other text is none.
+pub fn decimal(text: &str) -> Option<u64>
     ensures { result ≡ decimal text.now }
 {
-    let digits = text.as_bytes();
-    if digits.is_empty() {
+    if text.is_empty() {
         return None;
     }
-    number_of(10, digits)
+    number_of(10, text.as_bytes())
 }
 
 /// The address that `0x` and 1 to 16 hexadecimal digits say, below 2^32 or 2^64 by the size of an address. Any other text is none.

@@ -1,6 +1,8 @@
 use Rattle.std.proofs.lemmas.Grind.{common_steps}
-use Rattle.dw_words.proofs.{Words.{◌≡◌, ◌∙◌, None, Some, arith, checked_behind}, Digits.number_is}
-use Rattle.dw_words.proofs.values.number_of.Goals as goal
+use Rattle.std.proofs.Common.{◌≡◌, ◌∙◌, None, Some, arith}
+use Rattle.dw_values.specs.Inner.Values.{checked_behind}
+use Rattle.dw_values.proofs.Digits.{number_is}
+use Rattle.dw_values.proofs.values.number_of.Goals as goal
 
 pub returns-in_err-number : goal.returns-in_err-number
 returns-in_err-number c =
