@@ -1,5 +1,5 @@
 #!/usr/bin/env python3
-"""What DWFRAME and REQUESTS answer where memory is ample, by the second reader or worked out by hand.
+"""What DWFRAME and CALLER answer where memory is ample, by the second reader or worked out by hand.
 
 Run by itself it compares the files beside the examples (NAME.entries, NAME.check, NAME.rows) with the second reader.
 """
@@ -139,7 +139,7 @@ def of_command(words):
     return {"expr": BLOCKS, "eval": VALUES}[subcommand][operand].encode()
 
 
-# ---- of REQUESTS, over a section
+# ---- of CALLER, over a section
 
 
 def listed(values):
@@ -296,7 +296,7 @@ NORMAL_ANSWERS = {
     "normalise_to": lambda normal: [f"Ok({len(normal)})", listed(normal)],
 }
 
-# ---- of REQUESTS, over worked data
+# ---- of CALLER, over worked data
 
 PROGRAM_CALLS = ["run", "row_steps", "become_initial", "copied", "row_walk", "lacks_rule"]
 EXPRESSION_CALLS = ["decode", "encode", "ops", "put_least"]
@@ -373,7 +373,7 @@ def of_worked_data(call):
 
 
 def of_call(words):
-    """The output of a run of REQUESTS: CALL, or CALL SIZE ORDER FILE."""
+    """The output of a run of CALLER: CALL, or CALL SIZE ORDER FILE."""
     if words[0] in NORMAL_ANSWERS:
         lines = NORMAL_ANSWERS[words[0]](NORMALS[words[3]])
     else:

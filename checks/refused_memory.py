@@ -1,12 +1,12 @@
 #!/usr/bin/env python3
 """Refuses each request for memory of a run once, and compares what the run then answers.
 
-    refused_memory.py DWFRAME REQUESTS
+    refused_memory.py DWFRAME CALLER
 
 Both run over each section of the examples, and over some worked blocks and programs. With nothing refused both must
 answer what `answers.py` has, which is of a second reader and worked cases: that is the ordinary answer. Else DWFRAME's answer must be
 the ordinary one, or status 5, `out of memory` and nothing on standard output; under `rows` and `normal`, a beginning of
-what is ordinarily there. REQUESTS makes one call a run: its answer must be the ordinary one or tell that memory ran out, and the
+what is ordinarily there. CALLER makes one call a run: its answer must be the ordinary one or tell that memory ran out, and the
 calls on borrowed expressions, and frames by an index, may make no request at all. Ends with a line 'N runs, M wrong'.
 """
 import os
@@ -25,7 +25,7 @@ WORKED_CALLS = [*PROGRAM_CALLS, *EXPRESSION_CALLS, "numbers", "dumps", "register
 NORMAL_CALLS = ["normalise", "normalise_to"]
 EVALUATIONS = [["770806", "registers.dump"], ["3a311c1228faff"]]
 OUT_OF_MEMORY = (5, b"", b"out of memory\n")
-# How REQUESTS prints an error that tells that memory ran out. The tape that a normal form is written to fails for no other reason.
+# How CALLER prints an error that tells that memory ran out. The tape that a normal form is written to fails for no other reason.
 WANT = re.compile(rb"(Err\()?(OutOfMemory|AllocError|(Write|Memory) \{ written: \d+ \})\)?")
 # At the last address of the one FDE three registers: the two that are given, and the return address's.
 FRAMES_OF_PLAIN = b"(4198415, 3)\n"
@@ -81,7 +81,7 @@ def frame_runs(folder):
 
 
 def call_runs():
-    """The words of the runs of REQUESTS."""
+    """The words of the runs of CALLER, behind the first."""
     for call in WORKED_CALLS:
         yield [call]
     for name, target in sections():
@@ -129,7 +129,7 @@ def each_request(program, words, folder, is_answer, ordinary, tally):
 
 
 def main():
-    dwframe, requests = (str(pathlib.Path(path).resolve()) for path in sys.argv[1:3])
+    dwframe, caller = (str(pathlib.Path(path).resolve()) for path in sys.argv[1:3])
     tally = Tally()
     with tempfile.TemporaryDirectory() as name:
         folder = pathlib.Path(name)
@@ -141,13 +141,13 @@ def main():
         for words, ordinary in frame_runs(folder):
             each_request(dwframe, words, folder, is_command_answer, ordinary, tally)
         for words in call_runs():
-            each_request(requests, words, folder, is_call_answer, (0, of_call(words), b""), tally)
-        _, none = run(requests, ["none"], folder, 0)
-        answer, borrowed = run(requests, ["borrowed"], folder, 0)
+            each_request(caller, ["request", *words], folder, is_call_answer, (0, of_call(words), b""), tally)
+        _, none = run(caller, ["request", "none"], folder, 0)
+        answer, borrowed = run(caller, ["request", "borrowed"], folder, 0)
         tally.tell(borrowed == none, "calls on borrowed expressions", f"{borrowed - none} requests")
         of_plain = ["8", "little", "plain.bin"]
-        _, none = run(requests, ["index", *of_plain], folder, 0)
-        answer, framed = run(requests, ["frames", *of_plain], folder, 0)
+        _, none = run(caller, ["request", "index", *of_plain], folder, 0)
+        answer, framed = run(caller, ["request", "frames", *of_plain], folder, 0)
         tally.tell(answer == (0, FRAMES_OF_PLAIN, b"") and framed == none, "frames by an index", f"{answer}, {framed - none} requests")
     print(f"{tally.runs} runs, {tally.wrong} wrong")
     return 1 if tally.wrong else 0

@@ -60,7 +60,7 @@ echo "scripts: as many proofs side by side as a container may run"
 
 mkdir "$copy"
 tar -C "$root" --exclude-vcs --exclude=./crates/*/out --exclude=./bench/out --exclude=./bindings/rust/target -cf - . | tar -C "$copy" -xf -
-for program in dwframe requests caller; do
+for program in dwframe caller; do
     [ -x "$root/crates/$program/out/$program" ] || continue
     mkdir "$copy/crates/$program/out"
     cp "$root/crates/$program/out/$program" "$copy/crates/$program/out/"

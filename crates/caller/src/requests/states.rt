@@ -2,8 +2,8 @@
 
 ghost use Rattle.std.specs.Prelude.{◌<◌, length};
 
-use crate::TARGET;
-use crate::answers::{changed, say, taken, told};
+use super::answers::{changed, say, taken, told};
+use crate::cfa::TARGET;
 use dw_op::ExprRef;
 use dw_row::{CfaRule, RegRule, Row, States};
 

@@ -1,12 +1,6 @@
-//! Makes one call over worked data, or over the section in a file, and prints what it answers: the program that
-//! `checks/refused_memory.py` runs with each of its requests for memory refused in turn. Calls that the command makes alike are
-//! told by runs of that. It is no part of the product.
-//!
-//!     requests CALL
-//!     requests CALL 4|8 little|big FILE
-//!
-//! An error is printed as any other answer.
-#![tactic(auto)]
+//! Makes one call over worked data, or over the section in a file, and prints what it answers: the runs that
+//! `checks/refused_memory.py` makes with each of their requests for memory refused in turn. Calls that the command makes alike are
+//! told by runs of that. An error is printed as any other answer.
 
 mod answers;
 mod borrowing;
@@ -19,14 +13,9 @@ mod programs;
 mod sections;
 mod states;
 
+use crate::cfa::TARGET;
 use dw_num::{Order, Size, Target};
-use std::{env, fs, io};
-
-// The target of the worked data.
-const TARGET: Target = Target {
-    size: Size::Eight,
-    order: Order::Little,
-};
+use std::{fs, io};
 
 fn target_of(size: &str, order: &str) -> Target {
     Target {
@@ -58,19 +47,20 @@ fn made(rt: &HostRuntime, call: &str, bytes: &[u8], target: Target) {
     }
 }
 
-fn asked(rt: &HostRuntime, words: &[String]) -> io::Result<()> {
-    match words {
-        [_, call] => made(rt, call, programs::WORKED, TARGET),
-        [_, call, size, order, path] => {
-            let bytes = fs::read(rt, path)?;
-            made(rt, call, &bytes, target_of(size, order));
-        }
-        _ => borrowing::all(rt),
-    }
+fn over_file(rt: &HostRuntime, call: &str, path: &str, target: Target) -> io::Result<()> {
+    let bytes = fs::read(rt, path)?;
+    made(rt, call, &bytes, target);
     Ok(())
 }
 
-fn main(rt: HostRuntime) -> io::Result<()> {
-    let words: Vec<String> = env::args(&rt)?.collect(rt.alloc())?;
-    asked(&rt, &words)
+/// Makes the call that the words name.
+pub fn asked(rt: &HostRuntime, words: &[String]) -> io::Result<()> {
+    match words {
+        [call, size, order, path] => over_file(rt, call, path, target_of(size, order)),
+        [call, ..] => {
+            made(rt, call, programs::WORKED, TARGET);
+            Ok(())
+        }
+        _ => Ok(()),
+    }
 }

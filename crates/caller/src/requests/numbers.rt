@@ -2,7 +2,7 @@
 
 ghost use Rattle.std.specs.Prelude.{◌<◌};
 
-use crate::answers::{changed, say, taken, told};
+use super::answers::{changed, say, taken, told};
 use dw_eval::Registers;
 use dw_num::{Order, put_fixed, put_sleb, put_uleb};
 use std::alloc::AllocError;

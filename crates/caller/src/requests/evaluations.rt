@@ -2,8 +2,8 @@
 
 ghost use Rattle.std.specs.Prelude.{◌≡◌};
 
-use crate::TARGET;
-use crate::answers::{say, taken, told};
+use super::answers::{say, taken, told};
+use crate::cfa::TARGET;
 use dw_eval::{Env, Memory, evaluate, locate};
 use dw_num::Order;
 use dw_op::{OpList, Profile, decode};

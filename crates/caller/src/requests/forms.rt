@@ -1,6 +1,6 @@
 //! The calls on normal forms.
 
-use crate::answers::{changed, say, told};
+use super::answers::{changed, say, told};
 use dw_normal::{Tape, WriteError, normalise, normalise_to};
 use dw_num::Target;
 

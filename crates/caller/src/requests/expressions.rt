@@ -1,7 +1,7 @@
 //! The calls on expressions.
 
-use crate::answers::{say, taken, told};
-use crate::numbers::{lent, tell};
+use super::answers::{say, taken, told};
+use super::numbers::{lent, tell};
 use dw_num::Target;
 use dw_op::{ExprRef, OpList, Profile, decode, encode};
 

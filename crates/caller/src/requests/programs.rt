@@ -3,8 +3,8 @@
 ghost use Rattle.std.specs.Prelude.{◌≡◌, ◌<◌};
 ghost use Rattle.dw_num.specs.Target.{address_limit};
 
-use crate::answers::{behind, say, taken, told};
-use crate::expressions::on_expression;
+use super::answers::{behind, say, taken, told};
+use super::expressions::on_expression;
 use dw_cfa::{Factors, Instr, Instructions, RowSteps, RowWalk, become_initial, run};
 use dw_num::{Program, Target};
 use dw_row::{RegRule, Row};

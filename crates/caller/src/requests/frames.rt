@@ -1,6 +1,6 @@
 //! Frames by an index, each in the same rooms.
 
-use crate::answers::{say, taken};
+use super::answers::{say, taken};
 use dw_cfa::RowRoom;
 use dw_eval::Policy;
 use dw_num::Target;

@@ -1,7 +1,7 @@
 //! The calls on borrowed expressions that take no memory.
 
-use crate::TARGET;
-use crate::answers::{say, taken};
+use super::answers::{say, taken};
+use crate::cfa::TARGET;
 use dw_op::ExprRef;
 use std::hash::{DefaultHasher, Hash, Hasher};
 

@@ -1,6 +1,6 @@
 //! The calls that read the fields of entries, and those on a section's table.
 
-use crate::answers::{behind, say, taken, told};
+use super::answers::{behind, say, taken, told};
 use dw_num::Target;
 use dw_section::{Changes, FdeRef, Table, check, headers};
 
