@@ -25,6 +25,12 @@ module _ (target : Target) (most : ℕ) (s : List ℕ) (old new : Output) where
   not_written (Ok count) f is h = absurd cc
   not_written (Err e) f is h = rw is (unwritten target most s e old new h)
 
+  -- it wrote the normal form
+  pub written : (r : Result ℕ WriteError) (count : ℕ) → MatchResult r (λ (k : ℕ). ◌≡◌ {A = Result ℕ Failure} (Ok count) (Ok k)) (λ e. ⊥)
+      → Writes target most s r old.failures new.failures old.put new.put → (n : List ℕ) × IsNormalForm target s n × (length n ≤ most) × Appends old.put new.put n
+  written (Ok k) count is h = (h.1.0, h.1.1, h.1.2, h.1.4)
+  written (Err e) count is h = absurd is
+
 -- two sections are compared, and an error becomes a failure
 pub compared : (target : Target) (s t : List ℕ) (r : Result Bool SameError) (q : Result Bool Failure) → MatchResult r (λ b. q ≡ Ok b) (λ e. IsErrAnd q (OfSame e))
     → IfOk r (λ b. Accepted target s × Accepted target t × Decides b (SameMeaning target s t)) → IfOk r (λ b. FitsCap target 2147483647 s × FitsCap target 2147483647 t)

@@ -21,4 +21,4 @@ pub use Rattle.dw_show.specs.{Addresses.{addresses_of, behind_line, lines_in}, A
 pub use Rattle.dw_show.specs.Answers.{Loads, LoadsDump, LoadsText, Prints, PrintsOf, Tells, TellsOf}
 pub use Rattle.dw_show.specs.{Answers.{change_count}, OpTexts.op_text, RowTexts.{At, at_text, cfa_text, column_text, fde_text, member_text, next_text, operations_text, row_text}}
 pub use Rattle.dw_show.specs.Texts.{entry_text, least_text, line_end, lines, numbered, register_text}
-pub use Rattle.dw_show.specs.{declared.failure.Failure.Failure, Inner.Lines.{ReadUpTo, behind, line_len}, Listing.{Adds, Fills, Finishes, Stays, output_of, put_so_far}}
+pub use Rattle.dw_show.specs.{declared.failure.Failure.Failure, Inner.Lines.{ReadUpTo, behind, line_len}, Inner.Room.Fills, Listing.{Adds, Finishes, Stays, output_of, put_so_far}}

@@ -1,5 +1,5 @@
 -- A listing as an output, and what its calls say of that.
-use Rattle.std.specs.{Prelude.{◌≡◌, ℕ, Bool, false, if◌then◌else◌, List, ◌++◌, Option, take, Result, Ok, Err}, Io.KnownBytes.{Appends, Keeps, append_known}}
+use Rattle.std.specs.{Prelude.{◌≡◌, ℕ, Bool, false, if◌then◌else◌, List, Option, take, Result, Ok, Err}, Io.KnownBytes.{Appends, Keeps, append_known}}
 use Rattle.clap.specs.Words.{Text}
 use Rattle.dw_files.specs.declared.files.LoadError.{LoadError}
 use Rattle.dw_show.specs.{Answers.{OverFile, Prints, Unprinted}, Output.Output}
@@ -24,12 +24,6 @@ output_of contents l = record { put = put_in contents l; left = l.len; failures 
 -- an answer is not printed to this listing: its output failed, or memory ran out
 abbrev pub Breaks : {W : Type 0} → Listing W → Failure → Type 0
 Breaks l failure = Unprinted 0 (failures_of l.failed) failure
-
--- a text is put into the room
-pub record Fills {W : Type 0} (old new : Listing W) (text : List ℕ) : Type 0 where
-  pub works : new.failed ≡ old.failed
-  pub out : new.out ≡ old.out
-  pub put : take new.len new.room ≡ take old.len old.room ++ text
 
 -- unless the output failed by now, it had not failed before, and a text is put behind what was put then
 pub record Adds {W : Type 0} (contents : W → Option (List ℕ)) (old new : Listing W) (text : List ℕ) : Type 0 where

@@ -3,8 +3,8 @@
 ghost use Rattle.std.specs.Prelude.{◌≡◌, ◌+◌, ◌++◌, ◌-◌, ◌*◌, ◌/◌, ◌%◌, ◌^◌, ◌<◌, ◌≤◌, ℕ, List, [], ◌∷◌, length, take};
 ghost use Rattle.std.specs.Prelude.{codes, false, true, decimal, MatchResult, unsigned_abs, if◌then◌else◌, IfErr, IfOk, OnErr, OnOk, ◌⊎◌};
 ghost use Rattle.std.specs.{Fmt.{digits, digit_glyph}, Int.{is_negative}, Io.KnownBytes.{Appends, Keeps}};
-ghost use Rattle.dw_show.specs.{Answers.PrintsText, declared.listing.TheConstants.{PIECE, ROOM}};
-ghost use Rattle.dw_show.specs.Listing.{Adds, Breaks, Fills, Finishes, Stays, failures_of, output_of, put_in};
+ghost use Rattle.dw_show.specs.{Answers.PrintsText, Inner.Room.Fills, declared.listing.TheConstants.{PIECE, ROOM}};
+ghost use Rattle.dw_show.specs.Listing.{Adds, Breaks, Finishes, Stays, failures_of, output_of, put_in};
 
 use crate::failure::Failure;
 use dw_canon::{Sink, SinkFault};
