@@ -29,7 +29,8 @@ BUDGETS = {
     "dw_normal": (43, 45),
     "dw_dump": (0, 2),
     "dw_unwind": (0, 5),
-    "dw_command": (3, 6),
+    "dw_show": (3, 6),
+    "dw_command": (0, 4),
     "dw_library": (0, 4),
 }
 BELOW = re.compile(r"Rattle\.(dw_\w+)\.(specs\.Inner|proofs)\.")

@@ -4,5 +4,7 @@
 #![tactic(auto)]
 
 mod laws;
+mod sink;
 
 pub use laws::{headline, length_law, normal_laws};
+pub use sink::{Sink, SinkFault};

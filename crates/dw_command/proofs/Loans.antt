@@ -4,7 +4,8 @@ use Rattle.dw_command.proofs.Words.{Target, Location, LoadError, Failure, lines_
 use Rattle.dw_command.proofs.Words.{LoadsDump, LoadsText, Normalises, OverBlock, OverFile, Parses, Plans, Prints, PrintsOf, PrintsText, SpellsLeast, Tallies, TaskEnds, UnwindEnds, Values, costs_text, Output, put_so_far, at_text}
 use Rattle.dw_command.proofs.Words.{member_text, block_text, counts_text, entry_text, frame_text, lines, sameness_text, value_text}
 use Rattle.dw_words.specs.declared.request.{Request.Request, Task.Task}
-use Rattle.dw_command.specs.{Answers.{Tells as SaysOf}, Engine.holding, Inner.Lent.lent_bytes}
+use Rattle.dw_show.specs.Answers.{Tells as SaysOf}
+use Rattle.dw_command.specs.{Engine.holding, Inner.Lent.lent_bytes}
 use Rattle.dw_words.specs.declared.request.Request.TheVariants as requests
 use Rattle.dw_words.specs.declared.request.Task.TheVariants as tasks
 

@@ -2,7 +2,8 @@
 use Rattle.std.specs.Prelude.{◌≡◌, ℕ, List, Option, Result}
 use Rattle.clap.specs.Words.{Text}
 use Rattle.dw_files.specs.declared.files.LoadError.{LoadError}
-use Rattle.dw_command.specs.{Answers.{Ends, exit_of}, Output.Output, declared.failure.Failure.Failure}
+use Rattle.dw_show.specs.{Output.Output, declared.failure.Failure.Failure}
+use Rattle.dw_command.specs.Answers.{Ends, exit_of}
 
 -- an output that holds all that was put, and failed so often
 abbrev pub holding : Option (List ℕ) → ℕ → Output

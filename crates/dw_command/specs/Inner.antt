@@ -1,6 +1,4 @@
 -- How the code keeps what the contracts say. No clause of a `pub fn` reaches these.
 pub mod Failure
 pub mod Lent
-pub mod Lines
-pub mod Output
 pub mod Exits

@@ -1,16 +1,16 @@
 //! The whole command, over the words, files and outputs that it is given.
 
 ghost use Rattle.std.specs.{Prelude.{◌≡◌, ◌≤◌, IfOk, false, map, string_bytes}, Result.result_map_both};
-ghost use Rattle.dw_command.specs.{Answers.{Ends, PrintsText, TaskEnds}, Engine.Runs, Inner.{Exits.Exits, Output.output_of}};
+ghost use Rattle.dw_show.specs.Listing.{output_of};
+ghost use Rattle.dw_command.specs.{Answers.{Ends, TaskEnds}, Engine.Runs, Inner.Exits.Exits};
 
-use crate::expression::{run_eval, run_expr};
-use crate::failure::Failure;
+use crate::forms::{run_cost, run_normal, run_same};
 use crate::lent::Lent;
-use crate::listing::Listing;
-use crate::rows::{run_at, run_rows};
-use crate::section::{run_check, run_cost, run_entries, run_normal, run_same};
-use crate::unwind::run_unwind;
 use dw_files::Load;
+use dw_show::{
+    Failure, Listing, put_help, run_at, run_check, run_entries, run_eval, run_expr, run_rows,
+    run_unwind,
+};
 use dw_words::{Job, Request, Task, plan};
 use std::alloc::Global;
 use std::io::Write;
@@ -45,21 +45,6 @@ fn run_job<'a, L: Load, W: Write>(
         Task::Same { path, other } => run_same(alloc, target, path, other, files, out),
         Task::Unwind(unwinding) => done(run_unwind(alloc, target, &unwinding, files, out)),
     }
-}
-
-// Prints a text that is asked for, of help or of the version.
-fn put_help<W: Write>(
-    alloc: Global,
-    text: clap::Error,
-    out: &mut Listing<W>,
-) -> Result<u8, Failure<'static>>
-    requires works { out.old.failed ≡ false }
-    ensures { PrintsText (output_of W.contents out.old) (output_of W.contents out.new) 0 result }
-{
-    let text = format!(in alloc; "{text}")?;
-    out.long_text(text.as_bytes());
-    out.finish()?;
-    Ok(0)
 }
 
 fn run<'a, L: Load, W: Write>(

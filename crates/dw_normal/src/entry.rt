@@ -9,7 +9,7 @@ use crate::begun::{Begun, begin_fde, room_for};
 use crate::contents::{fill_cie, fill_fde};
 use crate::groups::Ready;
 use crate::output::{Output, Stop, put_entry};
-use crate::sink::Sink;
+use dw_canon::Sink;
 use dw_section::FdeRef;
 use std::alloc::Global;
 use std::collections::BTreeMap;

@@ -16,6 +16,7 @@ mod preparation;
 mod program;
 mod sink;
 
+pub use dw_canon::{Sink, SinkFault};
 pub use error::{SameError, Which, WriteError};
 pub use normal::{normal_length, normalise, normalise_to, same};
-pub use sink::{Sink, SinkFault, Tape, Through};
+pub use sink::{Tape, Through};

@@ -6,7 +6,7 @@ ghost use Rattle.dw_canon.specs.Written.{missing};
 ghost use Rattle.dw_normal.specs.{declared.output.Stop.TheVariants.{Full, Memory}, Inner.Puts.{Fills, Holds, Puts, SameRoom, SinksHeld, sink_at}};
 
 use crate::contents::write_number;
-use crate::sink::Sink;
+use dw_canon::Sink;
 use dw_num::{Order, Size};
 use std::alloc::{AllocError, Global};
 

@@ -1,5 +1,0 @@
-use Rattle.dw_command.proofs.Puts.{kept_on, on}
-use Rattle.dw_command.proofs.texts.put_number.Goals as goal
-
-pub returns : goal.returns
-returns g c = on g.W.Write.contents _ _ _ _ _ (kept_on g.W.Write.contents _ _ _ _ c.make_room.ensures.stays c.text.ensures.adds) c.decimal.ensures.adds

@@ -1,0 +1,2 @@
+-- Lemmas that the proofs of upper crates use.
+pub mod Endings

@@ -1,0 +1,9 @@
+pub mod Addresses
+pub mod Answers
+pub mod Failure
+pub mod Inner
+pub mod Listing
+pub mod OpTexts
+pub mod Output
+pub mod RowTexts
+pub mod Texts
