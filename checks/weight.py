@@ -31,7 +31,7 @@ BUDGET = {
     "dw_files": (340, 39),
     "dw_words": (811, 1071),
     "dw_show": (1403, 1439),
-    "dw_command": (288, 291),
+    "dw_command": (288, 298),
     "dwframe": (165, 0),
     "dw_library": (1600, 790),
 }
