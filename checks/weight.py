@@ -25,7 +25,7 @@ BUDGET = {
     "dw_cfa": (2405, 3597),
     "dw_section": (2227, 5273),
     "dw_canon": (80, 3327),
-    "dw_normal": (1968, 2911),
+    "dw_normal": (1968, 2923),
     "dw_dump": (611, 1351),
     "dw_unwind": (741, 951),
     "dw_files": (340, 39),
