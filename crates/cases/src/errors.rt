@@ -2,7 +2,6 @@
 
 use crate::sections::compare;
 use dw_eval::ReadFault;
-use dw_normal::{SameError, SinkFault, Which, WriteError};
 use dw_num::{Code, Refusal};
 use dw_section::LookUpError;
 use dw_unwind::{DumpCode, DumpError, DumpFault};
@@ -28,15 +27,6 @@ fn says<E: Display + Drop>(alloc: Global, error: E, wanted: &str) -> Result<(), 
 #[test]
 fn says_what_is_wrong(rt: HostRuntime) -> Result<(), Fail> {
     let alloc = rt.alloc();
-    let second = SameError::Refused(Which::Second, REFUSAL);
-    says(alloc, WriteError::Refused(REFUSAL), "Truncated at byte 17")?;
-    says(
-        alloc,
-        WriteError::Write { written: 20 },
-        "sink failed after 20 bytes",
-    )?;
-    says(alloc, SinkFault, "the sink failed")?;
-    says(alloc, second, "Truncated at byte 17 in the second section")?;
     says(
         alloc,
         LookUpError::BadIndex,

@@ -1,6 +1,7 @@
-//! The worked cases that only Rattle can tell: memories, writers and sinks that fail, operations that no block has, calls that the
-//! command does not make, and the texts of errors. All else is told by checks/worked.txt. No part of the product: it stands above
-//! the crates whose calls it makes, for a crate that holds tests is proved twice.
+//! The worked cases that only Rattle can tell: memories that fail, operations that no block has, calls that the command does not
+//! make, and the texts of errors. What is to be told of normal forms is in the crate `texts`, so that this one need not wait for
+//! `dw_normal`; all else is told by checks/worked.txt. No part of the product: it stands above the crates whose calls it makes, for
+//! a crate that holds tests is proved twice.
 #![tactic(auto)]
 
 #[cfg(test)]
@@ -17,7 +18,5 @@ mod memory;
 mod rows;
 #[cfg(test)]
 mod sections;
-#[cfg(test)]
-mod sinks;
 #[cfg(test)]
 mod values;

@@ -1,11 +1,19 @@
-//! The plain section's normal form: into sinks that fail, and of each section that has another byte.
+//! The plain section's normal form: into sinks that fail, and of each section that has another byte; and what errors say.
 
-use crate::sections::{LITTLE, PLAIN, changed};
-use dw_normal::{Tape, Through, WriteError, normalise, normalise_to, same};
-use dw_num::{Code, ReadError, Refusal};
+use crate::runs::PLAIN;
+use dw_normal::{
+    SameError, SinkFault, Tape, Through, Which, WriteError, normalise, normalise_to, same,
+};
+use dw_num::{Code, Order, ReadError, Refusal, Size, Target};
 use std::alloc::Global;
+use std::fmt::Display;
 use std::io::{self, ErrorKind, Write};
 use std::test::Fail;
+
+const LITTLE: Target = Target {
+    size: Size::Eight,
+    order: Order::Little,
+};
 
 // Its data factor is -1.
 const NORMAL: &[u8] =
@@ -123,6 +131,15 @@ fn is_answered(alloc: Global, section: &[u8]) -> Result<bool, Fail> {
     }
 }
 
+// A section with another byte at a place.
+fn changed(alloc: Global, section: &[u8], place: usize, byte: u8) -> Result<Vec<u8>, Fail> {
+    let mut out = Vec::new(alloc);
+    for (i, old) in section.iter().enumerate() {
+        out.push(if i == place { byte } else { *old })?;
+    }
+    Ok(out)
+}
+
 #[test]
 fn answers_each_change_of_a_byte(rt: HostRuntime) -> Result<(), Fail> {
     for place in 0..64usize {
@@ -135,4 +152,30 @@ fn answers_each_change_of_a_byte(rt: HostRuntime) -> Result<(), Fail> {
         }
     }
     Ok(())
+}
+
+fn says<E: Display + Drop>(alloc: Global, error: E, wanted: &str) -> Result<(), Fail> {
+    let text = format!(in alloc; "{error}")?;
+    if text.as_str() == wanted {
+        return Ok(());
+    }
+    Err(Fail::new(format_args!("{text}, and not {wanted}")))
+}
+
+#[test]
+fn says_what_is_wrong(rt: HostRuntime) -> Result<(), Fail> {
+    let alloc = rt.alloc();
+    let refusal = Refusal {
+        code: Code::Truncated,
+        at: 17,
+    };
+    let second = SameError::Refused(Which::Second, refusal);
+    says(alloc, WriteError::Refused(refusal), "Truncated at byte 17")?;
+    says(
+        alloc,
+        WriteError::Write { written: 20 },
+        "sink failed after 20 bytes",
+    )?;
+    says(alloc, SinkFault, "the sink failed")?;
+    says(alloc, second, "Truncated at byte 17 in the second section")
 }
