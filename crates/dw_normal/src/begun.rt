@@ -6,9 +6,9 @@ ghost use Rattle.dw_normal.specs.Inner.{Begun.{IsBegun, IsReady, Walks}, Groups.
 ghost use Rattle.dw_normal.specs.Inner.Listed.{AreInitial, ArePlaces, IsListed, OfMembers};
 
 use crate::apart::Apart;
-use crate::groups::{Ready, go_behind_first};
+use crate::groups::{Ready, cited_laws, go_behind_first};
 use dw_row::Row;
-use dw_section::{Changes, Fde, FdeRef, section_laws};
+use dw_section::{Changes, Fde, FdeRef};
 use std::alloc::{AllocError, Global};
 use std::collections::BTreeMap;
 
@@ -96,7 +96,7 @@ pub(crate) fn begin_fde<'r, 'a>(begun: &mut Begun<'r, 'a>, fde: FdeRef) -> Resul
 {
     let table = &begun.ready.table;
     table.accepted();
-    section_laws();
+    cited_laws();
     let changed = &mut begun.apart.known.changed;
     let behind = go_behind_first(&mut begun.changes, table, fde, changed)?;
     let known = begun.fde.return_register;

@@ -4,7 +4,7 @@
 ghost use Rattle.std.specs.Prelude.{◌≡◌, ℕ, ◌+◌, ◌*◌, [], ◌≤◌, ◌^◌, length, take, None, Some, is_some, IfOk, IfSome, IsTrue, OnOk};
 ghost use Rattle.std.specs.{BTreeMap.{get, insert_entry}, Ordering.nat_cmp};
 ghost use Rattle.dw_row.specs.{Rows.Rules, Inner.Agreement.agreed};
-ghost use Rattle.dw_section.specs.{Changes.kept_by, Opening.OpensBehind, declared.opening.CieRow.{CieRow as TheRow}};
+ghost use Rattle.dw_section.specs.{Changes.kept_by, Laws.{OneCieRow, SectionFaultsWithin}, Opening.OpensBehind, declared.opening.CieRow.{CieRow as TheRow}};
 ghost use Rattle.dw_canon.specs.{Bound.share, Inner.Canon.canon};
 ghost use Rattle.dw_normal.specs.Inner.{ChangeWalk.{BehindFirst, IsShown, ShownBehind, shown_row}, Groups.{HasJoined, joined_by, with_member, initial_rows}};
 ghost use Rattle.dw_normal.specs.Inner.{Known.{Agree, KnownAgrees, NotesAgree}, Listed.{AreInitial, IsListed, OfFde, OfMember, OfMembers}};
@@ -17,6 +17,14 @@ use std::collections::BTreeMap;
 
 // Longer programs are not judged by their lengths.
 const LONG: usize = 1_000_000;
+
+/// The laws of sections that are cited here: a proof in which all of them stand takes long.
+pub(crate) fn cited_laws()
+    ensures within { SectionFaultsWithin }
+    ensures left { OneCieRow }
+{
+    section_laws();
+}
 
 /// Goes on to the changes of an FDE behind its begin, whose row is lent, and lists how that stands to the row of its CIE, where this is known.
 pub(crate) fn go_behind_first<'a>(
@@ -111,7 +119,7 @@ fn add_fde<'a>(
     ensures section { changes.new.section ≡ changes.old.section }
 {
     table.accepted();
-    section_laws();
+    cited_laws();
     let register = table.fde(fde).return_register;
     let Some(shared) = rows.get_mut(&register) else {
         return begin_group(rows, changes, register);

@@ -12,13 +12,14 @@ ghost use Rattle.dw_normal.specs.declared.error.SameError.TheVariants as TheSame
 
 use crate::entry::write_entries;
 use crate::error::{SameError, Which, WriteError};
+use crate::groups::cited_laws;
 use crate::likeness::same_tables;
 use crate::output::{Output, Stop};
 use crate::preparation::{measured_section, prepared, prepared_section};
 use crate::sink::Tape;
 use dw_canon::{Sink, normal_laws};
 use dw_num::{ReadError, Target, are_bytes};
-use dw_section::{Table, check, section_laws};
+use dw_section::{Table, check};
 use std::alloc::Global;
 
 /// The most bytes that a section has.
@@ -48,7 +49,7 @@ pub fn normalise(
     ensures within { IfErr result (Refuses (IsWithin bytes.now)) }
 {
     are_bytes(bytes);
-    section_laws();
+    cited_laws();
     let mut tape = Tape::new(alloc);
     match normalise_to(alloc, bytes, target, cap, &mut tape) {
         Ok(_) => Ok(tape.into_bytes()),
@@ -71,7 +72,7 @@ pub fn normal_length(
     ensures within { IfErr result (Refuses (IsWithin bytes.now)) }
 {
     are_bytes(bytes);
-    section_laws();
+    cited_laws();
     match measured_section(alloc, bytes, target, cap) {
         Ok(len) => Ok(len),
         Err(error) => Err(error),
@@ -117,7 +118,7 @@ pub fn normalise_to<S: Sink>(
     ensures within { IfErr result (RefusesWithin bytes.now) }
 {
     are_bytes(bytes);
-    section_laws();
+    cited_laws();
     let ready = match prepared_section(alloc, bytes, target, cap) {
         Ok(ready) => ready,
         Err(error) => return Err(unwritten(error)),
@@ -136,7 +137,6 @@ pub fn normalise_to<S: Sink>(
     }
 }
 
-// An error, and over which section.
 fn blamed(which: Which, error: ReadError) -> SameError
     ensures { result ≡ blamed which error }
 {
@@ -196,7 +196,7 @@ pub fn same(alloc: Global, first: &[u8], second: &[u8], target: Target) -> Resul
 {
     are_bytes(first);
     are_bytes(second);
-    section_laws();
+    cited_laws();
     let one = match check(alloc, first, target) {
         Ok(one) => one,
         Err(error) => return Err(blamed(Which::First, error)),

@@ -207,8 +207,7 @@ impl<'a> Row<'a> {
         self.copy_these(other, registers.near, &registers.far)
     }
 
-    /// What `next_difference` answers, where both rows give all registers outside a set the same rules: those in the set are
-    /// looked at alone. Takes no memory.
+    /// What `next_difference` answers, where both rows give all registers outside a set the same rules: those in the set are looked at alone. Takes no memory.
     #[inline(always)]
     pub fn next_difference_among(
         &self,

@@ -272,8 +272,7 @@ impl<'a> Row<'a> {
         self.cfa = cfa;
     }
 
-    /// Gives the CFA another offset from the same register (`DW_CFA_def_cfa_offset`, 6.4.2.2), where it is a register plus an
-    /// offset, and tells whether it is.
+    /// Gives the CFA another offset from the same register (`DW_CFA_def_cfa_offset`, 6.4.2.2), where it is a register plus an offset, and tells whether it is.
     #[inline(always)]
     pub fn set_cfa_offset(&mut self, offset: i64) -> bool
         ensures set { IsTrue result → (r : ℕ) × (n : ℤ) × (self.old.cfa ≡ CfaRule.Register r n) × (self.new ≡ with_cfa (CfaRule.Register r offset) self.old) }

@@ -214,10 +214,7 @@ pub(crate) fn fde_of<'a>(
 {
     match piece.kind {
         Kind::Cie => Ok(None),
-        Kind::Fde => match read_entry(piece, places, found, target) {
-            Ok(fde) => Ok(Some(fde)),
-            Err(refusal) => Err(refusal),
-        },
+        Kind::Fde => read_entry(piece, places, found, target).map(Some),
     }
 }
 

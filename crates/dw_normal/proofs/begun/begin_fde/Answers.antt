@@ -70,6 +70,6 @@ returns-clause-walks c =
       stands = c.cie_of-begun.ensures;
       known =
           still_same ready.table ready.rows.entries register shared c.shared_row-begun.ensures c.go_behind_first.new.changes behind known cies
-          (λ place x y. c.section_laws.ensures.left ready.table.target ready.table.bytes place x y c.accepted.ensures.bytes) c.in_ok-behind.ensures.section c.in_ok-behind.ensures.stands c.requires.walks.known notes;
+          (λ place x y. c.cited_laws.ensures.left ready.table.target ready.table.bytes place x y c.accepted.ensures.bytes) c.in_ok-behind.ensures.section c.in_ok-behind.ensures.stands c.requires.walks.known notes;
     })
     c.list.ensures.known

@@ -12,4 +12,4 @@ returns-in-Err-clause-only c = λ n normal within. only_memory c.args.target c.a
 
 pub returns-in-Err-clause-within : goal.returns-in-Err-clause-within
 returns-in-Err-clause-within c =
-    refused_within c.section_laws.ensures.within c.args.target c.args.bytes.now c.are_bytes.ensures c.args.cap c.in-Err.error c.in-Err.ensures.first
+    refused_within c.cited_laws.ensures.within c.args.target c.args.bytes.now c.are_bytes.ensures c.args.cap c.in-Err.error c.in-Err.ensures.first

@@ -29,4 +29,4 @@ returns-in-Err-clause-longer c = λ n normal longer.
 
 pub returns-in-Err-clause-within : goal.returns-in-Err-clause-within
 returns-in-Err-clause-within c =
-    refused_within c.section_laws.ensures.within c.args.target c.args.bytes.now c.are_bytes.ensures c.args.cap c.unread.result (refused (goal.at.returns-in-Err-clause-within c).After-unread)
+    refused_within c.cited_laws.ensures.within c.args.target c.args.bytes.now c.are_bytes.ensures c.args.cap c.unread.result (refused (goal.at.returns-in-Err-clause-within c).After-unread)

@@ -28,4 +28,4 @@ returns-in-Err-clause-writes g c =
 
 pub returns-in-Err-clause-within : goal.returns-in-Err-clause-within
 returns-in-Err-clause-within g c =
-    unwritten_within c.section_laws.ensures.within c.args.target c.args.bytes.now c.are_bytes.ensures c.args.cap c.in-Err.error c.unwritten.result c.in-Err.ensures.first c.unwritten.ensures
+    unwritten_within c.cited_laws.ensures.within c.args.target c.args.bytes.now c.are_bytes.ensures c.args.cap c.in-Err.error c.unwritten.result c.in-Err.ensures.first c.unwritten.ensures

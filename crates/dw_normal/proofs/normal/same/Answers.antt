@@ -41,11 +41,11 @@ returns-clause-fit c =
 
 pub returns-in-Err-clause-within : goal.returns-in-Err-clause-within
 returns-in-Err-clause-within c =
-    first_within c.section_laws.ensures.within c.args.target c.args.first.now c.args.second.now c.are_bytes.ensures c.in-Err.error c.blamed.result c.in-Err.ensures.first c.blamed.ensures
+    first_within c.cited_laws.ensures.within c.args.target c.args.first.now c.args.second.now c.are_bytes.ensures c.in-Err.error c.blamed.result c.in-Err.ensures.first c.blamed.ensures
 
 pub returns-in-Err-check-clause-within : goal.returns-in-Err-check-clause-within
 returns-in-Err-check-clause-within c =
-    second_within c.section_laws.ensures.within c.args.target c.args.first.now c.args.second.now c.are_bytes-2.ensures c.in-Err-check.error c.blamed-in-Err-check.result c.in-Err-check.ensures.first
+    second_within c.cited_laws.ensures.within c.args.target c.args.first.now c.args.second.now c.are_bytes-2.ensures c.in-Err-check.error c.blamed-in-Err-check.result c.in-Err-check.ensures.first
     c.blamed-in-Err-check.ensures
 
 pub returns-clause-within : goal.returns-clause-within
