@@ -27,19 +27,27 @@ fn print_pair(rt: &HostRuntime, first: &ExprRef<'_>, second: &ExprRef<'_>) {
     say(rt, &(equal, alike, first.least_len(), second.least_len()));
 }
 
+fn beside(rt: &HostRuntime, first: &ExprRef<'_>, block: &[u8]) {
+    if let Some(second) = taken(rt, ExprRef::accept(block, TARGET)) {
+        print_pair(rt, first, &second);
+    }
+}
+
 fn beside_each(rt: &HostRuntime, first: &ExprRef<'_>) {
     for block in BLOCKS {
-        if let Some(second) = taken(rt, ExprRef::accept(block, TARGET)) {
-            print_pair(rt, first, &second);
-        }
+        beside(rt, first, block);
+    }
+}
+
+fn on_block(rt: &HostRuntime, block: &[u8]) {
+    if let Some(first) = taken(rt, ExprRef::accept(block, TARGET)) {
+        beside_each(rt, &first);
     }
 }
 
 /// Accepts each block, and compares and hashes it and each other.
 pub fn all(rt: &HostRuntime) {
     for block in BLOCKS {
-        if let Some(first) = taken(rt, ExprRef::accept(block, TARGET)) {
-            beside_each(rt, &first);
-        }
+        on_block(rt, block);
     }
 }

@@ -19,7 +19,7 @@ const DUMPS: &[&[u8]] = &[
 ];
 
 // The dump that expressions are evaluated over.
-const OVER: &[u8] = b"r7 0x1000\nmem 0x1008 2a00000000000000";
+const OVER: &[&[u8]] = &[b"r7 0x1000\nmem 0x1008 2a00000000000000"];
 
 // A read of memory, a countdown, and a loop that pushes until its steps are taken.
 const EXPRESSIONS: &[&[u8]] = &[
@@ -45,14 +45,6 @@ fn print_parts(rt: &HostRuntime, dump: &mut Dump) {
     let (seven, far) = (dump.registers.get(7), dump.registers.get(300));
     say(rt, &(dump.pc, seven, far));
     read(rt, &mut dump.memory);
-}
-
-pub fn dumps(rt: &HostRuntime) {
-    for text in DUMPS {
-        if let Some(mut dump) = taken(rt, Dump::parse(rt.alloc(), text, TARGET)) {
-            print_parts(rt, &mut dump);
-        }
-    }
 }
 
 fn print_answer(
@@ -84,21 +76,36 @@ fn evaluated(rt: &HostRuntime, call: &str, dump: &mut Dump, list: &OpList<'_>) {
     read(rt, &mut dump.memory);
 }
 
-fn each(rt: &HostRuntime, call: &str, dump: &mut Dump, blocks: &[&[u8]]) {
-    for block in blocks {
-        if let Some(list) = taken(rt, decode(rt.alloc(), block, TARGET, Profile::Location)) {
-            evaluated(rt, call, dump, &list);
-        }
+fn on_block(rt: &HostRuntime, call: &str, dump: &mut Dump, block: &[u8]) {
+    if let Some(list) = taken(rt, decode(rt.alloc(), block, TARGET, Profile::Location)) {
+        evaluated(rt, call, dump, &list);
     }
 }
 
+fn each(rt: &HostRuntime, call: &str, dump: &mut Dump, blocks: &[&[u8]]) {
+    for block in blocks {
+        on_block(rt, call, dump, block);
+    }
+}
+
+fn on_dump(rt: &HostRuntime, call: &str, dump: &mut Dump) {
+    match call {
+        "dumps" => print_parts(rt, dump),
+        "evaluate" => each(rt, call, dump, EXPRESSIONS),
+        _ => each(rt, call, dump, LOCATIONS),
+    }
+}
+
+fn on_text(rt: &HostRuntime, call: &str, text: &[u8]) {
+    if let Some(mut dump) = taken(rt, Dump::parse(rt.alloc(), text, TARGET)) {
+        on_dump(rt, call, &mut dump);
+    }
+}
+
+/// A call by its name, on each dump or over one.
 pub fn all(rt: &HostRuntime, call: &str) {
-    if let Some(mut dump) = taken(rt, Dump::parse(rt.alloc(), OVER, TARGET)) {
-        let blocks = if call == "evaluate" {
-            EXPRESSIONS
-        } else {
-            LOCATIONS
-        };
-        each(rt, call, &mut dump, blocks);
+    let texts = if call == "dumps" { DUMPS } else { OVER };
+    for text in texts {
+        on_text(rt, call, text);
     }
 }

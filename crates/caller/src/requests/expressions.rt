@@ -1,16 +1,9 @@
 //! The calls on expressions.
 
 use super::answers::{say, taken, told};
-use super::numbers::{lent, tell};
+use super::numbers::{Appended, append};
 use dw_num::Target;
 use dw_op::{ExprRef, OpList, Profile, decode, encode};
-
-fn put(rt: &HostRuntime, expression: &ExprRef<'_>) {
-    if let Some(mut out) = lent(rt) {
-        let put = expression.put_least(&mut out);
-        tell(rt, put, &out);
-    }
-}
 
 fn decoded(rt: &HostRuntime, block: &[u8], target: Target) {
     if let Some(list) = taken(rt, decode(rt.alloc(), block, target, Profile::Frame)) {
@@ -35,7 +28,7 @@ fn on_list(rt: &HostRuntime, call: &str, list: &OpList<'_>) {
 /// A call by its name. `decode` is of the least block.
 pub fn on_expression(rt: &HostRuntime, call: &str, expression: &ExprRef<'_>) {
     if call == "put_least" {
-        put(rt, expression);
+        append(rt, Appended::Least(expression));
     } else if let Some(list) = taken(rt, expression.ops(rt.alloc())) {
         on_list(rt, call, &list);
     }

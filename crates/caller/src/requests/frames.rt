@@ -4,7 +4,7 @@ use super::answers::{say, taken};
 use dw_cfa::RowRoom;
 use dw_eval::Policy;
 use dw_num::Target;
-use dw_section::{Ranged, check};
+use dw_section::Ranged;
 use dw_unwind::{Dump, FrameRoom, unwind_at};
 use std::alloc::Global;
 
@@ -66,18 +66,17 @@ fn frames_of(rt: &HostRuntime, bytes: &[u8], target: Target, index: &[Ranged], d
     drop(room);
 }
 
-// Makes a dump, and by it the frames, where they are wanted.
-fn by_index(rt: &HostRuntime, bytes: &[u8], target: Target, index: &[Ranged], are_wanted: bool) {
+/// Makes a dump, and by it and the index of a section the frames, where they are wanted.
+pub fn by_index(
+    rt: &HostRuntime,
+    bytes: &[u8],
+    target: Target,
+    index: &[Ranged],
+    are_wanted: bool,
+) {
     if let Some(mut dump) = taken(rt, Dump::parse(rt.alloc(), STOPPED, target)) {
         if are_wanted {
             frames_of(rt, bytes, target, index, &mut dump);
         }
-    }
-}
-
-/// Makes an index, and by it the frames, where they are wanted.
-pub fn all(rt: &HostRuntime, bytes: &[u8], target: Target, are_wanted: bool) {
-    if let Some(table) = taken(rt, check(rt.alloc(), bytes, target)) {
-        by_index(rt, bytes, target, table.index(), are_wanted);
     }
 }

@@ -5,17 +5,31 @@ ghost use Rattle.std.specs.Prelude.{◌<◌};
 use super::answers::{changed, say, taken, told};
 use dw_eval::Registers;
 use dw_num::{Order, put_fixed, put_sleb, put_uleb};
+use dw_op::ExprRef;
 use std::alloc::AllocError;
 
 const LENT: &[u8] = b"lent";
 
-/// A vector to append to.
-pub fn lent(rt: &HostRuntime) -> Option<Vec<u8>> {
-    taken(rt, Vec::from_slice(rt.alloc(), LENT))
+/// What is appended to a vector.
+#[derive(Clone, Copy)]
+pub enum Appended<'r, 'a> {
+    Unsigned,
+    Signed,
+    Fixed,
+    Least(&'r ExprRef<'a>),
 }
 
-/// Prints the answer, and the vector that the call was lent. Where the call wants memory the vector has to be as it was.
-pub fn tell(rt: &HostRuntime, put: Result<(), AllocError>, out: &[u8]) {
+fn put(what: Appended<'_, '_>, out: &mut Vec<u8>) -> Result<(), AllocError> {
+    match what {
+        Appended::Unsigned => put_uleb(out, 0xffff_ffff_ffff_ffff),
+        Appended::Signed => put_sleb(out, -0x8000_0000_0000_0000),
+        Appended::Fixed => put_fixed(out, Order::Big, 8, 0x0102_0304_0506_0708),
+        Appended::Least(expression) => expression.put_least(out),
+    }
+}
+
+// Where the call wants memory the vector that it was lent has to be as it was.
+fn tell(rt: &HostRuntime, put: Result<(), AllocError>, out: &[u8]) {
     if told(rt, put) {
         say(rt, &out);
     } else if out != LENT {
@@ -23,31 +37,18 @@ pub fn tell(rt: &HostRuntime, put: Result<(), AllocError>, out: &[u8]) {
     }
 }
 
-fn unsigned(rt: &HostRuntime) {
-    if let Some(mut out) = lent(rt) {
-        let put = put_uleb(&mut out, 0xffff_ffff_ffff_ffff);
-        tell(rt, put, &out);
-    }
-}
-
-fn signed(rt: &HostRuntime) {
-    if let Some(mut out) = lent(rt) {
-        let put = put_sleb(&mut out, -0x8000_0000_0000_0000);
-        tell(rt, put, &out);
-    }
-}
-
-fn fixed(rt: &HostRuntime) {
-    if let Some(mut out) = lent(rt) {
-        let put = put_fixed(&mut out, Order::Big, 8, 0x0102_0304_0506_0708);
-        tell(rt, put, &out);
+/// Appends to a vector, and prints the answer and the vector.
+pub fn append(rt: &HostRuntime, what: Appended<'_, '_>) {
+    if let Some(mut out) = taken(rt, Vec::from_slice(rt.alloc(), LENT)) {
+        let answer = put(what, &mut out);
+        tell(rt, answer, &out);
     }
 }
 
 pub fn all(rt: &HostRuntime) {
-    unsigned(rt);
-    signed(rt);
-    fixed(rt);
+    append(rt, Appended::Unsigned);
+    append(rt, Appended::Signed);
+    append(rt, Appended::Fixed);
 }
 
 // Sets a register, and prints what it holds. A refused call leaves it, and the one before it.

@@ -85,15 +85,6 @@ fn walk_twice<'a>(rt: &HostRuntime, walk: &mut RowWalk<'a>, program: Program<'a>
     }
 }
 
-fn lent_rows(rt: &HostRuntime, entry: Entry<'_>, begin: u64, target: Target)
-    requires { begin < address_limit target.size }
-{
-    let mut walk = RowWalk::new(rt.alloc(), target);
-    walk.lead(entry.cie, entry.factors, target);
-    walk_twice(rt, &mut walk, entry.program, begin);
-    drop(walk);
-}
-
 // Whether one of the first 16 addresses of an FDE lacks a rule for the CFA.
 fn print_lacking<'a>(
     rt: &HostRuntime,
@@ -117,12 +108,28 @@ fn lacks_twice<'a>(rt: &HostRuntime, walk: &mut RowWalk<'a>, program: Program<'a
     }
 }
 
-fn lacking(rt: &HostRuntime, entry: Entry<'_>, begin: u64, target: Target)
+fn on_walk<'a>(
+    rt: &HostRuntime,
+    call: &str,
+    walk: &mut RowWalk<'a>,
+    program: Program<'a>,
+    begin: u64,
+)
+    requires { begin < address_limit walk.old.led.program.target.size }
+{
+    if call == "row_walk" {
+        walk_twice(rt, walk, program, begin);
+    } else {
+        lacks_twice(rt, walk, program, begin);
+    }
+}
+
+fn by_walk(rt: &HostRuntime, call: &str, entry: Entry<'_>, begin: u64, target: Target)
     requires { begin < address_limit target.size }
 {
     let mut walk = RowWalk::new(rt.alloc(), target);
     walk.lead(entry.cie, entry.factors, target);
-    lacks_twice(rt, &mut walk, entry.program, begin);
+    on_walk(rt, call, &mut walk, entry.program, begin);
     drop(walk);
 }
 
@@ -134,14 +141,15 @@ fn print_initial(rt: &HostRuntime, call: &str, row: &Row<'_>) {
     }
 }
 
+fn in_row<'a>(rt: &HostRuntime, call: &str, entry: Entry<'a>, target: Target, row: &mut Row<'a>) {
+    if told(rt, become_initial(row, entry.cie, entry.factors, target)) {
+        print_initial(rt, call, row);
+    }
+}
+
 fn initial(rt: &HostRuntime, call: &str, entry: Entry<'_>, target: Target) {
     let mut row = Row::blank(rt.alloc());
-    if told(
-        rt,
-        become_initial(&mut row, entry.cie, entry.factors, target),
-    ) {
-        print_initial(rt, call, &row);
-    }
+    in_row(rt, call, entry, target, &mut row);
     drop(row);
 }
 
@@ -151,8 +159,7 @@ fn from_begin(rt: &HostRuntime, call: &str, entry: Entry<'_>, begin: u64, target
     match call {
         "run" => all_rows(rt, entry, begin, target),
         "row_steps" => each_row(rt, entry, begin, target),
-        "row_walk" => lent_rows(rt, entry, begin, target),
-        "lacks_rule" => lacking(rt, entry, begin, target),
+        "row_walk" | "lacks_rule" => by_walk(rt, call, entry, begin, target),
         _ => initial(rt, call, entry, target),
     }
 }

@@ -1,6 +1,7 @@
 //! The calls that read the fields of entries, and those on a section's table.
 
 use super::answers::{behind, say, taken, told};
+use super::frames::by_index;
 use dw_num::Target;
 use dw_section::{Changes, FdeRef, Table, check, headers};
 
@@ -16,11 +17,9 @@ fn rows_from(rt: &HostRuntime, table: &Table<'_>, begin: u64) {
     }
 }
 
-pub fn rows_of_addresses(rt: &HostRuntime, bytes: &[u8], target: Target) {
-    if let Some(table) = taken(rt, check(rt.alloc(), bytes, target)) {
-        for fde in table.fdes() {
-            rows_from(rt, &table, fde.begin);
-        }
+fn rows_of_each(rt: &HostRuntime, table: &Table<'_>) {
+    for fde in table.fdes() {
+        rows_from(rt, table, fde.begin);
     }
 }
 
@@ -41,8 +40,17 @@ fn changes_of_each(rt: &HostRuntime, table: &Table<'_>) {
     }
 }
 
-pub fn all_changes(rt: &HostRuntime, bytes: &[u8], target: Target) {
+fn on_table(rt: &HostRuntime, call: &str, bytes: &[u8], target: Target, table: &Table<'_>) {
+    match call {
+        "row_at" => rows_of_each(rt, table),
+        "changes" => changes_of_each(rt, table),
+        _ => by_index(rt, bytes, target, table.index(), call == "frames"),
+    }
+}
+
+/// A call on the table of a section, by its name.
+pub fn over_table(rt: &HostRuntime, call: &str, bytes: &[u8], target: Target) {
     if let Some(table) = taken(rt, check(rt.alloc(), bytes, target)) {
-        changes_of_each(rt, &table);
+        on_table(rt, call, bytes, target, &table);
     }
 }
