@@ -3,9 +3,10 @@
 ghost use Rattle.std.specs.Prelude.{◌≡◌, ◌<◌, ◌≤◌, ℕ, List, None, Some, IfErr, IfOk, MatchOption, MatchResult};
 ghost use Rattle.dw_num.specs.{Refusals.Refuses, Target.address_limit, declared.error.ReadError.TheVariants.OutOfMemory};
 ghost use Rattle.dw_op.specs.Least.{LeastBlock};
-ghost use Rattle.dw_cfa.specs.{Faults.RunFault, InitialRules.HoldsAfter, InstrSpells.{ProgramSpells as Spells}};
+ghost use Rattle.dw_cfa.specs.{Faults.RunFault, InitialRules.HoldsAfter, InstrSpells.{ProgramSpells as Spells}, RowLaws.{LastHolds, OneCount}};
 ghost use Rattle.dw_cfa.specs.{Location.Counts, RowSteps.program_input, RuleAt.last_at, declared.instr.Instr.Instr};
 ghost use Rattle.dw_section.specs.{Accepted.Accepted, Meanings.SameMeaning};
+ghost use Rattle.dw_canon.specs.Laws.MeaningIsKept;
 
 use dw_canon::normal_laws;
 use dw_cfa::{Factors, LocatedRow, row_laws, run};
@@ -15,13 +16,23 @@ use dw_op::{OpList, Profile, block_laws, decode};
 use dw_row::Row;
 use std::alloc::Global;
 
+// The laws that proofs here cite: one in which all laws stand takes long.
+fn cited_laws()
+    ensures kept { MeaningIsKept }
+    ensures holds { LastHolds }
+    ensures count { OneCount }
+{
+    normal_laws();
+    row_laws();
+}
+
 /// The normal form of a section. It is accepted, and says what the section says.
 pub fn normal_form(alloc: Global, section: &[u8], target: Target) -> Result<Vec<u8>, ReadError>
     ensures accepted { IfOk result (λ normal. Accepted target normal.items) }
     ensures same { IfOk result (λ normal. SameMeaning target section.now normal.items) }
 {
     are_bytes(section);
-    normal_laws();
+    cited_laws();
     normalise(alloc, section, target, 2_147_483_647)
 }
 
@@ -72,7 +83,7 @@ pub fn rules_of<'a>(
 {
     are_bytes(cie.bytes);
     are_bytes(fde.bytes);
-    row_laws();
+    cited_laws();
     let rows = run(alloc, cie, fde, begin, factors, target)?;
     let Some(row) = last_row(&rows, address) else {
         unreachable!();

@@ -4,6 +4,7 @@ use Rattle.dw_row.proofs.Lent.RowLists.{Entry}
 use Rattle.dw_section.specs.declared.change.Behind.{Behind}
 use Rattle.dw_section.proofs.Words.{◌≡◌, ℕ, suc, ◌<◌, Bool, true, false, List, [], ◌∷◌, Option, Some, None, Ok, refl, sym, ap, subst, ◌∙◌, arith, inl, inr, filter, nat_tests, cases_Bool, cases_lt, IfSome, IsTrue, MatchOption, AreBytes}
 use Rattle.dw_section.proofs.Words.{LocatedRow, RegRule, Rules, Led, Walking, AllKeep, AreSpecified, Head, Headers, LedTo, Section, changes_among, is_kept, is_specified, kept, kept_by, leaves_one, rule, rule_in, shown_if, unlisted}
+use Rattle.std.proofs.Common.{nat_eq, ◌||◌, ◌≤◌}
 use Rattle.dw_section.proofs.{Words.{LeavesTo, FirstDifference, CieKeeps, StandsOn, finished, ShownBehind, shown_of, AreChanged, CieLeaves, first_left}, ChangesAmong.none_dropped}
 
 -- ---- the registers to which a row gives other rules than the one before
@@ -14,6 +15,33 @@ pub record Listed (before row : Rules) (changed : Registers) (keeps : Bool) (pla
   pub beside : (r : ℕ) → r < place → has changed r ≡ false → rule before r ≡ rule row r
   pub only : (r : ℕ) → has changed r ≡ true → (r < place) × (rule before r ≡ rule row r → ⊥)
   pub specified : keeps ≡ true → (r : ℕ) → r < place → is_specified (rule row r) ≡ true → is_specified (rule before r) ≡ true
+
+-- one more register is listed, the next whose rule differs
+pub listed_more : (before row : Rules) (old new : Registers) (keeps keeps' : Bool) (place q : ℕ) → Listed before row old keeps place → FirstDifference place before.registers row.registers (Some q)
+    → ((r : ℕ) → has new r ≡ (nat_eq r q || has old r)) → (keeps' ≡ true → (keeps ≡ true) × (is_specified (rule row q) ≡ true → is_specified (rule before q) ≡ true)) → Listed before row new keeps' (suc q)
+listed_more before row old new keeps keeps' place q listed first added more = record { beside = beside; only = only; specified = specified }
+  where
+    -- up to it the rules are the same from the place on
+    between : (r : ℕ) → place ≤ r → r < suc q → nat_eq r q ≡ false → rule before r ≡ rule row r
+    between r ge lt ne = first.1 r ge (grind (arith, nat_tests, ne))
+    beside : (r : ℕ) → r < suc q → has new r ≡ false → rule before r ≡ rule row r
+    beside r lt none = elim (cases_Bool (nat_eq r q)) [
+      | inl e ↦ absurd (grind (arith, added r, e, none))
+      | inr e ↦ elim (cases_lt r place) [ inl below ↦ listed.beside r below (grind (arith, added r, e, none)) | inr ge ↦ between r ge lt e ]
+    ]
+    only : (r : ℕ) → has new r ≡ true → (r < suc q) × (rule before r ≡ rule row r → ⊥)
+    only r is = elim (cases_Bool (nat_eq r q)) [
+      | inl e ↦ subst (λ (n : ℕ). (n < suc q) × (rule before n ≡ rule row n → ⊥)) (sym (grind (arith, nat_tests, e))) (omega arith, first.2)
+      | inr e ↦ let own = listed.only r (grind (arith, added r, e, is)) in (omega (arith, own.0, first.0), own.1)
+    ]
+    specified : keeps' ≡ true → (r : ℕ) → r < suc q → is_specified (rule row r) ≡ true → is_specified (rule before r) ≡ true
+    specified all r lt is = elim (cases_Bool (nat_eq r q)) [
+      | inl e ↦ let at : r ≡ q = grind (arith, nat_tests, e) in subst (λ (n : ℕ). is_specified (rule before n) ≡ true) (sym at) ((more all).1 (subst (λ (n : ℕ). is_specified (rule row n) ≡ true) at is))
+      | inr e ↦ elim (cases_lt r place) [
+        | inl below ↦ listed.specified (more all).0 r below is
+        | inr ge ↦ subst (λ (x : RegRule). is_specified x ≡ true) (sym (between r ge lt e)) is
+      ]
+    ]
 
 -- registers that others specify too all stay
 all_stay : (others : List Entry) (low : ℕ) (xs : List Entry) → AreSpecified low xs → ((r : ℕ) → is_specified (rule_in xs r) ≡ true → is_specified (rule_in others r) ≡ true) → filter (is_kept others) xs ≡ xs

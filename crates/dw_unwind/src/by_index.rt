@@ -33,6 +33,13 @@ pub enum UnwindAtError {
     Unwind(UnwindError),
 }
 
+// The law of sections that a proof here cites, alone: each law that is called goes into a proof.
+fn cited_law()
+    ensures { CfaIsSet }
+{
+    section_laws();
+}
+
 // The return address register of the FDE that covers an address by an index; `room` lends the rules there then.
 fn row_at<'a>(
     bytes: &'a [u8],
@@ -47,7 +54,7 @@ fn row_at<'a>(
     ensures set { OnOk result (room.new.cfa ≡ Unset → ⊥) }
     ensures fits { OnOk result (RowFits target room.new) }
 {
-    section_laws();
+    cited_law();
     are_bytes(bytes);
     match look_up(bytes, target, index, address, room) {
         Ok(Some(fde)) => {
