@@ -102,9 +102,9 @@ pub(crate) fn begin_fde<'r, 'a>(begun: &mut Begun<'r, 'a>, fde: FdeRef) -> Resul
     let known = begun.fde.return_register;
     begun.fde = table.fde(fde);
     let register = begun.fde.return_register;
-    begun.shared = shared_row(&begun.ready.rows, register, known, begun.shared);
+    let shared = shared_row(&begun.ready.rows, register, known, begun.shared);
+    begun.shared = shared;
     begun.cie_at = cie_of(begun.places, register, known, begun.cie_at);
-    begun
-        .apart
-        .list(begun.shared, &begun.changes, behind, register)
+    let changes = &begun.changes;
+    begun.apart.list(shared, changes, behind, register)
 }
