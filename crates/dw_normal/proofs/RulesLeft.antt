@@ -22,6 +22,9 @@ module _ (t : Target) (shared old new : Rules) where
   pub rules_fit : AllByRecursion (InstrFits t) (difference shared old new) → AllByRecursion (InstrFits t) rules
   rules_fit fits = (both_halves (InstrFits t) cfa rules (subst (AllByRecursion (InstrFits t)) divided fits)).1
 
+  pub cfa_fits : AllByRecursion (InstrFits t) (difference shared old new) → AllByRecursion (InstrFits t) cfa
+  cfa_fits fits = (both_halves (InstrFits t) cfa rules (subst (AllByRecursion (InstrFits t)) divided fits)).0
+
   bytes_divided : program_bytes t (difference shared old new) ≡ program_bytes t cfa ++ program_bytes t rules
   bytes_divided = ap (program_bytes t) divided ∙ program_more t cfa rules
 

@@ -2,9 +2,9 @@
 
 ghost use Rattle.std.specs.{Prelude.{◌≡◌, ◌++◌, IfOk, OnOk}, List.AllByRecursion};
 ghost use Rattle.dw_row.specs.{Rows.rule, Inner.Agreement.same_rule, declared.rule.RegRule.TheVariants.Offset};
-ghost use Rattle.dw_canon.specs.Inner.{Difference.{difference, cfa_difference, rule_to}, Fits.InstrFits, Spelling.{instr_bytes, program_bytes}};
+ghost use Rattle.dw_canon.specs.Inner.{Difference.{cfa_difference, rule_to}, Fits.InstrFits, Spelling.{instr_bytes, program_bytes}};
 ghost use Rattle.dw_normal.specs.Inner.{Apart.StandsApart, ChangeWalk.{GoesOn, IsShown, Stand, shown_row}};
-ghost use Rattle.dw_normal.specs.Inner.{Differences.Tells};
+ghost use Rattle.dw_normal.specs.Inner.Differences.{CanLead, Leads, Tells};
 
 use crate::apart::{Apart, Differences};
 use crate::instruction::{
@@ -94,8 +94,8 @@ pub(crate) fn push_difference<'a>(
     target: Target,
 ) -> Appended
     requires tells { Tells differences before.now after.now }
-    requires fits { AllByRecursion (InstrFits target) (difference shared.now before.now after.now) }
-    ensures { OnOk result (out.new.items ≡ out.old.items ++ program_bytes target (difference shared.now before.now after.now)) }
+    requires fits { CanLead target shared.now before.now after.now }
+    ensures { OnOk result (Leads target shared.now before.now after.now out.old.items out.new.items) }
 {
     push_cfa(out, before, after, target)?;
     let mut last = None;
@@ -117,8 +117,8 @@ pub(crate) fn push_first<'a>(
 ) -> Appended
     requires shown { IsShown changes.now }
     requires apart { StandsApart apart.now shared.now (shown_row changes.now) }
-    requires fits { AllByRecursion (InstrFits target) (difference shared.now shared.now (shown_row changes.now)) }
-    ensures { OnOk result (out.new.items ≡ out.old.items ++ program_bytes target (difference shared.now shared.now (shown_row changes.now))) }
+    requires fits { CanLead target shared.now shared.now (shown_row changes.now) }
+    ensures { OnOk result (Leads target shared.now shared.now (shown_row changes.now) out.old.items out.new.items) }
 {
     let Some(first) = changes.row() else {
         unreachable!();

@@ -2,7 +2,7 @@
 
 ghost use Rattle.std.specs.Prelude.{◌≡◌, ◌⊎◌, ◌-◌, ◌^◌, ◌<◌, ◌≤◌, true, IfOk, IfErr, OnOk, Result, Err};
 ghost use Rattle.dw_row.specs.declared.rule.CfaRule.TheVariants.{Unset};
-ghost use Rattle.dw_section.specs.{Fits.RowFits, Ranges.IsTable};
+ghost use Rattle.dw_section.specs.{Fits.RowFits, Laws.CfaIsSet, Ranges.IsTable};
 ghost use Rattle.dw_unwind.specs.{Unwound.{Unwound, UnwindFails, is_device, stopped}, UnwoundAt.{IsLed, LacksRow, UnwoundAt, UnwindAtFails, by_index}};
 ghost use Rattle.dw_unwind.specs.declared.frame.{Frame.{Frame as TheFrame}, UnwindError.{UnwindError as TheError}};
 ghost use Rattle.dw_unwind.specs.{Inner.Found.FindsRow, declared.frame.UnwindError.TheVariants.OutOfMemory};

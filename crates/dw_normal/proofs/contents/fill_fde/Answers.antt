@@ -11,7 +11,7 @@ made : (c : After-push_changes) (ms : List Member) (m : Member) → IsBegun ms m
 made c ms m is =
     let t = c.args.target in
     fde_filled t ms m c.args.begun.now c.args.begun.now.cie_at c.args.begun.now.fde.begin (fixed_bytes t.order 4 0) c.begin_fde_entry.new.out.items c.push_first.new.out.items _ _ is refl
-    (length-fixed t.order 4 0) (rw c.from-begin.ensures at c.in_ok-begin_fde_entry.ensures) c.in_ok-push_first.ensures refl refl
+    (length-fixed t.order 4 0) (rw c.from-begin.ensures at c.in_ok-begin_fde_entry.ensures) c.in_ok-push_first.ensures.put refl refl
 
 pub returns-in_err-push_changes-clause-contents : goal.returns-in_err-push_changes-clause-contents
 returns-in_err-push_changes-clause-contents c = λ ms m is.

@@ -30,7 +30,7 @@ push_difference-requires-clause-fits c =
     let at = (goal.at.push_difference-requires-clause-fits c).In-Some in
     let was : c.in-Some-Some.before.now ≡ shown_row c.args.changes.now = sym (ap row_or_blank c.in-Some-Some.ensures) ∙ before at in
     let is : c.in-Some-Some.row.now ≡ shown_row c.advance.new.self = sym (ap row_or_blank c.in-Some-Some.ensures') in
-    rw (was, is) (step_fits c.requires (next at))
+    rw (was, is) (record { fits = step_fits c.requires (next at) })
 
 pub returns-clause-goes : goal.returns-clause-goes
 returns-clause-goes c =
@@ -42,6 +42,6 @@ returns-clause-goes c =
       step_stand c.requires (next at),
       omega (arith, long),
       step_written c.requires (next at) c.args.out.now.items c.push_difference.new.out.items
-          (c.in_ok-push_difference.ensures ∙ ap (λ (old : Rules). behind c.push_move.new.out.items old c.in-Some-Some.row.now) was
+          (c.in_ok-push_difference.ensures.put ∙ ap (λ (old : Rules). behind c.push_move.new.out.items old c.in-Some-Some.row.now) was
           ∙ ap (behind c.push_move.new.out.items (shown_row c.args.changes.now)) is ∙ ap (λ (out : List ℕ). behind out (shown_row c.args.changes.now) (shown_row c.advance.new.self)) c.in_ok-push_move.ensures),
     )
