@@ -1,13 +1,23 @@
 -- One instruction of a program, in the rows still to come.
 use Rattle.dw_cfa.proofs.Words.{◌≡◌, ℕ, ◌<◌, List, [], length, Option, None, Some, Ok, Err, false, refl, sym, ap, ◌∙◌, subst, IsTrue, AreBytes, Code, Factors, Input, Instr, Leading, Machine, Refusal, RegRule, Rules, led_rows, program_input}
-use Rattle.dw_cfa.proofs.Words.{State, address_limit, SetLoc, Advance, moves_location, instr_at, blank, written, after, cie_fault, fde_fault, BeganWith, IsLed, state_of, IsAfter, placed, cie_run, initial_row, here, row_if}
-use Rattle.dw_cfa.proofs.Words.{fault_or, fde_rows, fde_stop, rows_left, rows_behind, run_rows, run_stop, stop_left, stop_or, RunsSo, RanTo, WroteTo, fails, finished, row_then, program_fault}
+use Rattle.dw_cfa.proofs.Words.{State, address_limit, half_fault, SetLoc, Advance, moves_location, instr_at, blank, written, after, cie_fault, fde_fault, BeganWith, IsLed, state_of, IsAfter, placed, cie_run, initial_row, here, row_if}
+use Rattle.dw_cfa.proofs.Words.{RememberState, Restore, RestoreState, fault_or, fde_rows, fde_stop, rows_left, rows_behind, run_rows, run_stop, stop_left, stop_or, RunsSo, RanTo, WroteTo, fails, finished, row_then, program_fault}
 use Rattle.dw_cfa.proofs.{Lent.RowsAt.stays, Placings.{reads, placed_end, placed_step, placed_stuck}}
 
 -- what stands against an instruction of an FDE's program
 pub fde_is : (limit : ℕ) (i : Instr) (s : State) → program_fault false limit i s ≡ fde_fault limit i s
 fde_is limit (SetLoc a) s = refl
 fde_is limit i s = refl
+
+-- an instruction that leaves the location and the remembered rows alone
+pub settled : (i : Instr) (limit : ℕ) (s : State) (initial : Rules) → ((a : ℕ) → i ≡ SetLoc a → ⊥) → ((d : ℕ) → i ≡ Advance d → ⊥) → ((r : ℕ) → i ≡ Restore r → ⊥) → (i ≡ RememberState → ⊥) → (i ≡ RestoreState → ⊥)
+    → (program_fault false limit i s ≡ half_fault i s.row.cfa) × (moves_location i ≡ false) × (after initial i s ≡ record { row = written i s.row; stack = s.stack; location = s.location })
+settled (SetLoc a) limit s initial set advance restore remember recall = absurd (set a refl)
+settled (Advance d) limit s initial set advance restore remember recall = absurd (advance d refl)
+settled (Restore r) limit s initial set advance restore remember recall = absurd (restore r refl)
+settled RememberState limit s initial set advance restore remember recall = absurd (remember refl)
+settled RestoreState limit s initial set advance restore remember recall = absurd (recall refl)
+settled i limit s initial set advance restore remember recall = (refl, refl, refl)
 
 pub rows_end : (f : Factors) (i : Input) (m : Machine) → length i.bytes ≡ 0 → rows_left f i m ≡ row_then (here (state_of m)) finished
 unfolding rows_left fde_rows

@@ -91,7 +91,7 @@ pub check_shorter : (w v : Walker) (op : Op) → WalkSo w → Walked w v op → 
 check_shorter w v op h s = step_shorter Location w.here s.step v.here h.here.within.bytes s.read
 
 -- what a walk needs that judges a block
-pub ruleset judging = (check_shorter, check_bad, check_end, located_none, decoded_fault)
+pub ruleset judging = (check_bad, located_none, decoded_fault)
 
 -- ---- what an accepted block stands for
 

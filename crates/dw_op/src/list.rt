@@ -60,7 +60,6 @@ fn is_in_range(op: &Op<'_>, target: Target, len: usize) -> bool
 
 impl<'a> OpList<'a> {
     /// A list of these operations (2.5.1, 2.6.1), or the first one that is out of range for the target. A list that is refused is dropped. Takes no memory.
-    #[tactic(auto, using(crate::proofs::Lent::Ranges::first_bad))]
     pub fn from_ops(ops: Vec<Op<'a>>, target: Target) -> Result<OpList<'a>, BadOperand>
         // What is answered is the list, and it is in range.
         ensures found { IfOk result (λ list.

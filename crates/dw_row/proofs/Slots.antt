@@ -393,4 +393,4 @@ module _ (used rest : ℕ) (near : Slots) (expressions : List Entry) (holds : Ho
       ∙ ap₂ (λ (x : RegRule) (l : List Entry). (r, x) ∷ l) (sym is) (same_from (suc r) (128 - suc r) f g far stays)
       ∙ ap (λ (l : List Entry). (r, rule) ∷ l) (sym (skipped rest near expressions far (suc r) (omega (arith, first.1)) (λ q lt. grind (arith, nat_tests, bit q))))
 
-pub ruleset next_listed = (next_used, none_used, rest_holds)
+pub ruleset next_listed = (none_used, rest_holds)

@@ -1,4 +1,4 @@
-use Rattle.dw_op.proofs.{Words.{ℕ, ◌+◌, refl, ◌≡◌, Option, Some, None, ap, Location, bare, bare_step, weight, sum_in, find_at, goes_to, block_of, SoughtSo}, Walkers.{gone_on, to_seek, walked_branch, walked_nowhere}}
+use Rattle.dw_op.proofs.{Words.{ℕ, ◌+◌, refl, ◌≡◌, Option, Some, None, ap, Location, bare, bare_step, weight, sum_in, find_at, goes_to, block_of, SoughtSo}, Walkers.{gone_on, to_seek, walked_branch, walked_nowhere, walked_plain}}
 use Rattle.dw_op.proofs.walk.Walker.next_op.Goals as goal
 
 pub returns-in-Some : goal.returns-in-Some
@@ -24,3 +24,7 @@ returns-in-None c =
 pub sought-requires : goal.sought-requires
 sought-requires c =
     rw c.at-at.ensures.place (to_seek c.args.self.now (bare_step c.in_ok-step.step) c.next_step.new.cursor c.added.result c.requires c.in_ok-step.ensures (rw c.target-target.ensures at c.added.ensures))
+
+pub returns-in-Plain : goal.returns-in-Plain
+returns-in-Plain c =
+    walked_plain c.args.self.now (bare_step c.in_ok-step.step) c.next_step.new.cursor c.added.result c.requires c.in_ok-step.ensures (rw c.target-target.ensures at c.added.ensures) (bare c.in-Plain.op) (ap bare_step c.in-Plain.is)
