@@ -130,7 +130,6 @@ pub struct Behind {
 }
 
 // Keeps the row of the CIE at a place, where no row was gone on to yet, and goes on to the first change: then how that stands to the row of the CIE.
-#[tactic(auto, using(crate::proofs::BehindCie::stands_kept))]
 fn show_behind<'a>(
     steps: &mut RowWalk<'a>,
     changed: &mut RegisterSet<'a>,
