@@ -1,4 +1,4 @@
-use Rattle.dw_section.proofs.{Words.{place_behind, true}, BehindCie.{listed_more}}
+use Rattle.dw_section.proofs.{Words.{place_behind}, BehindCie.{listed_more}}
 use Rattle.dw_section.proofs.change.list_differences.Goals as goal
 
 pub registers-preserved-then-keeps : goal.registers-preserved-then-keeps
