@@ -335,7 +335,7 @@ impl<'a> Changes<'a> {
         };
         let copied = row.copied();
         self.failed = copied.is_err();
-        Ok(Some((address, copied?)))
+        copied.map(|row| Some((address, row)))
     }
 
     /// The least register to which the change that is shown gives another rule (6.4.1) than the change before it, of those behind
