@@ -291,8 +291,10 @@ impl<'a> Changes<'a> {
             && let Some(cie_at) = self.walks.cie_at
         {
             let shown = show_behind(&mut self.walks.walk, changed, self.end, cie_at);
-            self.failed = shown.is_err();
-            let (change, behind) = shown?;
+            let Ok((change, behind)) = shown else {
+                self.failed = true;
+                return Err(AllocError);
+            };
             self.lent = change.is_some();
             return Ok(behind);
         }
