@@ -24,16 +24,19 @@ listed_more before row old new keeps keeps' place q listed first added more = re
     -- up to it the rules are the same from the place on
     between : (r : ℕ) → place ≤ r → r < suc q → nat_eq r q ≡ false → rule before r ≡ rule row r
     between r ge lt ne = first.1 r ge (grind (arith, nat_tests, ne))
+
     beside : (r : ℕ) → r < suc q → has new r ≡ false → rule before r ≡ rule row r
     beside r lt none = elim (cases_Bool (nat_eq r q)) [
       | inl e ↦ absurd (grind (arith, added r, e, none))
       | inr e ↦ elim (cases_lt r place) [ inl below ↦ listed.beside r below (grind (arith, added r, e, none)) | inr ge ↦ between r ge lt e ]
     ]
+
     only : (r : ℕ) → has new r ≡ true → (r < suc q) × (rule before r ≡ rule row r → ⊥)
     only r is = elim (cases_Bool (nat_eq r q)) [
       | inl e ↦ subst (λ (n : ℕ). (n < suc q) × (rule before n ≡ rule row n → ⊥)) (sym (grind (arith, nat_tests, e))) (omega arith, first.2)
       | inr e ↦ let own = listed.only r (grind (arith, added r, e, is)) in (omega (arith, own.0, first.0), own.1)
     ]
+
     specified : keeps' ≡ true → (r : ℕ) → r < suc q → is_specified (rule row r) ≡ true → is_specified (rule before r) ≡ true
     specified all r lt is = elim (cases_Bool (nat_eq r q)) [
       | inl e ↦ let at : r ≡ q = grind (arith, nat_tests, e) in subst (λ (n : ℕ). is_specified (rule before n) ≡ true) (sym at) ((more all).1 (subst (λ (n : ℕ). is_specified (rule row n) ≡ true) at is))

@@ -130,7 +130,6 @@ pub struct Behind {
 }
 
 // Keeps the row of the CIE at a place, where no row was gone on to yet, and goes on to the first change: then how that stands to the row of the CIE.
-#[tactic(auto, using(crate::proofs::BehindCie::stands_kept))]
 fn show_behind<'a>(
     steps: &mut RowWalk<'a>,
     changed: &mut RegisterSet<'a>,
@@ -292,8 +291,10 @@ impl<'a> Changes<'a> {
             && let Some(cie_at) = self.walks.cie_at
         {
             let shown = show_behind(&mut self.walks.walk, changed, self.end, cie_at);
-            self.failed = shown.is_err();
-            let (change, behind) = shown?;
+            let Ok((change, behind)) = shown else {
+                self.failed = true;
+                return Err(AllocError);
+            };
             self.lent = change.is_some();
             return Ok(behind);
         }
@@ -336,7 +337,7 @@ impl<'a> Changes<'a> {
         };
         let copied = row.copied();
         self.failed = copied.is_err();
-        Ok(Some((address, copied?)))
+        copied.map(|row| Some((address, row)))
     }
 
     /// The least register to which the change that is shown gives another rule (6.4.1) than the change before it, of those behind

@@ -138,6 +138,5 @@ pub(crate) fn run_fdes<'a>(
     let (places, initials) = (&cies.places, &cies.initials);
     let ran = run_on(&mut walks, &mut judged, bytes, target, places, initials);
     drop(walks);
-    ran?;
-    Ok(judged)
+    ran.map(|()| judged)
 }

@@ -1,4 +1,4 @@
-use Rattle.dw_section.proofs.{Words.{◌≡◌, ◌+◌, ◌∙◌, List, length, sym, ap, subst, arith, Piece, Rises, cie_places}, Items.one_pieces, Lent.HeaderLaws.pieces_rise}
+use Rattle.dw_section.proofs.{Words.{inl, refuses_by, ◌≡◌, ◌+◌, ◌∙◌, List, length, sym, ap, subst, arith, Piece, Rises, cie_places}, Items.one_pieces, Stages.handed_on, Lent.HeaderLaws.pieces_rise}
 use Rattle.dw_section.proofs.header.cies_of.Goals as goal
 
 pub returns : goal.returns
@@ -12,3 +12,6 @@ returns c =
       ascending = subst (Rises 0) (sym n.2.cies) (pieces_rise c.args.target c.args.bytes.now n.0 n.1);
       first = tt;
     }
+
+pub returns-in_err-places-clause-first : goal.returns-in_err-places-clause-first
+returns-in_err-places-clause-first c = handed_on c.from_residual.result _ c.from_residual.ensures.1 (refuses_by c.in_err-places.field-0.0 _ _ (λ r h. inl h) c.in_err-places.ensures.first)

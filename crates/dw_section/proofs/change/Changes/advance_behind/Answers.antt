@@ -16,11 +16,11 @@ led c =
 pub returns-clause-changed : goal.returns-clause-changed
 returns-clause-changed c =
     let shown = c.show_behind-shown in
-    cie_shown c.args.self.now.section c.self.invariant.headers c.in-Some.cie_at shown.new.steps c.is_some-self-inside.result c.self.inside.kept (are c) (led c) c.if-not-self-2.true shown.new.changed c.in_ok-change.behind
-    (rw c.in_ok-change.was at shown.ensures.cie) (rw c.in_ok-change.was at shown.ensures.beside)
+    cie_shown c.args.self.now.section c.self.invariant.headers c.in-Some.cie_at shown.new.steps c.is_some-self-inside.result c.self.inside.kept (are c) (led c) c.if-not-self-2.true shown.new.changed c.in-Ok.behind
+    (rw c.in-Ok.is at shown.ensures.cie) (rw c.in-Ok.is at shown.ensures.beside)
 
 pub returns-clause-keeps : goal.returns-clause-keeps
 returns-clause-keeps c =
     let shown = c.show_behind-shown in
-    all_shown c.args.self.now.section c.self.invariant.headers c.in-Some.cie_at shown.new.steps c.is_some-self-inside.result c.self.inside.kept (are c) (led c) c.if-not-self-2.true c.self.inside.end c.in_ok-change.behind
-    (rw c.in_ok-change.was at shown.ensures.keeps)
+    all_shown c.args.self.now.section c.self.invariant.headers c.in-Some.cie_at shown.new.steps c.is_some-self-inside.result c.self.inside.kept (are c) (led c) c.if-not-self-2.true c.self.inside.end c.in-Ok.behind
+    (rw c.in-Ok.is at shown.ensures.keeps)
