@@ -6,7 +6,7 @@ ghost use Rattle.dw_op.specs.Least.{LeastBlock};
 ghost use Rattle.dw_cfa.specs.{Faults.RunFault, InitialRules.HoldsAfter, InstrSpells.{ProgramSpells as Spells}, RowLaws.{LastHolds, OneCount}};
 ghost use Rattle.dw_cfa.specs.{Location.Counts, RowSteps.program_input, RuleAt.last_at, declared.instr.Instr.Instr};
 ghost use Rattle.dw_section.specs.{Accepted.Accepted, Meanings.SameMeaning};
-ghost use Rattle.dw_canon.specs.Laws.MeaningIsKept;
+ghost use Rattle.dw_canon.specs.Laws.{MeaningIsKept};
 
 use dw_canon::normal_laws;
 use dw_cfa::{Factors, LocatedRow, row_laws, run};
