@@ -1,9 +1,8 @@
 -- How many bytes lead from one row to another, where the bytes of the rules of both are known.
-use Rattle.dw_canon.proofs.Words.{◌≡◌, ℕ, ◌+◌, ◌<◌, ◌≤◌, true, false, List, [], ◌∷◌, ◌++◌, length, inl, inr, arith, ℤ, neg_ℤ, unsigned_abs, nat_eq, is_negative, flat_map, int_eq, cases_Bool, length-append, Target}
-use Rattle.dw_canon.proofs.Words.{shortest_uleb, shortest_sleb, Instr, DefCfa, DefCfaRegister, DefCfaOffset, DefCfaExpression, Set, Restore, CfaRule, RegRule, IsOffset, same_rule, Rules, rule, is_specified, CfaFits, RowFits}
-use Rattle.dw_canon.proofs.Words.{cfa_to, either, cfa_difference, rule_difference, difference, expression_bytes, instr_bytes, program_bytes, packed}
+use Rattle.dw_canon.proofs.Words.{◌≡◌, ℕ, ◌+◌, ◌<◌, ◌≤◌, true, false, List, [], ◌∷◌, ◌++◌, length, inl, inr, arith, ℤ, neg_ℤ, unsigned_abs, nat_eq, is_negative, flat_map, int_eq, cases_Bool, length-append, Target, shortest_uleb}
+use Rattle.dw_canon.proofs.Words.{shortest_sleb, Instr, DefCfa, DefCfaRegister, DefCfaOffset, DefCfaExpression, Set, Restore, CfaRule, RegRule, IsOffset, same_rule, Rules, rule, is_specified, CfaFits, RowFits, cfa_to, either}
+use Rattle.dw_canon.proofs.{Words.{cfa_difference, rule_difference, difference, expression_bytes, instr_bytes, program_bytes, packed}, Sums.sum_of, Weights.{rule_len, cfa_len, register_len, abs_len, neg_len, packed_len}}
 use Rattle.dw_canon.specs.Spelling.{instr_bytes as instr_with}
-use Rattle.dw_canon.proofs.{Sums.sum_of, Weights.{rule_len, cfa_len, register_len, abs_len, neg_len, packed_len}}
 use Rattle.dw_row.specs.declared.rule.CfaRule.TheVariants as cfa
 use Rattle.dw_row.specs.declared.rule.RegRule.TheVariants as rules
 

@@ -1,17 +1,16 @@
 -- What holds of a member's program and of its CIE's, as instructions: they keep what programs have to, start as many rows as there
 -- are changes, and change at the member's addresses to its rows.
-use Rattle.dw_canon.proofs.Words.{◌≡◌, ℕ, zero, suc, ◌+◌, ◌<◌, ◌≤◌, Bool, true, false, cond, List, [], ◌∷◌, ◌++◌, length, map, replicate, Some, refl, sym, ap, ◌∙◌, subst, inr, arith, count_by, IsTrue}
-use Rattle.dw_canon.proofs.Words.{rules, AllByRecursion, length-map, append-nil, Target, address_limit, Instr, Nop, CfaRule, RegRule, LocatedRow, cfa_after, rule_after, ProgramSpells, CieKept, FdeKept, in_cie, initial_cfa, initial_rule}
-use Rattle.dw_canon.proofs.Words.{onto, moves_location, row_starts, State, begun, after, Rules, AreSpecified, rule, blank, Placed, counts_exists, instrs_of, Gives, rows_at, never_falls, AreChanges, fde_instrs}
-use Rattle.dw_canon.proofs.Words.{cie_instrs, RowFits, ChangesStand, MemberStands, InstrFits, Member, changes_of, program_bytes, factors}
+use Rattle.dw_canon.proofs.Words.{◌≡◌, ℕ, zero, suc, ◌+◌, ◌<◌, ◌≤◌, Bool, true, false, cond, List, [], ◌∷◌, ◌++◌, length, map, replicate, Some, refl, sym, ap, ◌∙◌, subst, inr, arith, count_by, IsTrue, rules, AllByRecursion, length-map}
+use Rattle.dw_canon.proofs.Words.{append-nil, Target, address_limit, Instr, Nop, CfaRule, RegRule, LocatedRow, cfa_after, rule_after, ProgramSpells, CieKept, FdeKept, in_cie, initial_cfa, initial_rule, onto, moves_location, row_starts}
+use Rattle.dw_canon.proofs.Words.{State, begun, after, Rules, AreSpecified, rule, blank, Placed, counts_exists, instrs_of, Gives, rows_at, never_falls, AreChanges, fde_instrs, cie_instrs, RowFits, ChangesStand, MemberStands, InstrFits}
+use Rattle.dw_canon.proofs.{Words.{Member, changes_of, program_bytes, factors}, Lent.{Differences.{Quiet, quiet_more, on, difference_quiet}, InstrFits.{all_more, blank_fits, nops_fit, member_fits, cie_fits, cie_allowed}}}
+use Rattle.dw_canon.proofs.{Lent.Programs.{plain_rows, plain_gives, RunsTo, quiet_runs, nops_quiet, located, below_end, member_runs, row_before}, Spelled.program_spelled}
 use Rattle.std.proofs.lemmas.List.Sums.{sum_by-cons}
 use Rattle.dw_cfa.specs.RuleAt.{last_at, NeverFalls}
 use Rattle.dw_cfa.specs.Inner.RuleAt.{CountsFrom}
 use Rattle.dw_cfa.proofs.Lent.{FaultLaws.begun_stands, Forward.{Follows, Holds, after_follows, begun_follows}, KeptLaws.{fde_kept, all_in_limit}, KeptRuns.{AllInLimit, KeptFrom, kept_from}}
 use Rattle.dw_section.specs.Inner.Changes.{Among, Before}
 use Rattle.dw_section.proofs.Lent.ChangeLaws.{HasRow, all_found}
-use Rattle.dw_canon.proofs.Lent.{Differences.{Quiet, quiet_more, on, difference_quiet}, InstrFits.{all_more, blank_fits, nops_fit, member_fits, cie_fits, cie_allowed}}
-use Rattle.dw_canon.proofs.{Lent.Programs.{plain_rows, plain_gives, RunsTo, quiet_runs, nops_quiet, located, below_end, member_runs, row_before}, Spelled.program_spelled}
 
 -- ---- instructions as items, all at one place
 

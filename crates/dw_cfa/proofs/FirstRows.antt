@@ -1,6 +1,5 @@
 -- The row at an FDE's begin, by the answers of the code.
-use Rattle.dw_cfa.proofs.Words.{◌≡◌, Bool, List, [], ◌∷◌, refl, ap, if◌then◌else◌, Instr, Nop, Advance, DefCfaOffset, CfaOffset, Other, answers_before}
-use Rattle.dw_cfa.proofs.Words.{moves_first, first_row, answers_move, answers_row}
+use Rattle.dw_cfa.proofs.Words.{◌≡◌, Bool, List, [], ◌∷◌, refl, ap, if◌then◌else◌, Instr, Nop, Advance, DefCfaOffset, CfaOffset, Other, answers_before, moves_first, first_row, answers_move, answers_row}
 
 answers_moved : (instrs : List Instr) → answers_move (answers_before instrs []) ≡ moves_first instrs
 answers_moved [] = refl

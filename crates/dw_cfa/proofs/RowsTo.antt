@@ -1,7 +1,6 @@
 -- A run up to the last row that starts at or below an address.
-use Rattle.dw_cfa.proofs.Words.{◌≡◌, ℕ, ◌<◌, ◌≤◌, true, List, [], ◌∷◌, length, Some, None, refl, sym, ap, ◌∙◌, subst, le-leb, Factors, Input}
-use Rattle.dw_cfa.proofs.Words.{LocatedRow, Machine, Outcome, Rules, or_here, last_at}
-use Rattle.dw_cfa.proofs.{Words.{row_then, RanTo, here, rows_left, state_of}, Lent.RowsAt.none_at, Lent.RunLaws.left_from, RunSteps.rows_end}
+use Rattle.dw_cfa.proofs.Words.{◌≡◌, ℕ, ◌<◌, ◌≤◌, true, List, [], ◌∷◌, length, Some, None, refl, sym, ap, ◌∙◌, subst, le-leb, Factors, Input, LocatedRow, Machine, Outcome, Rules, or_here, last_at, row_then, RanTo, here, rows_left, state_of}
+use Rattle.dw_cfa.proofs.{Lent.{RowsAt.none_at, RunLaws.left_from}, RunSteps.rows_end}
 
 -- a row is the last one where no later one is
 here_is : (a : ℕ) (first : LocatedRow) (rows : List LocatedRow) → first.location ≤ a → last_at a rows ≡ None → last_at a (first ∷ rows) ≡ Some first.row

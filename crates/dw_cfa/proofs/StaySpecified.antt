@@ -1,11 +1,8 @@
 -- What a CIE's program specifies is specified in every row of its FDEs.
 use Rattle.dw_row.proofs.Lent.{Narrowed.left_too, RowLists.Entry}
-use Rattle.dw_cfa.proofs.Words.{◌≡◌, ℕ, Bool, List, [], ◌∷◌, Option, Some, None, refl, sym, ap, ◌∙◌, subst, arith, inl, inr, IsTrue, AllZip, AreBytes}
-use Rattle.dw_cfa.proofs.Words.{Factors, Input, Instr, Leading, LocatedRow, Machine, Outcome, Progress, Refusal, RegRule, Rules, Stepping, is_kept, kept}
-use Rattle.dw_cfa.proofs.Words.{IsRowAfter, GivesUpTo, ends, is_specified, rule, RunsSo, rows_behind, rows_left, program_input, AllKeep, AllSpecify, IsLed}
-use Rattle.dw_cfa.proofs.Words.{WalkKeeps, WalksSo, finished, initial_of, walk_of}
-use Rattle.dw_cfa.proofs.{Lent.{FaultLaws.initial_leaves, Given.behind_runs, Openings.{AllSet, all_set, stays_specified}}, RunSteps.started}
-use Rattle.dw_cfa.proofs.Walks.{KeptWhere, row_left}
+use Rattle.dw_cfa.proofs.Words.{◌≡◌, ℕ, Bool, List, [], ◌∷◌, Option, Some, None, refl, sym, ap, ◌∙◌, subst, arith, inl, inr, IsTrue, AllZip, AreBytes, Factors, Input, Instr, Leading, LocatedRow, Machine, Outcome, Progress, Refusal, RegRule}
+use Rattle.dw_cfa.proofs.Words.{Rules, Stepping, is_kept, kept, IsRowAfter, GivesUpTo, ends, is_specified, rule, RunsSo, rows_behind, rows_left, program_input, AllKeep, AllSpecify, IsLed, WalkKeeps, WalksSo, finished, initial_of, walk_of}
+use Rattle.dw_cfa.proofs.{Lent.{FaultLaws.initial_leaves, Given.behind_runs, Openings.{AllSet, all_set, stays_specified}}, RunSteps.started, Walks.{KeptWhere, row_left}}
 use Rattle.dw_cfa.specs.declared.next_row.Progress.TheVariants as progress
 
 -- ---- a run

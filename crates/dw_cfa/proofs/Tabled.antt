@@ -1,15 +1,12 @@
 -- What the table reads of an opcode is what the code reads.
 use Rattle.std.proofs.Common.{get_or}
 use Rattle.dw_num.proofs.Lent.FixedLaws.{byte_found}
-use Rattle.dw_row.specs.declared.rule.RegRule.TheVariants as rules
-use Rattle.dw_cfa.specs.Inner.ByOpcode.{offset_in, plain_in, plain_at, factored_in, factored_at, signed_in, signed_at, set_loc_at, advance_at}
-use Rattle.dw_cfa.specs.Inner.ByOpcode.{def_cfa_register_at, def_cfa_offset_at, def_cfa_offset_sf_at, def_cfa_expression_at, then_plain, def_cfa_at}
-use Rattle.dw_cfa.specs.Inner.ByOpcode.{then_signed, def_cfa_sf_at, restore_at, set_offset, offset_at, offset_extended_at}
-use Rattle.dw_cfa.specs.Inner.ByOpcode.{then_offset, with_rule, rule_at, then_rule, set_at, other_at, rare_at, operands_at}
+use Rattle.dw_cfa.specs.Inner.ByOpcode.{offset_in, plain_in, plain_at, factored_in, factored_at, signed_in, signed_at, set_loc_at, advance_at, def_cfa_register_at, def_cfa_offset_at, def_cfa_offset_sf_at, def_cfa_expression_at, then_plain}
+use Rattle.dw_cfa.specs.Inner.ByOpcode.{def_cfa_at, then_signed, def_cfa_sf_at, restore_at, set_offset, offset_at, offset_extended_at, then_offset, with_rule, rule_at, then_rule, set_at, other_at, rare_at, operands_at}
 use Rattle.dw_cfa.specs.declared.instr.Instr.TheVariants.{Nop}
-use Rattle.dw_cfa.proofs.Words.{◌≡◌, ℕ, ◌^◌, Bool, true, false, Option, Some, Ok, Err, refl, sym, ap, ◌∙◌, ℤ, pos, ◌*ℤ◌, unsigned_abs, nat_lt, Factors, Input}
-use Rattle.dw_cfa.proofs.Words.{Instr, Opcode, Read, RegRule, fixed_at, register_at, uleb_at, sleb_at, ◌>>=◌, DefCfa, DefCfaOffset, Set, opcode_of, form_of}
-use Rattle.dw_cfa.proofs.Words.{offset_of, leaving, block_at, with_instr, form_at, judged, known_at, instr_at}
+use Rattle.dw_cfa.proofs.Words.{◌≡◌, ℕ, ◌^◌, Bool, true, false, Option, Some, Ok, Err, refl, sym, ap, ◌∙◌, ℤ, pos, ◌*ℤ◌, unsigned_abs, nat_lt, Factors, Input, Instr, Opcode, Read, RegRule, fixed_at, register_at, uleb_at, sleb_at, ◌>>=◌}
+use Rattle.dw_cfa.proofs.Words.{DefCfa, DefCfaOffset, Set, opcode_of, form_of, offset_of, leaving, block_at, with_instr, form_at, judged, known_at, instr_at}
+use Rattle.dw_row.specs.declared.rule.RegRule.TheVariants as rules
 use Rattle.dw_cfa.specs.declared.opcode.Opcode.TheVariants as opcodes
 
 module _ (at : ℕ) where

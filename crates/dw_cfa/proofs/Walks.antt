@@ -1,11 +1,10 @@
 -- A walk from one FDE's program to another's, behind a CIE's row that is run or brought back.
 use Rattle.dw_cfa.specs.RowSteps.{Advances}
 use Rattle.dw_cfa.specs.Inner.RowWalk.{GoesOn, LeadsSame, ReadAlike}
+use Rattle.dw_cfa.proofs.Words.{◌≡◌, ◌⊎◌, ℕ, Bool, true, false, Option, Some, None, Ok, Result, Err, refl, sym, ap, subst, ◌∙◌, inl, inr, ◌↔◌, IsTrue, MatchOption, AreBytes, Factors, Input, Leading, Machine, Outcome, Progress, ReadError}
+use Rattle.dw_cfa.proofs.Words.{Refuses, Rules, Stepping, Target, ProgramSpells, blank, fails, finished, RunsSo, initial_row, placed, rows_left, program_input, kept, StandsOn, AreLeft, HasInitial, WalksSo, initial_of, led_of, led_row}
+use Rattle.dw_cfa.proofs.{Words.{led_rows, walk_of}, Lent.{FaultLaws.initial_leaves, Given.{leaves_to, refusal_weaker, to_leaves}, RowsAt.RowsFrom, RunLaws.{left_from, run_from}}, RunSteps.run_stuck}
 use Rattle.dw_cfa.specs.declared.next_row.Progress.TheVariants as progress
-use Rattle.dw_cfa.proofs.Words.{◌≡◌, ◌⊎◌, ℕ, Bool, true, false, Option, Some, None, Ok, Result, Err, refl, sym, ap, subst, ◌∙◌, inl, inr, ◌↔◌, IsTrue, MatchOption, AreBytes}
-use Rattle.dw_cfa.proofs.Words.{Factors, Input, Leading, Machine, Outcome, Progress, ReadError, Refuses, Rules, Stepping, Target, ProgramSpells, blank, fails, finished, RunsSo, initial_row, placed}
-use Rattle.dw_cfa.proofs.Words.{rows_left, program_input, kept, StandsOn, AreLeft, HasInitial, WalksSo, initial_of, led_of, led_row, led_rows, walk_of}
-use Rattle.dw_cfa.proofs.{Lent.FaultLaws.initial_leaves, Lent.Given.{leaves_to, refusal_weaker, to_leaves}, Lent.RowsAt.RowsFrom, Lent.RunLaws.{left_from, run_from}, RunSteps.run_stuck}
 
 -- ---- the CIE's half
 

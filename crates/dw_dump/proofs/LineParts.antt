@@ -1,8 +1,7 @@
 -- Words and prefixes of a line.
 use Rattle.std.proofs.Common.{rules}
-use Rattle.dw_dump.proofs.Words.{◌≡◌, ℕ, ◌+◌, ◌*◌, ◌<◌, List, [], ◌∷◌, ◌++◌, length, take, drop, Option, Some, None, refl, ap, subst, arith, add-one, inl, inr, length-append, option_and_then, codes, append_cancel_left}
-use Rattle.dw_dump.proofs.Words.{eqb_tells, Statement, nothing, counter_is, register_is, memory_is, digit, number_behind, Hexadecimal, RegisterName, SkippedLine, CounterLine, RegisterLine, MemoryLine, LineSays, MemoryHead, Lacks}
-use Rattle.dw_dump.proofs.Words.{len_until}
+use Rattle.dw_dump.proofs.Words.{◌≡◌, ℕ, ◌+◌, ◌*◌, ◌<◌, List, [], ◌∷◌, ◌++◌, length, take, drop, Option, Some, None, refl, ap, subst, arith, add-one, inl, inr, length-append, option_and_then, codes, append_cancel_left, eqb_tells, Statement}
+use Rattle.dw_dump.proofs.Words.{nothing, counter_is, register_is, memory_is, digit, number_behind, Hexadecimal, RegisterName, SkippedLine, CounterLine, RegisterLine, MemoryLine, LineSays, MemoryHead, Lacks, len_until}
 
 -- ---- the first character of a kind
 

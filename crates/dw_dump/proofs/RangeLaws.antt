@@ -1,10 +1,9 @@
 -- Ranges that rise, that are apart, and that meet.
-use Rattle.std.proofs.Common.{rules}
-use Rattle.std.proofs.lemmas.List.Elements.{recursion_from_All, All-from_recursion}
+use Rattle.std.proofs.{Common.rules, lemmas.List.Elements.{recursion_from_All, All-from_recursion}}
 use Rattle.dw_dump.specs.Inner.Ranges.{Rise}
-use Rattle.dw_dump.proofs.Words.{◌≡◌, ◌⊎◌, ℕ, zero, suc, ◌+◌, ◌-◌, ◌<◌, ◌≤◌, Bool, true, false, cond, List, [], ◌∷◌, length, get_or, Option, Some, None, refl, sym, ap, ◌∙◌, arith, add-one, inl}
-use Rattle.dw_dump.proofs.Words.{inr, AllByRecursion, sum_by, IsPermutation, IsNonDecreasingBy, cases_lt, sum_by-IsPermutation, IsPermutation-sym, All-permutation, get_or_default}
-use Rattle.dw_dump.proofs.{Words.{MatchBool, sum_by-cons, slice_get-get_or, Range, end_of, covers, byte_of, byte_among, cover_count, AreApart, Meet, IsSoundRange}, Lent.Elements.all_more}
+use Rattle.dw_dump.proofs.Words.{◌≡◌, ◌⊎◌, ℕ, zero, suc, ◌+◌, ◌-◌, ◌<◌, ◌≤◌, Bool, true, false, cond, List, [], ◌∷◌, length, get_or, Option, Some, None, refl, sym, ap, ◌∙◌, arith, add-one, inl, inr, AllByRecursion, sum_by, IsPermutation}
+use Rattle.dw_dump.proofs.Words.{IsNonDecreasingBy, cases_lt, sum_by-IsPermutation, IsPermutation-sym, All-permutation, get_or_default, MatchBool, sum_by-cons, slice_get-get_or, Range, end_of, covers, byte_of, byte_among, cover_count}
+use Rattle.dw_dump.proofs.{Words.{AreApart, Meet, IsSoundRange}, Lent.Elements.all_more}
 
 -- ---- whether a range covers an address
 

@@ -1,7 +1,6 @@
 -- What a terminal is shown: a text before the first order is shown as it is.
 use Rattle.std.specs.List.{position_or_len}
-use Rattle.std.proofs.Common.{◌≡◌, ◌≤◌, ◌+◌, ◌∙◌, ap, arith, ℕ, suc, Bool, true, false, List, [], ◌∷◌, refl, length, take, Option, Some, None, nat_lt, cond, not, position, unwrap_or, ltb-false}
-use Rattle.std.proofs.lemmas.List.Sums.{prefix_len-le-length}
+use Rattle.std.proofs.{Common.{◌≡◌, ◌≤◌, ◌+◌, ◌∙◌, ap, arith, ℕ, suc, Bool, true, false, List, [], ◌∷◌, refl, length, take, Option, Some, None, nat_lt, cond, not, position, unwrap_or, ltb-false}, lemmas.List.Sums.prefix_len-le-length}
 use Rattle.dw_files.specs.Inner.Terminal.{is_order, shown}
 
 pub plain_shown : (xs : List ℕ) → shown (take (position_or_len is_order xs) xs) ≡ take (position_or_len is_order xs) xs

@@ -1,9 +1,8 @@
 -- The entries of a normal form, one after another.
-use Rattle.dw_normal.proofs.Words.{◌≡◌, ℕ, ◌+◌, ◌-◌, ◌<◌, Bool, List, [], ◌∷◌, ◌++◌, length, take, drop, get_or, cond, Option, Some, None, Result, Err, refl, sym, ap, ◌∙◌, subst, arith, append_assoc, append-nil, IsErrAnd}
-use Rattle.dw_normal.proofs.Words.{take_more, take-append-drop, is_at, AllByRecursion, nat_cmp, AreBytes, Target, Rules, Accepted, AreFdes, Fde, InstrFits}
-use Rattle.dw_normal.proofs.Words.{canon, cie_instrs, Member, AreMembers, entry_bytes, renders, initial_rows, cie_with, cies_bytes, fdes_bytes, cie_place, place_in, RowsRise, fde_with, members_exist}
-use Rattle.dw_normal.proofs.Words.{Output, Stop, Place, Puts, Sends, sink_at}
-use Rattle.dw_normal.proofs.{Joined.{ends_there, none_sent, sends_both}, Placed.{as_many, rows_fit}, Sited.{Placing, either_of, placing_more, rows_rise}, Summed.{canon_is, fdes_append}}
+use Rattle.dw_normal.proofs.Words.{◌≡◌, ℕ, ◌+◌, ◌-◌, ◌<◌, Bool, List, [], ◌∷◌, ◌++◌, length, take, drop, get_or, cond, Option, Some, None, Result, Err, refl, sym, ap, ◌∙◌, subst, arith, append_assoc, append-nil, IsErrAnd, take_more}
+use Rattle.dw_normal.proofs.Words.{take-append-drop, is_at, AllByRecursion, nat_cmp, AreBytes, Target, Rules, Accepted, AreFdes, Fde, InstrFits, canon, cie_instrs, Member, AreMembers, entry_bytes, renders, initial_rows, cie_with}
+use Rattle.dw_normal.proofs.{Words.{cies_bytes, fdes_bytes, cie_place, place_in, RowsRise, fde_with, members_exist, Output, Stop, Place, Puts, Sends, sink_at}, Joined.{ends_there, none_sent, sends_both}, Placed.{as_many, rows_fit}}
+use Rattle.dw_normal.proofs.{Sited.{Placing, either_of, placing_more, rows_rise}, Summed.{canon_is, fdes_append}}
 
 -- ---- the CIEs
 

@@ -1,12 +1,11 @@
 -- What is known of CIEs stays so while the rows of the groups are narrowed.
-use Rattle.dw_normal.proofs.Words.{◌≡◌, ◌⊎◌, ℕ, true, List, [], ◌∷◌, Option, Some, None, Result, Ok, Err, refl, sym, ap, ◌∙◌, subst, inl, inr, arith, IsTrue, IfOk, IfSome, OnOk, cases_Bool, AllByRecursion, nat_cmp, insert_entry}
-use Rattle.dw_normal.proofs.Words.{BTreeMap, AreSpecified, Rules, rule, agreed, same_rule, Changing, kept_by, Member, row_of, shown_row, with_member, get, if◌then◌else◌, RegRule, is_kept, kept, is_agreed}
-use Rattle.dw_normal.proofs.Words.{rules, rule_tells, Registers, AgreesBeside, SameBeside, is_specified, same_rows, Behind, AreChanged, CieLeaves, Section, CieSet, Known, ShownBehind, Agree, AgreesAt, AreLess, HoldsAt, Notes, NotesAgree}
+use Rattle.dw_normal.proofs.Words.{◌≡◌, ◌⊎◌, ℕ, true, List, [], ◌∷◌, Option, Some, None, Result, Ok, Err, refl, sym, ap, ◌∙◌, subst, inl, inr, arith, IsTrue, IfOk, IfSome, OnOk, cases_Bool, AllByRecursion, nat_cmp, insert_entry, BTreeMap}
+use Rattle.dw_normal.proofs.Words.{AreSpecified, Rules, rule, agreed, same_rule, Changing, kept_by, Member, row_of, shown_row, with_member, get, if◌then◌else◌, RegRule, is_kept, kept, is_agreed, rules, rule_tells, Registers, AgreesBeside}
+use Rattle.dw_normal.proofs.{Words.{SameBeside, is_specified, same_rows, Behind, AreChanged, CieLeaves, Section, CieSet, Known, ShownBehind, Agree, AgreesAt, AreLess, HoldsAt, Notes, NotesAgree}, Grouped.found_in}
 use Rattle.std.proofs.lemmas.{Bool.{cases_eq, Decides.nat_tests}, Option.IfSome_then}
 use Rattle.dw_row.specs.declared.rule.RegRule.TheVariants.{Unspecified}
 use Rattle.dw_row.proofs.Lent.Narrowed.{filter_keeps, filter_rule}
 use Rattle.dw_normal.specs.Inner.Known.{Puts}
-use Rattle.dw_normal.proofs.Grouped.{found_in}
 
 -- ---- rows that specify no more than another
 

@@ -1,9 +1,8 @@
 -- An FDE that was begun, among the entries of the normal form.
 use Rattle.dw_section.proofs.Lent.Sections.{changes_programs}
 use Rattle.dw_canon.proofs.Lent.Readback.{range_low}
-use Rattle.dw_normal.proofs.Words.{◌≡◌, ℕ, ◌+◌, ◌<◌, ◌≤◌, List, length, get_or, Option, Some, None, IsSome, refl, sym, subst, ap, ◌∙◌, arith, ◌^◌, AreBytes, Target, address_limit, Rules, Accepted, Fde, groups_of, nonempty, changes_of, fde_of, row_of}
-use Rattle.dw_normal.proofs.Words.{place_of, Member, AreMembers, IsMember, IsBegun, initial_rows, cies_bytes, place_in, cie_place, Begun, all_get}
-use Rattle.dw_normal.proofs.{Placed.stands_at, Sited.{place_low, place_is, is_placed}}
+use Rattle.dw_normal.proofs.Words.{◌≡◌, ℕ, ◌+◌, ◌<◌, ◌≤◌, List, length, get_or, Option, Some, None, IsSome, refl, sym, subst, ap, ◌∙◌, arith, ◌^◌, AreBytes, Target, address_limit, Rules, Accepted, Fde, groups_of, nonempty, changes_of}
+use Rattle.dw_normal.proofs.{Words.{fde_of, row_of, place_of, Member, AreMembers, IsMember, IsBegun, initial_rows, cies_bytes, place_in, cie_place, Begun, all_get}, Placed.stands_at, Sited.{place_low, place_is, is_placed}}
 
 -- each row has a place
 pub has_place : (t : Target) (rows : List (ℕ × Rules)) (places : List (ℕ × ℕ)) (r : ℕ) → ((q : ℕ) → place_in places q ≡ cie_place t 0 rows q) → IsSome (row_of rows r) → IsSome (place_in places r)

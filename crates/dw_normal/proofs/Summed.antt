@@ -1,7 +1,6 @@
 -- The normal form is the CIEs with the initial rows, and then the FDEs.
-use Rattle.dw_normal.proofs.Words.{◌≡◌, ℕ, List, [], ◌∷◌, ◌++◌, length, map, refl, sym, ap, ◌∙◌, append_assoc, nil_from_length, Target, Rules}
-use Rattle.dw_normal.proofs.Words.{group_of, groups_of, part_of, parts_of, canon, initial_of, return_registers, cie_of, Member, Written, entry_bytes, section_bytes, section_append, laid_is, initial_rows}
-use Rattle.dw_normal.proofs.Words.{rules, OnOk, Result, Ok, Err, cie_with, cies_bytes, fdes_bytes, Begun, Walks}
+use Rattle.dw_normal.proofs.Words.{◌≡◌, ℕ, List, [], ◌∷◌, ◌++◌, length, map, refl, sym, ap, ◌∙◌, append_assoc, nil_from_length, Target, Rules, group_of, groups_of, part_of, parts_of, canon, initial_of, return_registers, cie_of, Member}
+use Rattle.dw_normal.proofs.Words.{Written, entry_bytes, section_bytes, section_append, laid_is, initial_rows, rules, OnOk, Result, Ok, Err, cie_with, cies_bytes, fdes_bytes, Begun, Walks}
 use Rattle.dw_normal.specs.Inner.Begun.{KeepsFde}
 use Rattle.dw_canon.specs.Inner.Laid.{fde_of}
 

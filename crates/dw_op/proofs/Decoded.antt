@@ -1,9 +1,8 @@
 -- Reading a block to its end, and once more for its branches.
 use Rattle.dw_op.proofs.Words.{◌≡◌, ℕ, ◌+◌, List, [], ◌∷◌, ◌++◌, length, Option, Some, None, Result, Ok, Err, refl, sym, ap, ◌∙◌, append_assoc, inl, inr, arith, ◌⊎◌, length-append, append-nil, Refusal, Target, Input, AreBytes, done}
 use Rattle.dw_op.proofs.Words.{taken_bytes, Op, Profile, Step, step_at, AllInRange, Walk, walk, op_of, put_first, resolve, block_input, decode_at, Within, IsBlock, BlockFault}
-use Rattle.dw_num.specs.{declared.error.ReadError.ReadError, declared.error.ReadError.TheVariants.{Refused, OutOfMemory}, Refusals.Refuses}
-use Rattle.dw_op.proofs.{Lent.ReadingLaws.step_found, Splits.{walk_step, walk_end}, Lent.Blocks.{block_found, block_only, fault_found, fault_only, block_so, answered, refused, same_ops, same_refusal, bad_branch}}
-use Rattle.dw_op.proofs.Lent.LeastBlocks.{in_range_of_block}
+use Rattle.dw_op.proofs.{Lent.{ReadingLaws.step_found, Blocks.{block_found, block_only, fault_found, fault_only, block_so, answered, refused, same_ops, same_refusal, bad_branch}, LeastBlocks.in_range_of_block}, Splits.{walk_step, walk_end}}
+use Rattle.dw_num.specs.{declared.error.ReadError.{ReadError, TheVariants.{Refused, OutOfMemory}}, Refusals.Refuses}
 
 -- ---- one operation further
 

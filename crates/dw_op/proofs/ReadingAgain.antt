@@ -1,9 +1,8 @@
 -- What is spelled is read.
 use Rattle.dw_op.proofs.Words.{◌≡◌, ℕ, ◌+◌, true, List, ◌∷◌, ◌++◌, length, Some, None, refl, sym, ap, ◌∙◌, arith, le-leb, Again, again-then, take_again, byte_again, address_again, Target, byte_count, cast_unsigned, Input, Read, uleb_at}
-use Rattle.dw_op.proofs.Words.{◌>>=◌, uleb_again, register_again, sleb_again, fixed_at_again, Op, Profile, Step, Plain, Jump, FieldSpells, OpFormSpells, branch_target, StepSpells, step_in_frame, step_allowed, Field, FieldValue}
-use Rattle.dw_op.proofs.Words.{OpForm, form_of, form_in_frame, counted_in, value_at, with_op, then_value, step_of, step_at, byte_len}
+use Rattle.dw_op.proofs.Words.{◌>>=◌, uleb_again, register_again, sleb_again, fixed_at_again, Op, Profile, Step, Plain, Jump, FieldSpells, OpFormSpells, branch_target, StepSpells, step_in_frame, step_allowed, Field, FieldValue, OpForm}
+use Rattle.dw_op.proofs.{Words.{form_of, form_in_frame, counted_in, value_at, with_op, then_value, step_of, step_at, byte_len}, Signed.back, Lent.ReadingLaws.{Makes, form_known, form_framed, allowed_by, StepForm}}
 use Rattle.dw_op.specs.declared.operation.Branch.TheVariants.{Bra, Skip}
-use Rattle.dw_op.proofs.{Signed.back, Lent.ReadingLaws.{Makes, form_known, form_framed, allowed_by, StepForm}}
 use Rattle.dw_op.specs.declared.op.Op.TheVariants as ops
 use Rattle.dw_op.specs.Operands as fields
 

@@ -1,11 +1,8 @@
 -- The first register whose rule differs between two rows.
 use Rattle.std.proofs.lemmas.List.{nil_from_length}
-use Rattle.dw_row.proofs.Words.{◌≡◌, ℕ, suc, ◌+◌, ◌<◌, ◌≤◌, Bool, true, false, List, [], ◌∷◌, length, Option, Some, None, refl, sym, ap, ◌∙◌, subst, arith}
-use Rattle.dw_row.proofs.Words.{bit_or, bit_at, filter, nat_cmp, range_contains, Bound, Unbounded, if◌then◌else◌, nat_lt, nat_tests, Entries, Unspecified}
-use Rattle.dw_row.proofs.Words.{AreSpecified, BeginsWithOffset, far_behind, rule_in, entries_of, EntriesSo, SameBetween, DiffersFirst, FirstDifference, place_behind, SameUnset}
-use Rattle.dw_row.proofs.Words.{start_behind}
-use Rattle.dw_row.proofs.Lent.{RowLists.{Entry, lower, unlisted}, SameRows.{first_rule, not_specified, same_entries}, Narrowed.{filter_keeps, filter_rule}}
-use Rattle.dw_row.proofs.Slots.{behind_slots, neither, not_set}
+use Rattle.dw_row.proofs.Words.{◌≡◌, ℕ, suc, ◌+◌, ◌<◌, ◌≤◌, Bool, true, false, List, [], ◌∷◌, length, Option, Some, None, refl, sym, ap, ◌∙◌, subst, arith, bit_or, bit_at, filter, nat_cmp, range_contains, Bound, Unbounded, if◌then◌else◌}
+use Rattle.dw_row.proofs.Words.{nat_lt, nat_tests, Entries, Unspecified, AreSpecified, BeginsWithOffset, far_behind, rule_in, entries_of, EntriesSo, SameBetween, DiffersFirst, FirstDifference, place_behind, SameUnset, start_behind}
+use Rattle.dw_row.proofs.{Lent.{RowLists.{Entry, lower, unlisted}, SameRows.{first_rule, not_specified, same_entries}, Narrowed.{filter_keeps, filter_rule}}, Slots.{behind_slots, neither, not_set}}
 
 -- ---- two lists, from both fronts
 

@@ -1,10 +1,8 @@
 -- A row that was kept, and the registers that were set since: all others have the same rules in both rows.
 use Rattle.dw_row.specs.declared.kept_row.KeptRow.{KeptRow}
-use Rattle.dw_row.proofs.Words.{◌≡◌, ◌↔◌, ◌||◌, ℕ, suc, ◌+◌, ◌<◌, ◌≤◌, Bool, List, [], ◌∷◌, refl, sym, ap, ◌∙◌, subst, arith, inl, inr, ◌*◌, ◌%◌, ◌^◌, bit_or}
-use Rattle.dw_row.proofs.Words.{nat_eq, IsTrue, Result, OnOk, filter, nat_tests, cases_lt, false, on_ok_weaker, KeptSo, Registers, has, RegRule, Rules}
-use Rattle.dw_row.proofs.Words.{SameValue, AreSpecified, rule_in, put, length, None, DiffersFirst, FirstDifference, SameBetween, CopiedUpTo, SameUnlisted}
-use Rattle.dw_row.proofs.{Difference.FromOn, Lent.{Narrowed.{filter_keeps, filter_rule}, RowLists.{Entry, lower, put_rule, unlisted}, SameRows.one_row}}
-use Rattle.dw_row.proofs.Slots.{bit_set_other, bit_set_same}
+use Rattle.dw_row.proofs.Words.{◌≡◌, ◌↔◌, ◌||◌, ℕ, suc, ◌+◌, ◌<◌, ◌≤◌, Bool, List, [], ◌∷◌, refl, sym, ap, ◌∙◌, subst, arith, inl, inr, ◌*◌, ◌%◌, ◌^◌, bit_or, nat_eq, IsTrue, Result, OnOk, filter, nat_tests, cases_lt, false, on_ok_weaker}
+use Rattle.dw_row.proofs.{Words.{KeptSo, Registers, has, RegRule, Rules, SameValue, AreSpecified, rule_in, put, length, None, DiffersFirst, FirstDifference, SameBetween, CopiedUpTo, SameUnlisted}, Difference.FromOn}
+use Rattle.dw_row.proofs.{Lent.{Narrowed.{filter_keeps, filter_rule}, RowLists.{Entry, lower, put_rule, unlisted}, SameRows.one_row}, Slots.{bit_set_other, bit_set_same}}
 
 -- ---- a register that is put into a set
 

@@ -1,9 +1,7 @@
 -- Sets of registers: one register more, all of another set, and what two rows have in common among them.
-use Rattle.dw_row.proofs.Words.{◌≡◌, ◌⊎◌, ℕ, suc, ◌<◌, ◌||◌, Bool, true, false, List, ◌∷◌, Result, Ok, Err, OnErr, OnOk, refl, sym, ap, ◌∙◌, subst, arith}
-use Rattle.dw_row.proofs.Words.{inl, inr, if◌then◌else◌, bit_or, bit_at_or, nat_tests, cases_Bool, IsTrue, ◌↔◌, ◌≤◌, None, filter, not, cases_lt, CfaRule}
-use Rattle.dw_row.proofs.Words.{RegRule, Rules, Unset, Unspecified, AreSpecified, rule, rule_in, with_rule, DiffersFirst, FirstDifference, InCommon, IsAgreed}
-use Rattle.dw_row.proofs.Words.{is_agreed, same_rule, rule_tells, left, LeavesAmong, LeavesAt, [], nat_eq, bit_at-zero, Registers, AgreesBeside, has, in_mask}
-use Rattle.dw_row.proofs.Words.{in_tree, bit_at-lt, on_err_weaker, on_ok_weaker}
+use Rattle.dw_row.proofs.Words.{◌≡◌, ◌⊎◌, ℕ, suc, ◌<◌, ◌||◌, Bool, true, false, List, ◌∷◌, Result, Ok, Err, OnErr, OnOk, refl, sym, ap, ◌∙◌, subst, arith, inl, inr, if◌then◌else◌, bit_or, bit_at_or, nat_tests, cases_Bool, IsTrue, ◌↔◌, ◌≤◌}
+use Rattle.dw_row.proofs.Words.{None, filter, not, cases_lt, CfaRule, RegRule, Rules, Unset, Unspecified, AreSpecified, rule, rule_in, with_rule, DiffersFirst, FirstDifference, InCommon, IsAgreed, is_agreed, same_rule, rule_tells, left}
+use Rattle.dw_row.proofs.Words.{LeavesAmong, LeavesAt, [], nat_eq, bit_at-zero, Registers, AgreesBeside, has, in_mask, in_tree, bit_at-lt, on_err_weaker, on_ok_weaker}
 use Rattle.dw_row.proofs.Lent.{RowLists.{Entry, lower, unlisted}, Equal.{common_rule, test_of}, Narrowed.{filter_rule, leaves_none, none_left}}
 
 -- ---- registers that are put in

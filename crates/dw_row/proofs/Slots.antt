@@ -1,15 +1,11 @@
 -- Registers in slots: what is set in one register's slot is what setting that register leaves.
-use Rattle.dw_row.proofs.Words.{if◌then◌else◌, nat_lt, ◌≡◌, ◌⊎◌, Bool, true, false, inl, inr, cases_Bool, cases_eq, cases_lt, ℕ, zero, suc, ◌+◌, ◌<◌, ◌≤◌, cond, Some}
-use Rattle.dw_row.proofs.Words.{None, List, [], ◌∷◌, length, refl, sym, ap, ◌∙◌, subst, arith, get_or-set_same, get_or-set_other, nat_tests, IsTrue}
-use Rattle.dw_row.proofs.Words.{nat_eq, ◌-◌, ◌*◌, ◌/◌, ◌%◌, ◌^◌, bit_or, bit_and, bit_at, bit_not, trailing_zeros, w64, w128, Option, not, div-le_self}
-use Rattle.dw_row.proofs.Words.{bit_at-zero, bit_at_above, bit_at-trailing_zeros, bit_at_set_same, bit_at_set_other, bit_at_clear_other, bit_at_clear_same}
-use Rattle.dw_row.proofs.Words.{bit_at_or, Entries, RegRule, Slot, Unspecified, is_specified, AreSpecified, rule_in, listed, put, EntriesSo}
-use Rattle.dw_row.proofs.Words.{entries_of, kind_rule, set_at, slot_at, slot_rule, listed_from, listed_near, near_rule, rule_if, FirstBit, FirstIn, HasRoom, HasSlot, Holds, IsSlotOf, NoneHasSlot, Slots, ℤ, pos}
-use Rattle.dw_row.proofs.Words.{pow-add, shr-shr, bit_at-lt, bit_at_and, bit_at_cat_low}
-use Rattle.dw_row.proofs.Lent.RowLists.{Entry, lower, listed_is, listed_keeps, listed_rule, other_rule, put_keeps, put_rule, same_rule_set, unlisted}
-use Rattle.dw_row.proofs.Lent.SameRows.{first_rule, same_entries}
+use Rattle.dw_row.proofs.Words.{if◌then◌else◌, nat_lt, ◌≡◌, ◌⊎◌, Bool, true, false, inl, inr, cases_Bool, cases_eq, cases_lt, ℕ, zero, suc, ◌+◌, ◌<◌, ◌≤◌, cond, Some, None, List, [], ◌∷◌, length, refl, sym, ap, ◌∙◌, subst, arith}
+use Rattle.dw_row.proofs.Words.{get_or-set_same, get_or-set_other, nat_tests, IsTrue, nat_eq, ◌-◌, ◌*◌, ◌/◌, ◌%◌, ◌^◌, bit_or, bit_and, bit_at, bit_not, trailing_zeros, w64, w128, Option, not, div-le_self, bit_at-zero, bit_at_above}
+use Rattle.dw_row.proofs.Words.{bit_at-trailing_zeros, bit_at_set_same, bit_at_set_other, bit_at_clear_other, bit_at_clear_same, bit_at_or, Entries, RegRule, Slot, Unspecified, is_specified, AreSpecified, rule_in, listed, put, EntriesSo}
+use Rattle.dw_row.proofs.Words.{entries_of, kind_rule, set_at, slot_at, slot_rule, listed_from, listed_near, near_rule, rule_if, FirstBit, FirstIn, HasRoom, HasSlot, Holds, IsSlotOf, NoneHasSlot, Slots, ℤ, pos, pow-add, shr-shr, bit_at-lt}
+use Rattle.dw_row.proofs.{Words.{bit_at_and, bit_at_cat_low}, Lent.{RowLists.{Entry, lower, listed_is, listed_keeps, listed_rule, other_rule, put_keeps, put_rule, same_rule_set, unlisted}, SameRows.{first_rule, same_entries}}}
+use Rattle.std.proofs.{Common.ap₂, lemmas.{List.nil_from_length, Nat.{and_block, and_le_l, one_shl, or_shifted, Bits.{bit_at-suc, bit_at_lowest}}}}
 use Rattle.dw_row.specs.declared.slot.Slot.TheVariants as slots
-use Rattle.std.proofs.{Common.ap₂, lemmas.{List.nil_from_length, Nat.{and_block, and_le_l, one_shl, or_shifted}, Nat.Bits.{bit_at-suc, bit_at_lowest}}}
 use lib.Bits.{and_self}
 
 -- ---- registers from one on, and those behind them

@@ -1,11 +1,9 @@
 -- Remembered rows, kept by what was changed since.
 use Rattle.std.proofs.lemmas.List.{nil_from_length, reverse-append}
 use Rattle.dw_row.specs.declared.{kept_row.KeptRow.KeptRow, undo.Undo.{Undo, TheVariants.{Remembered, Register}}}
-use Rattle.dw_row.proofs.Words.{◌≡◌, ℕ, suc, ◌+◌, ◌-◌, ◌≤◌, Bool, true, false, length-append, List, [], ◌∷◌, ◌++◌, length, reverse, Some, None, Result}
-use Rattle.dw_row.proofs.Words.{OnOk, OnErr, Ok, Err, cases_Bool, inl, inr, nat_eq, eqb-true, nat_tests, has_register, refl, sym, ap, ◌∙◌, subst, arith, AreSpecified, CfaRule, IsTrue, KeptSo, RegRule, Rules}
-use Rattle.dw_row.proofs.Words.{put, rule_in, with_cfa, with_rule, Held, StatesSo, saved_if, remembering, rows_before, with_row, first_if, shown, held, stacked}
-use Rattle.dw_row.proofs.Words.{BeganWith, TakenBack, Restored}
-use Rattle.dw_row.proofs.{Lent.RowLists.{Entry, put_keeps, put_rule}, Slots.is_put, WideRows.{put_back, put_same}}
+use Rattle.dw_row.proofs.Words.{◌≡◌, ℕ, suc, ◌+◌, ◌-◌, ◌≤◌, Bool, true, false, length-append, List, [], ◌∷◌, ◌++◌, length, reverse, Some, None, Result, OnOk, OnErr, Ok, Err, cases_Bool, inl, inr, nat_eq, eqb-true, nat_tests, has_register}
+use Rattle.dw_row.proofs.Words.{refl, sym, ap, ◌∙◌, subst, arith, AreSpecified, CfaRule, IsTrue, KeptSo, RegRule, Rules, put, rule_in, with_cfa, with_rule, Held, StatesSo, saved_if, remembering, rows_before, with_row, first_if, shown, held}
+use Rattle.dw_row.proofs.{Words.{stacked, BeganWith, TakenBack, Restored}, Lent.RowLists.{Entry, put_keeps, put_rule}, Slots.is_put, WideRows.{put_back, put_same}}
 
 abbrev Before : Type 0
 Before = List Rules × List Entry

@@ -1,7 +1,6 @@
 -- Ascending registers in a tree: what it finds, puts in and takes out is what the list of them says.
 use Rattle.std.specs.Map.{lookup, remove_entry}
-use Rattle.dw_row.proofs.Words.{◌≡◌, ℕ, suc, ◌<◌, ◌≤◌, true, false, List, [], ◌∷◌, refl, sym, arith, nat_cmp, unwrap_or, nat_tests, RegRule, Unspecified}
-use Rattle.dw_row.proofs.Words.{is_specified, AreSpecified, rule_in, put, insert_entry, is_at}
+use Rattle.dw_row.proofs.Words.{◌≡◌, ℕ, suc, ◌<◌, ◌≤◌, true, false, List, [], ◌∷◌, refl, sym, arith, nat_cmp, unwrap_or, nat_tests, RegRule, Unspecified, is_specified, AreSpecified, rule_in, put, insert_entry, is_at}
 use Rattle.dw_row.proofs.{Lent.RowLists.{Entry, listed_is, put_keeps, put_rule}, Slots.is_put}
 
 pub found_is : (r : ℕ) (xs : List Entry) → unwrap_or (lookup (is_at (nat_cmp r)) xs) Unspecified ≡ rule_in xs r

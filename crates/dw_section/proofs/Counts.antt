@@ -1,8 +1,7 @@
 -- The rows that programs start.
 use Rattle.dw_section.proofs.Words.{◌≡◌, ℕ, suc, ◌+◌, ◌≤◌, cond, List, [], ◌∷◌, ◌++◌, length, refl, sym, ap, ◌∙◌, arith, count_by, length-append, sum_by-cons, Order, Target, Factors, Instr, ProgramSpells, answers, moves_location}
-use Rattle.dw_section.proofs.Words.{row_starts, moves_in, Item, gap, entry, Piece, pieces, item_bytes, all_bytes, Head, cie, fde, total, nonempty, Range, range_of, Pieces, Listing, complete}
+use Rattle.dw_section.proofs.{Words.{row_starts, moves_in, Item, gap, entry, Piece, pieces, item_bytes, all_bytes, Head, cie, fde, total, nonempty, Range, range_of, Pieces, Listing, complete}, Items.item_some, Lent.Index.with_range_so}
 use Rattle.dw_cfa.proofs.Lent.Listings.{some_spelled}
-use Rattle.dw_section.proofs.{Items.item_some, Lent.Index.with_range_so}
 
 -- ---- one program
 

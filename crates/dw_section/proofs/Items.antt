@@ -1,15 +1,11 @@
 -- An item at the front, and items in a row.
 use Rattle.dw_section.proofs.Words.{Placed, IsPlaced, item_of, piece_in, eqb, false, inl, inr, ◌≡◌, ℕ, ◌+◌, add-zero, zero-add, ◌<◌, ◌≤◌, Result, Ok, Err, List, [], ◌∷◌, ◌++◌, length, Option, Some, None, refl, sym, ap, subst, ◌∙◌}
-use Rattle.dw_section.proofs.Words.{append_assoc, arith, le-ltb, AllByRecursion, cons_option, length-append, append-nil, take_at, drop_at, ne_eqb, length-fixed, unit_length_only, length_bytes, Form, Target, Refusal, Pieces}
-use Rattle.dw_section.proofs.Words.{CutFault, Order, Dwarf32, Dwarf64, Input, Takes, Item, gap, entry, IsItem, item_bytes, id_width, all_bytes, Piece, piece_of, pieces, fixed_bytes, ok_is, item_at, IsStuck, Four, Cut}
+use Rattle.dw_section.proofs.Words.{append_assoc, arith, le-ltb, AllByRecursion, cons_option, length-append, append-nil, take_at, drop_at, ne_eqb, length-fixed, unit_length_only, length_bytes, Form, Target, Refusal, Pieces, CutFault, Order}
+use Rattle.dw_section.proofs.{Words.{Dwarf32, Dwarf64, Input, Takes, Item, gap, entry, IsItem, item_bytes, id_width, all_bytes, Piece, piece_of, pieces, fixed_bytes, ok_is, item_at, IsStuck, Four, Cut, eq-eqb}, Stages.all_push}
 use Rattle.std.proofs.lemmas.Bool.{cases_eq}
-use Rattle.std.specs.Prelude.{nat_eq, Bool, suc, take, ◌&&◌, ◌==◌, ◌*◌}
-use Rattle.std.specs.List.{list_all}
+use Rattle.std.specs.{Prelude.{nat_eq, Bool, suc, take, ◌&&◌, ◌==◌, ◌*◌}, List.list_all}
 use Rattle.byteorder.specs.Endian.{little_number}
-use Rattle.dw_num.specs.Input.{AreBytes}
-use Rattle.dw_section.proofs.Words.{eq-eqb}
-use Rattle.dw_section.proofs.Stages.{all_push}
-use Rattle.dw_num.specs.declared.target.Order.TheVariants.{Little, Big}
+use Rattle.dw_num.specs.{Input.AreBytes, declared.target.Order.TheVariants.{Little, Big}}
 
 pub gap_bytes : (order : Order) → length_bytes order Dwarf32 0 ≡ 0 ∷ 0 ∷ 0 ∷ 0 ∷ []
 gap_bytes Little = refl

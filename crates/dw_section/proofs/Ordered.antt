@@ -1,6 +1,5 @@
 -- FDEs in order, and their members.
-use Rattle.dw_section.proofs.Words.{ℕ, suc, ◌<◌, List, [], ◌∷◌, map, AllByRecursion, IsPermutation, IsPermutation-map, IsPermutation-sym, Range, Ranged, PlacesRise, IsAmong, arith, range_in}
-use Rattle.dw_section.proofs.{Lent.Index.all_from}
+use Rattle.dw_section.proofs.{Words.{ℕ, suc, ◌<◌, List, [], ◌∷◌, map, AllByRecursion, IsPermutation, IsPermutation-map, IsPermutation-sym, Range, Ranged, PlacesRise, IsAmong, arith, range_in}, Lent.Index.all_from}
 use Rattle.dw_index.specs.Ranges.{StandInOrder}
 pub use Rattle.dw_index.proofs.Lent.Lists.{all_permuted, apart_more}
 

@@ -2,9 +2,8 @@
 use Rattle.dw_section.proofs.Words.{Placed, IsPlaced, item_of, piece_in, ◌≡◌, ℕ, ◌+◌, ◌-◌, ◌≤◌, true, List, [], ◌∷◌, ◌++◌, length, take, drop, Some, Ok, Err, refl, sym, ap, subst, ◌∙◌, append_assoc, arith, inl, inr, AllByRecursion, Order}
 use Rattle.dw_section.proofs.Words.{Target, Refusal, Input, Takes, Span, length_bytes, Item, gap, entry, IsItem, Piece, item_bytes, piece_of, pieces, all_bytes, CieFields, FdeFields, FoundFde, item_at, address_limit, is_among, CieHead}
 use Rattle.dw_section.proofs.Words.{FdeHead, Head, Has, Headers, IsCie, IsFde, cie, fde, cie_head, cie_at, fde_at, IsFound, Returns, Range, cie_places, IsAmong, StandsIn, FoundStands, StandsAt, Pieces, eq-eqb, eqb_tells, length-append}
-use Rattle.dw_section.proofs.{Words.{drop_at, length-drop, length-take-le, take-append-drop, take_all, FdeStands, entry_head, entry_in, initial_head, initial_in, some_is, ok_is}, Lent.{FieldTable.fde_said, HeaderLaws.has_one}}
-use Rattle.dw_section.proofs.{Lent.{HeaderLaws.{cie_at_again, fde_at_again}, Heads.{cie_or, fde_or, has_at}, Index.zip_right}, Items.{front_item, item_again}}
-use Rattle.dw_section.proofs.Words.{Read, ◌>>=◌, fde_fields, fields_at, contents_of, fde_of_piece}
+use Rattle.dw_section.proofs.Words.{drop_at, length-drop, length-take-le, take-append-drop, take_all, FdeStands, entry_head, entry_in, initial_head, initial_in, some_is, ok_is, Read, ◌>>=◌, fde_fields, fields_at, contents_of, fde_of_piece}
+use Rattle.dw_section.proofs.{Lent.{FieldTable.fde_said, HeaderLaws.{has_one, cie_at_again, fde_at_again}, Heads.{cie_or, fde_or, has_at}, Index.zip_right}, Items.{front_item, item_again}}
 use Rattle.dw_section.specs.Inner.{Fields.behind_pointer, PieceHeader.PointsBehind}
 use Rattle.dw_section.specs.declared.entry.Kind.TheVariants as kind
 

@@ -1,8 +1,7 @@
 -- What was put so far, while the output gets what is left and texts are put behind.
-use Rattle.dw_show.proofs.Words.{◌≡◌, ◌∙◌, ℕ, ◌+◌, ◌-◌, ◌≤◌, List, [], ◌++◌, length, take, drop, sym, ap, arith, subst, Option, Some, None, Result, Ok, Err, min, Appends, Keeps, append_known, false}
-use Rattle.dw_show.proofs.Words.{append_assoc, length-take-le, length-drop, drop-take, take_min, take-append-drop, take-append_seam, put_so_far, output_of, Adds, Fills, Finishes, Stays, Appends-kept, Appends-nil, Failure, PrintsOf}
+use Rattle.dw_show.proofs.Words.{◌≡◌, ◌∙◌, ℕ, ◌+◌, ◌-◌, ◌≤◌, List, [], ◌++◌, length, take, drop, sym, ap, arith, subst, Option, Some, None, Result, Ok, Err, min, Appends, Keeps, append_known, false, append_assoc, length-take-le}
+use Rattle.dw_show.proofs.{Words.{length-drop, drop-take, take_min, take-append-drop, take-append_seam, put_so_far, output_of, Adds, Fills, Finishes, Stays, Appends-kept, Appends-nil, Failure, PrintsOf}, Lent.Endings.printed}
 use Rattle.dw_show.specs.declared.listing.Listing.{Listing}
-use Rattle.dw_show.proofs.Lent.Endings.{printed}
 use lib.Seq.{paste}
 
 -- no more than all

@@ -1,6 +1,5 @@
 -- Texts of lists, element by element.
-use Rattle.dw_show.proofs.Words.{◌≡◌, ◌∙◌, ℕ, zero, suc, ◌+◌, ◌<◌, ◌≤◌, List, [], ◌∷◌, ◌++◌, length, map, take, get_or, Option, sym, ap, arith, AllZip, append_assoc, append-nil, total, lines, Adds}
-use Rattle.dw_show.proofs.{Puts.nothing, Lent.Endings.on}
+use Rattle.dw_show.proofs.{Words.{◌≡◌, ◌∙◌, ℕ, zero, suc, ◌+◌, ◌<◌, ◌≤◌, List, [], ◌∷◌, ◌++◌, length, map, take, get_or, Option, sym, ap, arith, AllZip, append_assoc, append-nil, total, lines, Adds}, Puts.nothing, Lent.Endings.on}
 use Rattle.dw_show.specs.declared.listing.Listing.{Listing}
 
 -- one element more

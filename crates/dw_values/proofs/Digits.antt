@@ -1,6 +1,5 @@
 -- A number that is checked at each digit is the number that is checked at the end: no digit makes it less.
-use Rattle.std.proofs.Common.{◌≡◌, ℕ, zero, suc, ◌+◌, ◌*◌, ◌<◌, ◌≤◌, List, [], ◌∷◌, Some, None, arith, refl, sym, inl, inr, option_and_then, mul-suc, lt-ltb, le-ltb}
-use Rattle.std.proofs.lemmas.Bool.{cases_lt}
+use Rattle.std.proofs.{Common.{◌≡◌, ℕ, zero, suc, ◌+◌, ◌*◌, ◌<◌, ◌≤◌, List, [], ◌∷◌, Some, None, arith, refl, sym, inl, inr, option_and_then, mul-suc, lt-ltb, le-ltb}, lemmas.Bool.cases_lt}
 use Rattle.dw_num.specs.Digits.{below, digit, number_behind}
 use Rattle.dw_values.specs.Inner.Values.{checked_behind}
 

@@ -1,9 +1,8 @@
 -- The cut of a section that is written, and the fields of each entry.
-use Rattle.dw_canon.proofs.Words.{◌≡◌, ℕ, ◌+◌, ◌<◌, ◌≤◌, ◌^◌, true, List, [], ◌∷◌, ◌++◌, length, map, refl, sym, ap, subst, arith, inl, inr, negsuc, ◌==◌, None, AllByRecursion}
-use Rattle.dw_canon.proofs.Words.{rules, AllZip, lt-ltb, length-append, append-nil, Order, Little, Big, Size, Four, Eight, Dwarf32, Target, fixed_bytes, Fixed}
-use Rattle.dw_canon.proofs.Words.{shortest_uleb, address_limit, byte_count, length-fixed, shortest_uleb-spells, Instr, IsItem, is_cie, Piece, pieces, Cut, Has, Headers, cie_places, Written, cie, fde, cie_id, cie_spelling}
-use Rattle.dw_canon.proofs.Words.{fields_of, contents, item_of, entry_bytes, section_bytes, fde_field_bytes, cie_field_bytes, span_of, head_of, heads_at, cies_at, StandsAt, Fits}
-use Rattle.dw_section.specs.{Fields.{is_among, FieldsSpell, unless}}
+use Rattle.dw_canon.proofs.Words.{◌≡◌, ℕ, ◌+◌, ◌<◌, ◌≤◌, ◌^◌, true, List, [], ◌∷◌, ◌++◌, length, map, refl, sym, ap, subst, arith, inl, inr, negsuc, ◌==◌, None, AllByRecursion, rules, AllZip, lt-ltb, length-append, append-nil, Order}
+use Rattle.dw_canon.proofs.Words.{Little, Big, Size, Four, Eight, Dwarf32, Target, fixed_bytes, Fixed, shortest_uleb, address_limit, byte_count, length-fixed, shortest_uleb-spells, Instr, IsItem, is_cie, Piece, pieces, Cut, Has, Headers}
+use Rattle.dw_canon.proofs.Words.{cie_places, Written, cie, fde, cie_id, cie_spelling, fields_of, contents, item_of, entry_bytes, section_bytes, fde_field_bytes, cie_field_bytes, span_of, head_of, heads_at, cies_at, StandsAt, Fits}
+use Rattle.dw_section.specs.Fields.{is_among, FieldsSpell, unless}
 use Rattle.dw_section.specs.Inner.Least.{least_cie}
 use Rattle.dw_num.specs.declared.refusal.Code.TheVariants.{AddressSize}
 use Rattle.dw_section.specs.declared.entry.Kind.TheVariants as kind

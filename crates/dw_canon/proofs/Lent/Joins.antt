@@ -1,12 +1,11 @@
 -- A group whose row is part of one that it was joined with is not narrowed by FDEs that begin with that row and go on specifying
 -- what it does.
-use Rattle.dw_canon.proofs.Words.{◌≡◌, ◌⊎◌, ℕ, List, [], ◌∷◌, refl, sym, ◌∙◌, inl, inr, IsTrue, AllByRecursion, Target, agreed, Rules, is_specified, rule, same_rows, RowFits, kept_by}
-use Rattle.dw_canon.proofs.Words.{Member}
+use Rattle.dw_canon.proofs.Words.{◌≡◌, ◌⊎◌, ℕ, List, [], ◌∷◌, refl, sym, ◌∙◌, inl, inr, IsTrue, AllByRecursion, Target, agreed, Rules, is_specified, rule, same_rows, RowFits, kept_by, Member}
+use Rattle.dw_canon.proofs.Lent.Shared.{MemberFits, Specify, specifies, kept_by_cfa, kept_by_fits, kept_by_has, next_fits, next_has, next_has_cfa}
 use Rattle.dw_section.proofs.Lent.OpeningLaws.{Specifies}
 use Rattle.dw_row.proofs.Lent.Equal.{cfa_told, rule_told}
 use Rattle.dw_row.specs.declared.rule.CfaRule.TheVariants as cfa
 use Rattle.dw_row.specs.declared.rule.RegRule.TheVariants as rules
-use Rattle.dw_canon.proofs.Lent.Shared.{MemberFits, Specify, specifies, kept_by_cfa, kept_by_fits, kept_by_has, next_fits, next_has, next_has_cfa}
 
 -- a row has no rules but some of another row's
 pub record PartOf (t : Target) (s row : Rules) : Type 0 where

@@ -1,18 +1,13 @@
 -- A run is refused exactly with the first fault of its programs.
+use Rattle.dw_cfa.proofs.Words.{◌≡◌, ◌⊎◌, ℕ, ◌+◌, ◌<◌, ◌≤◌, Bool, true, false, cond, List, [], ◌∷◌, ◌++◌, length, Option, Some, None, Result, Ok, Err, refl, sym, ap, ◌∙◌, subst, inl, inr, arith, IsTrue, not, nat_lt, count_by, ◌↔◌, take_all}
+use Rattle.dw_cfa.proofs.Words.{append-nil, lt-ltb, le-ltb, nat_tests, AreBytes, CfaRule, Code, Factors, Input, Instr, Outcome, Placed, Refusal, Rules, State, Target, address_limit, NotInCie, LocationBackwards, LocationTooLarge}
+use Rattle.dw_cfa.proofs.Words.{StateStackFull, CfaNotRegister, SetLoc, Advance, RememberState, RestoreState, ProgramSpells, taken_bytes, onto, cfa_after, is_remember, is_restore, in_cie, keeps_half, IsRegisterRule, CieKept, FdeKept}
+use Rattle.dw_cfa.proofs.Words.{Leaves, InitialLeaves, LeavesInitial, BreaksHalf, CieBreaks, FdeBreaks, FaultBehind, FdeFaultBehind, CieFault, FdeFault, RunFault, AreSpecified, blank, begun, written, after, half_fault, cie_fault, fde_fault}
+use Rattle.dw_cfa.proofs.Words.{Placing, placed, initial_row, on_initial, fde_rows, rows_behind, run_rows}
+use Rattle.dw_cfa.proofs.Lent.{Forward.{Follows, begun_follows}, InstrLaws.instr_found, KeptLaws.{cie_kept, cie_runs, counted, fde_kept, kept_fde, all_in_limit}, KeptRuns.{Stands, ended_stands, kept_run, kept_runs}}
+use Rattle.dw_cfa.proofs.{Lent.{Listings.{fault_placed, stuck_program}, RowsAt.{instrs_of, run_refusal}, RunLaws.{placed_program, program_placed}}, Divided.{input, placing, divided, left_behind, placed_again, joined_at}}
+use Rattle.dw_cfa.proofs.{Initial.{cie_follows, cie_refusal, cie_told, cie_ran}, Stops.{AllRun, RefusedNext, Stops, ends, refusal_end, refusal_of, stops, stopped}}
 use Rattle.dw_row.specs.declared.rule.CfaRule.TheVariants as cfa
-use Rattle.dw_cfa.proofs.Words.{◌≡◌, ◌⊎◌, ℕ, ◌+◌, ◌<◌, ◌≤◌, Bool, true, false, cond, List, [], ◌∷◌, ◌++◌, length, Option, Some, None, Result, Ok, Err, refl}
-use Rattle.dw_cfa.proofs.Words.{sym, ap, ◌∙◌, subst, inl, inr, arith, IsTrue, not, nat_lt, count_by, ◌↔◌, take_all, append-nil, lt-ltb, le-ltb, nat_tests}
-use Rattle.dw_cfa.proofs.Words.{AreBytes, CfaRule, Code, Factors, Input, Instr, Outcome, Placed, Refusal, Rules, State, Target, address_limit, NotInCie}
-use Rattle.dw_cfa.proofs.Words.{LocationBackwards, LocationTooLarge, StateStackFull, CfaNotRegister, SetLoc, Advance, RememberState, RestoreState}
-use Rattle.dw_cfa.proofs.Words.{ProgramSpells, taken_bytes, onto, cfa_after, is_remember, is_restore, in_cie, keeps_half, IsRegisterRule, CieKept, FdeKept}
-use Rattle.dw_cfa.proofs.Words.{Leaves, InitialLeaves, LeavesInitial, BreaksHalf, CieBreaks, FdeBreaks, FaultBehind, FdeFaultBehind, CieFault, FdeFault}
-use Rattle.dw_cfa.proofs.Words.{RunFault, AreSpecified, blank, begun, written, after, half_fault, cie_fault, fde_fault, Placing, placed, initial_row}
-use Rattle.dw_cfa.proofs.Words.{on_initial, fde_rows, rows_behind, run_rows}
-use Rattle.dw_cfa.proofs.Lent.{Forward.{Follows, begun_follows}, InstrLaws.instr_found}
-use Rattle.dw_cfa.proofs.Lent.{KeptLaws.{cie_kept, cie_runs, counted, fde_kept, kept_fde, all_in_limit}, KeptRuns.{Stands, ended_stands, kept_run, kept_runs}}
-use Rattle.dw_cfa.proofs.Lent.{Listings.{fault_placed, stuck_program}, RowsAt.{instrs_of, run_refusal}, RunLaws.{placed_program, program_placed}}
-use Rattle.dw_cfa.proofs.{Divided.{input, placing, divided, left_behind, placed_again, joined_at}, Initial.{cie_follows, cie_refusal, cie_told, cie_ran}}
-use Rattle.dw_cfa.proofs.Stops.{AllRun, RefusedNext, Stops, ends, refusal_end, refusal_of, stops, stopped}
 
 -- ---- what stands against one instruction is what it breaks
 

@@ -1,8 +1,7 @@
 -- The machine that runs forwards with whole rows and a stack gives every column what looking back gives.
 use Rattle.dw_row.proofs.Lent.RowLists.{put_rule, put_keeps}
-use Rattle.dw_cfa.proofs.Words.{◌≡◌, ℕ, suc, Bool, true, false, cond, List, [], ◌∷◌, None, refl, sym, ap, ◌∙◌, arith, nat_eq, eqb-true, Instr, RegRule, Rules}
-use Rattle.dw_cfa.proofs.Words.{State, Set, Restore, RememberState, RestoreState, location_back, look_back, CfaRule, cfa_change, rule_change, AreSpecified}
-use Rattle.dw_cfa.proofs.Words.{rule, begun, changed, moved, popped, after, empty_fault, fde_fault}
+use Rattle.dw_cfa.proofs.Words.{◌≡◌, ℕ, suc, Bool, true, false, cond, List, [], ◌∷◌, None, refl, sym, ap, ◌∙◌, arith, nat_eq, eqb-true, Instr, RegRule, Rules, State, Set, Restore, RememberState, RestoreState, location_back, look_back}
+use Rattle.dw_cfa.proofs.Words.{CfaRule, cfa_change, rule_change, AreSpecified, rule, begun, changed, moved, popped, after, empty_fault, fde_fault}
 
 -- The row has in every column what looking back past `inner` remember_states gives.
 pub record Holds (initial : Rules) (earlier : List Instr) (inner : ℕ) (row : Rules) : Type 0 where

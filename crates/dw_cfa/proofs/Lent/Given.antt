@@ -1,18 +1,13 @@
 -- What a run gives is what its programs give, in the standard's terms.
 use Rattle.dw_row.proofs.Lent.SameRows.{same_rows}
 use Rattle.dw_cfa.specs.InitialRules.{initial_cfa}
-use Rattle.dw_cfa.proofs.Words.{◌≡◌, ℕ, suc, ◌<◌, ◌≤◌, Bool, true, false, List, [], ◌∷◌, ◌++◌, length, map, Option, Some, None, Result, Ok, Err, refl, sym}
-use Rattle.dw_cfa.proofs.Words.{ap, ◌∙◌, subst, inl, inr, arith, if◌then◌else◌, IfErr, IfOk, MatchResult, AllZip, append-nil, AreBytes, CfaRule, Factors}
-use Rattle.dw_cfa.proofs.Words.{Input, Instr, LocatedRow, Outcome, Placed, ReadError, Refusal, Refuses, RegRule, Rules, State, Stepping, address_limit}
-use Rattle.dw_cfa.proofs.Words.{Refused, OutOfMemory, ProgramSpells, cfa_after, rule_after, CieKept, FdeKept, NeverFalls, onto, location_back, moves_location}
-use Rattle.dw_cfa.proofs.Words.{Counts, AreSpecified, blank, stepping, FdeFaultBehind, RunFault, Leaves, LeavesTo, ends, HoldsBehind, IsRowAfter, GivesBehind}
-use Rattle.dw_cfa.proofs.Words.{GivesBefore, GivesUpTo, RunsBehind, RunsTo, OneRun, RefusedWhereFault, RowsWhereKept, NoneFalls, LastHolds, OneInitial}
-use Rattle.dw_cfa.proofs.Words.{OneBehind, BehindWhereFault, GivesWhereKept, LeavesWhereKept, RulesBehind, begun, after, fde_fault, placed, row_if}
-use Rattle.dw_cfa.proofs.Words.{on_initial, initial_row, run_rows, rows_behind, fde_rows, gives, Gives}
-use Rattle.dw_cfa.proofs.Lent.FaultLaws.{leaves, initial_leaves, leaves_initial, stops_of, fde_fault_found, fde_fault_only, cie_fault_found, cie_fault_only}
-use Rattle.dw_cfa.proofs.Lent.FaultLaws.{run_refused, refused_run}
-use Rattle.dw_cfa.proofs.Lent.BehindLaws.{behind_gives, gives_behind, gives_rows, holds_behind, rows_are, run_behind}
-use Rattle.dw_cfa.proofs.Lent.{Forward.{Follows, Holds, after_follows, begun_follows}, RowsAt.instrs_of, RunLaws.{program_placed, run_from}}
+use Rattle.dw_cfa.proofs.Words.{◌≡◌, ℕ, suc, ◌<◌, ◌≤◌, Bool, true, false, List, [], ◌∷◌, ◌++◌, length, map, Option, Some, None, Result, Ok, Err, refl, sym, ap, ◌∙◌, subst, inl, inr, arith, if◌then◌else◌, IfErr, IfOk, MatchResult, AllZip}
+use Rattle.dw_cfa.proofs.Words.{append-nil, AreBytes, CfaRule, Factors, Input, Instr, LocatedRow, Outcome, Placed, ReadError, Refusal, Refuses, RegRule, Rules, State, Stepping, address_limit, Refused, OutOfMemory, ProgramSpells, cfa_after}
+use Rattle.dw_cfa.proofs.Words.{rule_after, CieKept, FdeKept, NeverFalls, onto, location_back, moves_location, Counts, AreSpecified, blank, stepping, FdeFaultBehind, RunFault, Leaves, LeavesTo, ends, HoldsBehind, IsRowAfter, GivesBehind}
+use Rattle.dw_cfa.proofs.Words.{GivesBefore, GivesUpTo, RunsBehind, RunsTo, OneRun, RefusedWhereFault, RowsWhereKept, NoneFalls, LastHolds, OneInitial, OneBehind, BehindWhereFault, GivesWhereKept, LeavesWhereKept, RulesBehind, begun, after}
+use Rattle.dw_cfa.proofs.Words.{fde_fault, placed, row_if, on_initial, initial_row, run_rows, rows_behind, fde_rows, gives, Gives}
+use Rattle.dw_cfa.proofs.Lent.{FaultLaws.{leaves, initial_leaves, leaves_initial, stops_of, fde_fault_found, fde_fault_only, cie_fault_found, cie_fault_only, run_refused, refused_run}}
+use Rattle.dw_cfa.proofs.Lent.{BehindLaws.{behind_gives, gives_behind, gives_rows, holds_behind, rows_are, run_behind}, Forward.{Follows, Holds, after_follows, begun_follows}, RowsAt.instrs_of, RunLaws.{program_placed, run_from}}
 use Rattle.dw_cfa.proofs.Stops.{ends as state_behind, AllRun, RefusedNext}
 
 -- rows that end after so many instructions each

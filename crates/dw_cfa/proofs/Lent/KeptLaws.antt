@@ -1,11 +1,8 @@
 -- What is run of a program keeps its rules, in the terms of what programs have to keep, and a program that keeps them is run.
+use Rattle.dw_cfa.proofs.Words.{◌≡◌, ℕ, zero, suc, ◌+◌, Bool, true, false, cond, List, [], ◌∷◌, take, Some, None, refl, sym, subst, arith, add-one, IsTrue, count_by, slice_get, AllByRecursion, sum_by-cons, NotInCie, CfaRule, Factors, Instr}
+use Rattle.dw_cfa.proofs.Words.{Placed, Rules, Target, address_limit, ProgramSpells, onto, look_back, cfa_change, is_remember, is_restore, in_cie, keeps_half, IsRegisterRule, CieKept, FdeKept, blank, begun, written, half_fault, cie_fault}
+use Rattle.dw_cfa.proofs.{Lent.{Forward.{Follows, begun_follows}, KeptRuns.{KeptFrom, AllInLimit, keeps_fault, half_kept}, RowsAt.instrs_of}, Initial.written_follows, Placings.spells_in_limit, Stops.AllRun}
 use Rattle.dw_row.specs.declared.rule.CfaRule.TheVariants as cfa
-use Rattle.dw_cfa.proofs.Words.{◌≡◌, ℕ, zero, suc, ◌+◌, Bool, true, false, cond, List, [], ◌∷◌, take, Some, None, refl, sym, subst, arith, add-one, IsTrue}
-use Rattle.dw_cfa.proofs.Words.{count_by, slice_get, AllByRecursion, sum_by-cons, NotInCie, CfaRule, Factors, Instr, Placed, Rules, Target, address_limit}
-use Rattle.dw_cfa.proofs.Words.{ProgramSpells, onto, look_back, cfa_change, is_remember, is_restore, in_cie, keeps_half, IsRegisterRule, CieKept, FdeKept}
-use Rattle.dw_cfa.proofs.Words.{blank, begun, written, half_fault, cie_fault}
-use Rattle.dw_cfa.proofs.Lent.{Forward.{Follows, begun_follows}, KeptRuns.{KeptFrom, AllInLimit, keeps_fault, half_kept}, RowsAt.instrs_of}
-use Rattle.dw_cfa.proofs.{Initial.written_follows, Placings.spells_in_limit, Stops.AllRun}
 
 -- ---- a CIE's program
 

@@ -1,11 +1,9 @@
 -- Programs that keep their rules are run to their end, and others are not.
-use Rattle.dw_row.specs.declared.rule.CfaRule.TheVariants as cfa
-use Rattle.dw_cfa.proofs.Words.{◌≡◌, ℕ, zero, suc, ◌+◌, ◌<◌, ◌≤◌, true, cond, List, [], ◌∷◌, length, Some, None, refl, sym, subst, arith, IsTrue, slice_get}
-use Rattle.dw_cfa.proofs.Words.{nat_lt, sum_by-cons, nat_tests, lt-ltb, le-ltb, cases_Bool, inl, inr, LocationTooLarge, StateStackFull, CfaRule, Instr}
-use Rattle.dw_cfa.proofs.Words.{LocatedRow, Placed, Rules, State, SetLoc, Advance, DefCfaRegister, DefCfaOffset, RememberState, RestoreState, onto}
-use Rattle.dw_cfa.proofs.Words.{location_back, look_back, cfa_change, is_remember, is_restore, keeps_half, IsRegisterRule, remembered, restored, after}
-use Rattle.dw_cfa.proofs.Words.{half_fault, fde_fault, InLimit}
+use Rattle.dw_cfa.proofs.Words.{◌≡◌, ℕ, zero, suc, ◌+◌, ◌<◌, ◌≤◌, true, cond, List, [], ◌∷◌, length, Some, None, refl, sym, subst, arith, IsTrue, slice_get, nat_lt, sum_by-cons, nat_tests, lt-ltb, le-ltb, cases_Bool, inl, inr}
+use Rattle.dw_cfa.proofs.Words.{LocationTooLarge, StateStackFull, CfaRule, Instr, LocatedRow, Placed, Rules, State, SetLoc, Advance, DefCfaRegister, DefCfaOffset, RememberState, RestoreState, onto, location_back, look_back, cfa_change}
+use Rattle.dw_cfa.proofs.Words.{is_remember, is_restore, keeps_half, IsRegisterRule, remembered, restored, after, half_fault, fde_fault, InLimit}
 use Rattle.dw_cfa.proofs.{Lent.{Forward.{Follows, after_follows}, RowsAt.{instrs_of, Gives, gives_run, forwards, stays}}, Stops.{AllRun, ends}}
+use Rattle.dw_row.specs.declared.rule.CfaRule.TheVariants as cfa
 
 -- what a state has to do with the instructions that led to it
 pub record Stands (limit begin : ℕ) (initial : Rules) (earlier : List Instr) (s : State) : Type 0 where

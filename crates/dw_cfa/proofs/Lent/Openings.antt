@@ -1,12 +1,9 @@
 -- The columns at the begin, where the first instructions of a program tell the row there; and what is specified first stays so.
-use Rattle.dw_row.specs.declared.rule.RegRule.TheVariants as rules
 use Rattle.dw_cfa.specs.declared.opening.FirstRow.{FirstRow}
-use Rattle.dw_cfa.proofs.Words.{◌≡◌, ℕ, zero, suc, ◌+◌, ◌<◌, ◌≤◌, Bool, true, false, List, [], ◌∷◌, Option, Some, None, refl, ap, ◌∙◌, arith, IsTrue, nat_eq}
-use Rattle.dw_cfa.proofs.Words.{nat_lt, if◌then◌else◌, ℤ, AllByRecursion, ltb-true, Target, Factors, Instr, Nop, Advance, DefCfaOffset, Set, Restore}
-use Rattle.dw_cfa.proofs.Words.{RememberState, RestoreState, Initial, CfaOffset, Other, CfaRule, RegRule, look_back, cfa_with, cfa_change, rule_change}
-use Rattle.dw_cfa.proofs.Words.{cfa_after, rule_after, ProgramSpells, onto, back_from, location_back, Counts, moves_first, first_row, row_with, is_specified}
-use Rattle.dw_cfa.proofs.Words.{CountsFrom}
-use Rattle.dw_cfa.proofs.Lent.{RowsAt.{counts_rest, first_counts}, Spellings.{by_table, IsSpelled}}
+use Rattle.dw_cfa.proofs.Words.{◌≡◌, ℕ, zero, suc, ◌+◌, ◌<◌, ◌≤◌, Bool, true, false, List, [], ◌∷◌, Option, Some, None, refl, ap, ◌∙◌, arith, IsTrue, nat_eq, nat_lt, if◌then◌else◌, ℤ, AllByRecursion, ltb-true, Target, Factors, Instr, Nop}
+use Rattle.dw_cfa.proofs.Words.{Advance, DefCfaOffset, Set, Restore, RememberState, RestoreState, Initial, CfaOffset, Other, CfaRule, RegRule, look_back, cfa_with, cfa_change, rule_change, cfa_after, rule_after, ProgramSpells, onto}
+use Rattle.dw_cfa.proofs.{Words.{back_from, location_back, Counts, moves_first, first_row, row_with, is_specified, CountsFrom}, Lent.{RowsAt.{counts_rest, first_counts}, Spellings.{by_table, IsSpelled}}}
+use Rattle.dw_row.specs.declared.rule.RegRule.TheVariants as rules
 
 -- no instruction gives the rule Unspecified
 abbrev GivesRule : Instr → Type 0

@@ -1,12 +1,10 @@
 -- The spellings of each instruction, instruction by instruction.
 use Rattle.dw_num.specs.Leb.{Register}
 use Rattle.dw_op.specs.OpSpells.{Code, Both}
+use Rattle.dw_cfa.proofs.Words.{◌≡◌, ℕ, ◌+◌, ◌*◌, ◌<◌, ◌⊎◌, List, [], ◌∷◌, Some, refl, ap, arith, inl, inr, ℤ, pos, ◌*ℤ◌, Factors, Instr, Opcode, RegRule, Target, Uleb, Sleb, Fixed, Address, Nop, SetLoc, Advance, DefCfa, DefCfaRegister}
+use Rattle.dw_cfa.proofs.Words.{DefCfaOffset, DefCfaExpression, Set, Restore, RememberState, RestoreState, IsOffset, BlockSpells, InstrFormSpells, InstrSpells, opcode_of, opcode_table, form_of, InstrForm, none, one, two, OperandValue}
+use Rattle.dw_cfa.proofs.{Words.{OperandSpells, EachEntry, offset_of, advanced}, CodeForms.{form_is, opcode_behind}, Codes.{low_known, opcode_known, ◌&◌}}
 use Rattle.dw_row.specs.declared.rule.RegRule.TheVariants as rules
-use Rattle.dw_cfa.proofs.Words.{◌≡◌, ℕ, ◌+◌, ◌*◌, ◌<◌, ◌⊎◌, List, [], ◌∷◌, Some, refl, ap, arith, inl, inr, ℤ, pos, ◌*ℤ◌, Factors, Instr, Opcode, RegRule}
-use Rattle.dw_cfa.proofs.Words.{Target, Uleb, Sleb, Fixed, Address, Nop, SetLoc, Advance, DefCfa, DefCfaRegister, DefCfaOffset, DefCfaExpression, Set}
-use Rattle.dw_cfa.proofs.Words.{Restore, RememberState, RestoreState, IsOffset, BlockSpells, InstrFormSpells, InstrSpells, opcode_of, opcode_table, form_of}
-use Rattle.dw_cfa.proofs.Words.{InstrForm, none, one, two, OperandValue, OperandSpells, EachEntry, offset_of, advanced}
-use Rattle.dw_cfa.proofs.{CodeForms.{form_is, opcode_behind}, Codes.{low_known, opcode_known, ◌&◌}}
 use Rattle.dw_cfa.specs.declared.opcode.Opcode.TheVariants as opcodes
 
 -- ---- offsets

@@ -1,7 +1,6 @@
 -- What holds of all elements of a list, and ranges that are apart.
 use Rattle.std.specs.List.{AllByRecursion}
-use Rattle.std.proofs.Common.{ℕ, ◌≤◌, List, [], ◌∷◌, ◌++◌, refl, arith, inl, inr, IsPermutation}
-use Rattle.std.proofs.lemmas.{List.Elements.{All-from_recursion, All-push, recursion_from_All}, List.Sorted.All-permutation}
+use Rattle.std.proofs.{Common.{ℕ, ◌≤◌, List, [], ◌∷◌, ◌++◌, refl, arith, inl, inr, IsPermutation}, lemmas.List.{Elements.{All-from_recursion, All-push, recursion_from_All}, Sorted.All-permutation}}
 use Rattle.dw_index.specs.{Among.IsAmong, Ranges.{AreApart, Range, end_of}}
 
 pub among_here : {X : Type 0} (xs : List X) (x : X) (ys : List X) → IsAmong x (xs ++ x ∷ ys)

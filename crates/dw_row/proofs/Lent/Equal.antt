@@ -1,9 +1,7 @@
 -- What tells equal rules is our test, and what two rows have in common is what the tests leave.
+use Rattle.dw_row.proofs.Words.{◌≡◌, ◌⊎◌, Bool, false, refl, sym, ◌∙◌, inl, inr, arith, IsTrue, ◌↔◌, if◌then◌else◌, Decides, one_answer, cases_Bool, not_from_Decides, CfaRule, RegRule, Rules, InCommon, IsAgreed, agreed, is_agreed, same_cfa}
+use Rattle.dw_row.proofs.{Words.{same_rule, cfa_tells, rule_tells, AreSpecified, rule, rows_tell}, Lent.{Narrowed.{filter_keeps, filter_rule}, SameRows.same_rows}}
 use Rattle.dw_row.specs.Inner.RowEquality.{same_rows as rows_same}
-use Rattle.dw_row.proofs.Words.{◌≡◌, ◌⊎◌, Bool, false, refl, sym, ◌∙◌, inl, inr, arith, IsTrue, ◌↔◌, if◌then◌else◌, Decides, one_answer, cases_Bool}
-use Rattle.dw_row.proofs.Words.{not_from_Decides, CfaRule, RegRule, Rules, InCommon, IsAgreed, agreed, is_agreed, same_cfa, same_rule, cfa_tells, rule_tells}
-use Rattle.dw_row.proofs.Words.{AreSpecified, rule, rows_tell}
-use Rattle.dw_row.proofs.Lent.{Narrowed.{filter_keeps, filter_rule}, SameRows.same_rows}
 use Rattle.dw_row.specs.declared.rule.CfaRule.TheVariants as cfa
 use Rattle.dw_row.specs.declared.rule.RegRule.TheVariants as rules
 

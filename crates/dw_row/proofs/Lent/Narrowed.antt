@@ -1,8 +1,6 @@
 -- What is left of a row's registers after a test of each.
-use Rattle.dw_row.proofs.Words.{◌≡◌, ℕ, suc, ◌≤◌, Bool, true, false, List, [], ◌∷◌, refl, sym, ap, ◌∙◌, subst, arith, inl, inr, ◌↔◌, if◌then◌else◌, All}
-use Rattle.dw_row.proofs.Words.{filter, nat_eq, not, nat_tests, cases_Bool, Entries, Unspecified, AreSpecified, rule_in, put, entries_of, ◌<◌, bit_and}
-use Rattle.dw_row.proofs.Words.{bit_at, EntriesSo, Holds, RegRule, is_kept, is_specified, listed_from, listed_near, left, near_rule, LeavesAt, LeavesBelow}
-use Rattle.dw_row.proofs.Words.{bit_at-lt, bit_at_and}
+use Rattle.dw_row.proofs.Words.{◌≡◌, ℕ, suc, ◌≤◌, Bool, true, false, List, [], ◌∷◌, refl, sym, ap, ◌∙◌, subst, arith, inl, inr, ◌↔◌, if◌then◌else◌, All, filter, nat_eq, not, nat_tests, cases_Bool, Entries, Unspecified, AreSpecified}
+use Rattle.dw_row.proofs.Words.{rule_in, put, entries_of, ◌<◌, bit_and, bit_at, EntriesSo, Holds, RegRule, is_kept, is_specified, listed_from, listed_near, left, near_rule, LeavesAt, LeavesBelow, bit_at-lt, bit_at_and}
 use Rattle.dw_row.proofs.Slots.{behind_slots, cases_bit, entries_ascend, fewer_holds, is_given, is_set, not_set, row_rule, set_rule, slots_ascend, unset_rule}
 use Rattle.dw_row.proofs.Lent.{RowLists.{Entry, lower, unlisted, put_keeps, put_rule}, SameRows.same_entries}
 use Rattle.std.proofs.lemmas.List.Elements.{All-head, filter_passes}

@@ -1,7 +1,6 @@
 -- Rows with the same rule in every column are the same.
-use Rattle.dw_row.proofs.Words.{Bool, false, Option, Some, None, FirstDifference, IsTrue, is_some, not, ◌↔◌, eq-eqb, ◌≡◌, ℕ, suc, ◌<◌, true, List, [], ◌∷◌}
-use Rattle.dw_row.proofs.Words.{refl, sym, ap, ◌∙◌, subst, arith, nat_tests, CfaRule, RegRule, Rules, Unspecified, AreSpecified, is_specified, rule_in, rule}
-use Rattle.dw_row.proofs.Lent.RowLists.{Entry, unlisted}
+use Rattle.dw_row.proofs.Words.{Bool, false, Option, Some, None, FirstDifference, IsTrue, is_some, not, ◌↔◌, eq-eqb, ◌≡◌, ℕ, suc, ◌<◌, true, List, [], ◌∷◌, refl, sym, ap, ◌∙◌, subst, arith, nat_tests, CfaRule, RegRule, Rules, Unspecified}
+use Rattle.dw_row.proofs.{Words.{AreSpecified, is_specified, rule_in, rule}, Lent.RowLists.{Entry, unlisted}}
 
 pub first_rule : (x : Entry) (xs : List Entry) → rule_in (x ∷ xs) x.0 ≡ x.1
 first_rule x xs = rw (eq-eqb x.0 x.0 refl) refl

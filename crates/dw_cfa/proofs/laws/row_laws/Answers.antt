@@ -1,8 +1,7 @@
 use Rattle.dw_row.proofs.Lent.SameRows.{same_rows}
-use Rattle.dw_cfa.proofs.Lent.Given.{behind_where_fault, given_falls, given_holds, given_where_kept, gives_where_kept, leaves_where_kept, one_behind}
-use Rattle.dw_cfa.proofs.Lent.Given.{one_initial, one_run, refused_where_fault, rules_behind}
-use Rattle.dw_cfa.proofs.Lent.{FaultPlaces.{cie_within, fde_within, run_within}, InstrCounts.{counts_exists, one_count}, Openings.{first_cfa, first_rule}}
-use Rattle.dw_cfa.proofs.{Words.{sym, ◌∙◌, FirstRowIsBegin, OneHolds, OneCount, rule}, Match.{restores_matched, match_exists}}
+use Rattle.dw_cfa.proofs.Lent.{Given.{behind_where_fault, given_falls, given_holds, given_where_kept, gives_where_kept, leaves_where_kept, one_behind, one_initial, one_run, refused_where_fault, rules_behind}}
+use Rattle.dw_cfa.proofs.{Lent.{FaultPlaces.{cie_within, fde_within, run_within}, InstrCounts.{counts_exists, one_count}, Openings.{first_cfa, first_rule}}, Words.{sym, ◌∙◌, FirstRowIsBegin, OneHolds, OneCount, rule}}
+use Rattle.dw_cfa.proofs.Match.{restores_matched, match_exists}
 use Rattle.dw_cfa.proofs.laws.row_laws.Goals as goal
 
 one_holds : OneHolds

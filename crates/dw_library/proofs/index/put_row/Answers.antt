@@ -1,10 +1,8 @@
-use Rattle.std.proofs.lemmas.Bool.{lt-leb}
+use Rattle.std.proofs.{lemmas.Bool.lt-leb, Common.le-leb}
 use Rattle.std.specs.Prelude.{nat_le, if◌then◌else◌}
 use Rattle.dw_library.specs.Index.{TellsFde, TellsRow, TellsRules, Told}
-use Rattle.std.proofs.Common.{le-leb}
-use Rattle.dw_library.proofs.Words.{length, arith, ◌≡◌, ℕ, refl, sym, inl, inr, rules, IsTable}
-use Rattle.dw_section.specs.{StandingFde.{Ruled}}
-use Rattle.dw_library.proofs.index.put_row.Goals.{After-told_row}
+use Rattle.dw_library.proofs.{Words.{length, arith, ◌≡◌, ℕ, refl, sym, inl, inr, rules, IsTable}, index.put_row.Goals.After-told_row}
+use Rattle.dw_section.specs.StandingFde.{Ruled}
 use Rattle.dw_library.proofs.index.put_row.Goals as goal
 
 abbrev told : After-told_row → ℕ → Told

@@ -1,5 +1,4 @@
-use Rattle.dw_library.proofs.Words.{◌<◌, length, arith}
-use Rattle.dw_library.proofs.{Changed.{changes_low, covering_told, no_fde, place_low}, Words.get_or, rows.put_covering.Goals.After-index}
+use Rattle.dw_library.proofs.{Words.{◌<◌, length, arith, get_or}, Changed.{changes_low, covering_told, no_fde, place_low}, rows.put_covering.Goals.After-index}
 use Rattle.dw_library.proofs.rows.put_covering.Goals as goal
 
 inside : (c : After-index) → c.in-Some.fde.place < length c.index.result.now

@@ -1,5 +1,4 @@
-use Rattle.dw_normal.proofs.Words.{◌≡◌, ◌++◌, ◌≤◌, ◌∙◌, ℕ, List, arith, refl, length-append, ap, length, later_bytes, Holds}
-use Rattle.dw_normal.proofs.{Filled.{fills_more, left_more}, contents.push_changes.Goals.In-Some}
+use Rattle.dw_normal.proofs.{Words.{◌≡◌, ◌++◌, ◌≤◌, ◌∙◌, ℕ, List, arith, refl, length-append, ap, length, later_bytes, Holds}, Filled.{fills_more, left_more}, contents.push_changes.Goals.In-Some}
 use Rattle.dw_normal.proofs.contents.push_changes.Goals as goal
 
 -- what there is of the entry, and what comes behind it

@@ -1,5 +1,4 @@
-use Rattle.dw_normal.proofs.Words.{ℕ, List, refl, sym, ap, ◌∙◌, ◌++◌, subst, arith, append-nil, cies_bytes, fdes_bytes, Sends, sink_at}
-use Rattle.dw_normal.proofs.{Entries.{canon_both, cies_end}, Joined.{puts_both, puts_from}, Placed.as_many, Summed.none_bytes}
+use Rattle.dw_normal.proofs.{Words.{ℕ, List, refl, sym, ap, ◌∙◌, ◌++◌, subst, arith, append-nil, cies_bytes, fdes_bytes, Sends, sink_at}, Entries.{canon_both, cies_end}, Joined.{puts_both, puts_from}, Placed.as_many, Summed.none_bytes}
 use Rattle.dw_normal.proofs.entry.write_entries.Goals as goal
 
 pub returns-in_err-write_cies : goal.returns-in_err-write_cies

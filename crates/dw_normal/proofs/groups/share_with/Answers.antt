@@ -1,5 +1,4 @@
-use Rattle.dw_normal.proofs.Words.{◌≡◌, AreSpecified, sym, ap, ◌∙◌, subst, OnOk, Rules, agreed, agreed_of, kept_by, row_or_blank, shown_row, kept, AgreesBeside}
-use Rattle.dw_normal.proofs.{Filled.on_ok, KnownCies.{agreed_kept, notes_more, shared_beside, still_kept}}
+use Rattle.dw_normal.proofs.{Words.{◌≡◌, AreSpecified, sym, ap, ◌∙◌, subst, OnOk, Rules, agreed, agreed_of, kept_by, row_or_blank, shown_row, kept, AgreesBeside}, Filled.on_ok, KnownCies.{agreed_kept, notes_more, shared_beside, still_kept}}
 use Rattle.dw_normal.proofs.groups.share_with.Goals as goal
 
 pub returns-in_default-behind-clause-row : goal.returns-in_default-behind-clause-row

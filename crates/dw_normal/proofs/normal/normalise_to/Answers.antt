@@ -1,5 +1,4 @@
-use Rattle.dw_normal.proofs.{Words.{sink_at}, Reports.{Ended, all_written, ended, never_full, none_written, some_held, some_written}, FaultPlaces.unwritten_within}
-use Rattle.dw_normal.proofs.normal.normalise_to.{Given.Over, Goals.After-saturating_sub-written}
+use Rattle.dw_normal.proofs.{Words.sink_at, Reports.{Ended, all_written, ended, never_full, none_written, some_held, some_written}, FaultPlaces.unwritten_within, normal.normalise_to.{Given.Over, Goals.After-saturating_sub-written}}
 use Rattle.dw_normal.proofs.normal.normalise_to.Goals as goal
 
 done : (g : Over) (c : After-saturating_sub-written g)

@@ -1,5 +1,4 @@
-use Rattle.dw_op.proofs.Words.{map, map-append, bare, block_input, None, Ok, Walked, Walks}
-use Rattle.dw_op.proofs.{Judgement.{check_end, check_more, check_shorter}}
+use Rattle.dw_op.proofs.{Words.{map, map-append, bare, block_input, None, Ok, Walked, Walks}, Judgement.{check_end, check_more, check_shorter}}
 use Rattle.dw_op.proofs.block.decode_ops.Goals as goal
 
 pub ops-preserved : goal.ops-preserved

@@ -1,5 +1,4 @@
-use Rattle.dw_show.proofs.Words.{ℕ, List, [], ◌∷◌, ◌++◌, arith, subst, sym, Tells, TellsOf, Adds, at_text, lines}
-use Rattle.dw_show.proofs.{Puts.{nothing, printed_of}, Lent.Endings.on, TextLines.{lines_push, zip_all, zip_more}}
+use Rattle.dw_show.proofs.{Words.{ℕ, List, [], ◌∷◌, ◌++◌, arith, subst, sym, Tells, TellsOf, Adds, at_text, lines}, Puts.{nothing, printed_of}, Lent.Endings.on, TextLines.{lines_push, zip_all, zip_more}}
 use Rattle.dw_show.proofs.rows.put_each.Goals as goal
 
 pub loop-address-init : goal.loop-address-init

@@ -1,5 +1,4 @@
-use Rattle.std.proofs.lemmas.Grind.{common_steps}
-use Rattle.std.proofs.Common.{◌≡◌, ◌∙◌, None, Some, arith}
+use Rattle.std.proofs.{lemmas.Grind.common_steps, Common.{◌≡◌, ◌∙◌, None, Some, arith}}
 use Rattle.dw_values.specs.Inner.Values.{checked_behind}
 use Rattle.dw_values.proofs.Digits.{number_is}
 use Rattle.dw_values.proofs.values.number_of.Goals as goal

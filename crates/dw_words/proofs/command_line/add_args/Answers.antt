@@ -1,7 +1,5 @@
-use Rattle.std.proofs.Common.{take_all}
-use Rattle.dw_words.proofs.Words.{List, subst, sym, App, IsCommand, Argument, rule_of, with_arguments, with_rule}
-use Rattle.std.proofs.lemmas.List.Sums.{fold_more}
-use Rattle.dw_words.proofs.Arguments.{one_more}
+use Rattle.std.proofs.{Common.take_all, lemmas.List.Sums.fold_more}
+use Rattle.dw_words.proofs.{Words.{List, subst, sym, App, IsCommand, Argument, rule_of, with_arguments, with_rule}, Arguments.one_more}
 use Rattle.dw_words.proofs.command_line.add_args.Goals as goal
 
 pub loop-one-preserved : goal.loop-one-preserved

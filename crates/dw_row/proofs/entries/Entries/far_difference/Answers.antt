@@ -1,5 +1,4 @@
-use Rattle.dw_row.proofs.Words.{ℕ, subst, sym, nat_cmp, range_contains, Bound, Unbounded, place_behind}
-use Rattle.dw_row.proofs.{Lent.RowLists.Entry, Difference.{FromOn, first_from, range_on}}
+use Rattle.dw_row.proofs.{Words.{ℕ, subst, sym, nat_cmp, range_contains, Bound, Unbounded, place_behind}, Lent.RowLists.Entry, Difference.{FromOn, first_from, range_on}}
 use Rattle.dw_row.proofs.entries.Entries.far_difference.Goals as goal
 
 pub returns : goal.returns

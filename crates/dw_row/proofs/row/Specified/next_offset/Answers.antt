@@ -1,7 +1,5 @@
-use Rattle.dw_row.proofs.Words.{rules, ◌≡◌, ◌∙◌, ◌∷◌, ◌-◌, bit_and, far_behind, listed_near, rule_in, subst, sym, BeginsWithOffset, FitsSigned, IsOffset}
-use Rattle.dw_row.proofs.Words.{refl, slot_rule, to_z-of_z, w64}
-use Rattle.dw_row.proofs.{Difference.none_near, Slots.{next_used, none_used, rest_holds}}
-use Rattle.dw_row.proofs.row.Specified.next_offset.Goals.{After-offset_in}
+use Rattle.dw_row.proofs.{Words.{rules, ◌≡◌, ◌∙◌, ◌∷◌, ◌-◌, bit_and, far_behind, listed_near, rule_in, subst, sym, BeginsWithOffset, FitsSigned, IsOffset, refl, slot_rule, to_z-of_z, w64}, Difference.none_near}
+use Rattle.dw_row.proofs.{Slots.{next_used, none_used, rest_holds}, row.Specified.next_offset.Goals.After-offset_in}
 use Rattle.dw_row.proofs.row.Specified.next_offset.Goals as goal
 
 pub returns-in_err-register-clause-exact : goal.returns-in_err-register-clause-exact
