@@ -17,34 +17,26 @@ pub record Listed (before row : Rules) (changed : Registers) (keeps : Bool) (pla
   pub specified : keeps ≡ true → (r : ℕ) → r < place → is_specified (rule row r) ≡ true → is_specified (rule before r) ≡ true
 
 -- one more register is listed, the next whose rule differs
-pub listed_more : (before row : Rules) (old new : Registers) (keeps keeps' : Bool) (place q : ℕ) → Listed before row old keeps place → FirstDifference place before.registers row.registers (Some q)
-    → ((r : ℕ) → has new r ≡ (nat_eq r q || has old r)) → (keeps' ≡ true → (keeps ≡ true) × (is_specified (rule row q) ≡ true → is_specified (rule before q) ≡ true)) → Listed before row new keeps' (suc q)
-listed_more before row old new keeps keeps' place q listed first added more = record { beside = beside; only = only; specified = specified }
-  where
-    -- up to it the rules are the same from the place on
-    between : (r : ℕ) → place ≤ r → r < suc q → nat_eq r q ≡ false → rule before r ≡ rule row r
-    between r ge lt ne = first.1 r ge (grind (arith, nat_tests, ne))
+module _ (before row : Rules) (old new : Registers) (keeps : Bool) (place q : ℕ) (listed : Listed before row old keeps place) (first : FirstDifference place before.registers row.registers (Some q)) (added : (r : ℕ) → has new r ≡ (nat_eq r q || has old r)) where
+  between : (r : ℕ) → place ≤ r → r < suc q → nat_eq r q ≡ false → rule before r ≡ rule row r
+  between r ge lt ne = first.1 r ge (grind (arith, nat_tests, ne))
 
-    beside : (r : ℕ) → r < suc q → has new r ≡ false → rule before r ≡ rule row r
-    beside r lt none = elim (cases_Bool (nat_eq r q)) [
-      | inl e ↦ absurd (grind (arith, added r, e, none))
-      | inr e ↦ elim (cases_lt r place) [ inl below ↦ listed.beside r below (grind (arith, added r, e, none)) | inr ge ↦ between r ge lt e ]
-    ]
+  by_place : (P : ℕ → Type 0) (r : ℕ) → P q → (nat_eq r q ≡ false → r < place → P r) → (nat_eq r q ≡ false → place ≤ r → P r) → P r
+  by_place P r here below above = elim (cases_Bool (nat_eq r q)) [
+    | inl e ↦ subst P (sym (grind (arith, nat_tests, e))) here
+    | inr e ↦ elim (cases_lt r place) [ inl lt ↦ below e lt | inr ge ↦ above e ge ]
+  ]
 
-    only : (r : ℕ) → has new r ≡ true → (r < suc q) × (rule before r ≡ rule row r → ⊥)
-    only r is = elim (cases_Bool (nat_eq r q)) [
+  pub listed_more : (keeps' : Bool) → (keeps' ≡ true → (keeps ≡ true) × (is_specified (rule row q) ≡ true → is_specified (rule before q) ≡ true)) → Listed before row new keeps' (suc q)
+  listed_more keeps' more = record {
+    beside = λ r lt none. elim (cases_lt r place) [ inl below ↦ listed.beside r below (grind (arith, added r, none)) | inr ge ↦ between r ge lt (grind (arith, added r, none)) ];
+    only = λ r is. elim (cases_Bool (nat_eq r q)) [
       | inl e ↦ subst (λ (n : ℕ). (n < suc q) × (rule before n ≡ rule row n → ⊥)) (sym (grind (arith, nat_tests, e))) (omega arith, first.2)
       | inr e ↦ let own = listed.only r (grind (arith, added r, e, is)) in (omega (arith, own.0, first.0), own.1)
-    ]
-
-    specified : keeps' ≡ true → (r : ℕ) → r < suc q → is_specified (rule row r) ≡ true → is_specified (rule before r) ≡ true
-    specified all r lt is = elim (cases_Bool (nat_eq r q)) [
-      | inl e ↦ let at : r ≡ q = grind (arith, nat_tests, e) in subst (λ (n : ℕ). is_specified (rule before n) ≡ true) (sym at) ((more all).1 (subst (λ (n : ℕ). is_specified (rule row n) ≡ true) at is))
-      | inr e ↦ elim (cases_lt r place) [
-        | inl below ↦ listed.specified (more all).0 r below is
-        | inr ge ↦ subst (λ (x : RegRule). is_specified x ≡ true) (sym (between r ge lt e)) is
-      ]
-    ]
+    ];
+    specified = λ all r lt. by_place (λ (n : ℕ). is_specified (rule row n) ≡ true → is_specified (rule before n) ≡ true) r (more all).1 (λ e below. listed.specified (more all).0 r below)
+        (λ e ge is. subst (λ (x : RegRule). is_specified x ≡ true) (sym (between r ge lt e)) is);
+  }
 
 -- registers that others specify too all stay
 all_stay : (others : List Entry) (low : ℕ) (xs : List Entry) → AreSpecified low xs → ((r : ℕ) → is_specified (rule_in xs r) ≡ true → is_specified (rule_in others r) ≡ true) → filter (is_kept others) xs ≡ xs

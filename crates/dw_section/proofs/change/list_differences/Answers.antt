@@ -3,10 +3,10 @@ use Rattle.dw_section.proofs.change.list_differences.Goals as goal
 
 pub registers-preserved-then-keeps : goal.registers-preserved-then-keeps
 registers-preserved-then-keeps c =
-    listed_more c.args.steps.now.kept c.args.steps.now.steps.current c.registers.changed c.add.new.self c.registers.keeps c.is_kept_at-keeps.result (place_behind c.registers.last) c.in-Some.register
-    c.registers.invariant c.in-Some.ensures.first c.in_ok-add.ensures.added (λ is. (c.if-keeps.true, c.is_kept_at-keeps.ensures is))
+    listed_more c.args.steps.now.kept c.args.steps.now.steps.current c.registers.changed c.add.new.self c.registers.keeps (place_behind c.registers.last) c.in-Some.register
+    c.registers.invariant c.in-Some.ensures.first c.in_ok-add.ensures.added c.is_kept_at-keeps.result (λ is. (c.if-keeps.true, c.is_kept_at-keeps.ensures is))
 
 pub registers-preserved : goal.registers-preserved
 registers-preserved c =
-    listed_more c.args.steps.now.kept c.args.steps.now.steps.current c.registers.changed c.add.new.self c.registers.keeps c.registers.keeps (place_behind c.registers.last) c.in-Some.register
-    c.registers.invariant c.in-Some.ensures.first c.in_ok-add.ensures.added (λ is. absurd cc)
+    listed_more c.args.steps.now.kept c.args.steps.now.steps.current c.registers.changed c.add.new.self c.registers.keeps (place_behind c.registers.last) c.in-Some.register
+    c.registers.invariant c.in-Some.ensures.first c.in_ok-add.ensures.added c.registers.keeps (λ is. absurd cc)
