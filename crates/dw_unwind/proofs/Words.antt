@@ -12,9 +12,9 @@ pub use Rattle.dw_row.specs.{Rows.{AreSpecified, Rules, is_specified, rule, rule
 pub use Rattle.dw_section.specs.{Among.IsAmong, Fits.{CfaFits, HasBlock, RowFits, RuleFits}, Laws.{CfaIsSet, FdesExist, OneFdes, OneHeaders, OneRules, RulesExist, RulesFit}}
 pub use Rattle.dw_section.specs.{Meaning.{Covers, Lists, NoneCovers}, Ranges.{IsTable, fde_in}, declared.lookup.Fde.Fde}
 pub use Rattle.dw_section.proofs.Lent.RowFits.{rule_fits}
-pub use Rattle.dw_unwind.specs.Columns.{CfaFails, CfaIs, RegisterFails, RegisterIs, SavedBy, SavedByFails, ValueFails, ValueIs, defaulted, in_column, on_cfa, on_value, plus, recovered, saved_at, value_in}
+pub use Rattle.dw_unwind.specs.Columns.{CfaFails, CfaIs, RegisterFails, RegisterIs, SavedBy, SavedByFails, SavedFails, ValueFails, ValueIs, defaulted, in_column, on_cfa, on_value, plus, recovered, saved_at, value_in}
 pub use Rattle.dw_unwind.specs.Laws.{FaultMisses, FaultsInFrame, IsInFrame, WantedIsMissing, column_of}
-pub use Rattle.dw_unwind.specs.Unwound.{AreRegisters, FrameFails, FrameIs, IsCovered, IsListed, IsUncovered, OneFrame, Reached, Recovers, RegistersAre, RegistersFail, SomeFrame, Unwound, is_listed, stopped}
+pub use Rattle.dw_unwind.specs.Unwound.{AreRegisters, FrameFails, FrameIs, IsCovered, IsListed, IsUncovered, OneFrame, Reached, Recovers, RegistersAre, RegistersFail, SomeFrame, Unwound, is_device, is_listed, stopped}
 pub use Rattle.dw_unwind.specs.{UnwoundAt.{IsLed, LacksRow, by_index}, declared.by_index.UnwindAtError.UnwindAtError, declared.frame.Column.Column, declared.frame.Column.TheVariants.{Cfa, Register}, declared.frame.Frame.Frame}
 pub use Rattle.dw_unwind.specs.{declared.frame.UnwindError.UnwindError, declared.frame.UnwindError.TheVariants.{Device, Eval, NoFde, NoRegister, OutOfMemory, Unreadable}}
-pub use Rattle.dw_unwind.specs.{Inner.Recovery.{Adds, AddsOver, IsLeft, ListedBelow, Over, Rise, SoFar, ValueOver}, Inner.Room.registers_in}
+pub use Rattle.dw_unwind.specs.{Inner.Recovery.{Adds, AddsOver, IsLeft, ListedBelow, Over, RegistersOver, Rise, SoFar, ValueOver}, Inner.Room.registers_in}

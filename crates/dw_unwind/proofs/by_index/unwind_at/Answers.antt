@@ -8,6 +8,10 @@ mapped (Ok f) answer h = h
 mapped (Err e) (Ok f) h = absurd h
 mapped (Err e) (Err u) h = ap Err h
 
+unmapped : (r : Result Frame UnwindError) (e : UnwindError) → by_index r ≡ Err (Unwind e) → r ≡ Err e
+unmapped (Ok f) e same = absurd cc
+unmapped (Err x) e same = cc
+
 pub returns-in-Ok-clause-own : goal.returns-in-Ok-clause-own
 returns-in-Ok-clause-own g c = λ t.
     let a = c.args in
@@ -47,3 +51,6 @@ returns-in-Err-clause-own g c = λ t.
       | inl short ↦ (Err OutOfMemory, ap (λ (e : UnwindAtError). let r : Result Frame UnwindAtError = Err e in r) short, λ same. inl refl, λ grew. absurd (omega (arith, grew)))
       | inr none ↦ (Err NoFde, ap (λ (e : UnwindAtError). let r : Result Frame UnwindAtError = Err e in r) none.0, λ same. inr (inl (refl, none.1)), λ grew. absurd (omega (arith, grew)))
     ]
+
+pub returns-in-Ok-clause-device : goal.returns-in-Ok-clause-device
+returns-in-Ok-clause-device g c = λ e same. c.unwind_row.ensures.device e (unmapped c.unwind_row.result e (sym (mapped c.unwind_row.result c.map_err.result c.map_err.ensures.cases) ∙ same))
