@@ -27,8 +27,8 @@ rows-preserved g c =
     let kept = ok_of c.insert.result (Updates nat_cmp c.rows.places c.insert.new.self c.in-Some.register.now (Some (c.args.out.now.room - c.rows.out.room))) c.insert.ensures.updates c.if-is_err.ensures.negation in
     let same = c.in_ok-fill_cie.ensures.room in
     let put =
-        puts_from g.S.Sink.failures g.S.Sink.taken c.rows.sink (entry_bytes c.target-target.result (own g (goal.at.rows-preserved g c).In-Some)) (Ok c.in_ok-put_entry.field-0) _ _ _ _ _ (same.1 ∙ c.rows.invariant.counts) same.0
-        (c.in_ok-put_entry.ensures.puts (contents c.target-target.result (own g (goal.at.rows-preserved g c).In-Some)) c.in_ok-fill_cie.ensures.contents) in
+    puts_from g.S.Sink.failures g.S.Sink.taken c.rows.sink (entry_bytes c.target-target.result (own g (goal.at.rows-preserved g c).In-Some)) (Ok c.in_ok-put_entry.field-0) _ _ _ _ _ (same.1 ∙ c.rows.invariant.counts) same.0
+    (c.in_ok-put_entry.ensures.puts (contents c.target-target.result (own g (goal.at.rows-preserved g c).In-Some)) c.in_ok-fill_cie.ensures.contents) in
     cies_more c.rows.invariant one c.put_entry.new.out c.put_entry.new.sink (c.in_ok-put_entry.ensures.counts ∙ same.1) put kept.0
 
 pub returns-in_err-put_entry-clause-puts : goal.returns-in_err-put_entry-clause-puts

@@ -1,4 +1,5 @@
 use Rattle.dw_normal.proofs.{Words.{◌≡◌, ◌∙◌, Some, arith, ap, sym, length, canon, cies_bytes, fdes_bytes}, Alike.{alike, canon_like, cies_unlike, if_likens, unlike}, Placed.as_many, Reports.on_tape, likeness.same_tables.Goals.After-ne}
+use Rattle.dw_normal.proofs.Words.{List, [], Member, nil_from_length, refl}
 use Rattle.dw_normal.proofs.likeness.same_tables.Goals as goal
 
 pub returns-then-fde_count-count : goal.returns-then-fde_count-count
@@ -59,3 +60,14 @@ returns c = λ ms ns are others.
     let over = rw (c.room_for-first.ensures.ready, c.room_for-second.ensures.ready) at c.same_over-same.ensures in
     if_likens (ms ≡ ns) (fdes_bytes t ms ms ≡ fdes_bytes u ns ns) (canon t ms ≡ canon u ns) c.same_over-same.result
     (canon_like t u ms ns c.args.one.now.rows.entries c.args.two.now.rows.entries (c.requires.rows ms are) (c.requires.other_rows ns others) cies) (over ms ns are others)
+
+pub returns-then-count-eq0 : goal.returns-then-count-eq0
+returns-then-count-eq0 c = λ ms ns are others.
+    let at = (goal.at.returns-then-count-eq0 c).After-ne in
+    let t = c.args.one.now.table.target in
+    let u = c.args.two.now.table.target in
+    let none : ms ≡ [] = nil_from_length ms (omega (arith, as_many are c.fde_count-count.ensures, c.if-count-eq0.true)) in
+    let none' : ns ≡ [] = nil_from_length ns (omega (arith, as_many others c.fde_count.ensures, c.if-fde_count-count.false, c.if-count-eq0.true)) in
+    let same = alike c.into_bytes.result.items c.into_bytes-2.result.items c.ne.result c.ne.ensures c.if-ne.false in
+    let fdes : fdes_bytes t ms ms ≡ fdes_bytes u ns ns = ap (λ (l : List Member). fdes_bytes t l l) none ∙ sym (ap (λ (l : List Member). fdes_bytes u l l) none') in
+    (λ e. refl, λ yes. canon_like t u ms ns c.args.one.now.rows.entries c.args.two.now.rows.entries (c.requires.rows ms are) (c.requires.other_rows ns others) (sym (ones at) ∙ same ∙ others_are at) fdes)

@@ -20,7 +20,8 @@ pub registers-smaller : goal.registers-smaller
 registers-smaller c = shorter (next (goal.at.registers-smaller c).In-Some)
 
 pub returns : goal.returns
-returns c = record { put =
-    put_ends c.registers.invariant (none_differs c.args.shared.now c.args.before.now c.args.after.now (place_behind c.registers.last) c.in_default.ensures.first)
-    ∙ put_behind c.args.target c.args.shared.now c.args.before.now c.args.after.now c.args.out.now.items c.push_cfa.new.out.items c.in_ok-push_cfa.ensures;
-    }
+returns c = record {
+  put =
+      put_ends c.registers.invariant (none_differs c.args.shared.now c.args.before.now c.args.after.now (place_behind c.registers.last) c.in_default.ensures.first)
+      ∙ put_behind c.args.target c.args.shared.now c.args.before.now c.args.after.now c.args.out.now.items c.push_cfa.new.out.items c.in_ok-push_cfa.ensures;
+}

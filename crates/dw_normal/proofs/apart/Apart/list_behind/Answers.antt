@@ -22,3 +22,6 @@ returns-clause-known c =
     puts_notes _ c.args.cie_at c.args.register c.add_all-2.new.self old.cies c.match-take.self.known.cies c.note.new.self.cies (subst (λ (k : Known). AreLess old.cies k.cies) (sym both.0) c.take.ensures.less) c.note.ensures
     (λ row own.
     beside_both c.match-take.self.known.changed c.match-take.self.registers c.add_all-2.new.self c.args.shared.now row c.args.first.now c.in_ok-add_all.ensures.added (subst (λ (set : Registers). SameBeside set row c.args.first.now) (sym changed) own) both.1)
+
+pub returns-clause-lists : goal.returns-clause-lists
+returns-clause-lists c = (joined (goal.at.returns-clause-lists c).After-note).1
