@@ -1,6 +1,5 @@
 -- Entries that are built, and bytes that are put behind others.
 use Rattle.dw_normal.proofs.Words.{◌≡◌, ℕ, ◌+◌, ◌<◌, Bool, true, false, List, [], ◌++◌, length, Result, Ok, Err, refl, sym, ap, ◌∙◌, subst, arith, append_assoc, OnOk, IsTrue, is_ok, IsErrAnd, length-append, length-fixed, fixed_bytes}
-use Rattle.std.proofs.{Common.{drop, take}, Math.Seq.{drop-append_seam, take-append_seam}}
 use Rattle.dw_normal.proofs.Words.{Appends-nil, Appends-trans, Output, Stop, Full, Failed, Memory, Holds, Fills, Place, Puts, Sends, Takes, Order, Option, Target, Written, contents, entry_bytes, unsized, sink_at}
 
 -- ---- an entry
@@ -19,18 +18,6 @@ sized_long order n contents =
     omega (arith, length-append (fixed_bytes order 4 n) contents, length-append (fixed_bytes order 4 0) contents, length-fixed order 4 n, length-fixed order 4 0)
 
 -- ---- bytes that go out
-
--- what is read back of bytes that are as long
-pub took : (xs ys zs : List ℕ) (n : ℕ) → zs ≡ take n (xs ++ ys) → n ≡ length xs → zs ≡ xs
-took xs ys zs n is long = is ∙ ap (λ (m : ℕ). take m (xs ++ ys)) long ∙ take-append_seam xs ys
-
--- what is put is the entry with its length, where none of it is forgotten
-pub sized_puts : (order : Order) (contents old new put : List ℕ) (n : ℕ) (counts : Bool) (r : Result Unit Stop) (at to : Place) → counts ≡ false → old ≡ fixed_bytes order 4 0 ++ contents → n ≡ length contents
-    → new ≡ fixed_bytes order 4 n ++ drop 4 old → put ≡ new → Puts false put r at to → Puts counts (fixed_bytes order 4 (length contents) ++ contents) r at to
-sized_puts order contents old new put n counts r at to is whole long wrote same h =
-    let left : drop 4 old ≡ contents = ap (drop 4) whole ∙ ap (λ (m : ℕ). drop m (fixed_bytes order 4 0 ++ contents)) (sym (length-fixed order 4 0)) ∙ drop-append_seam (fixed_bytes order 4 0) contents in
-    let all : put ≡ fixed_bytes order 4 (length contents) ++ contents = same ∙ wrote ∙ ap (λ (l : List ℕ). fixed_bytes order 4 n ++ l) left ∙ ap (λ (m : ℕ). fixed_bytes order 4 m ++ contents) long in
-    subst (λ (x : Bool). Puts x (fixed_bytes order 4 (length contents) ++ contents) r at to) (sym is) (subst (λ (l : List ℕ). Puts false l r at to) all h)
 
 -- there is no room for them
 pub full_puts : (counts : Bool) (bytes : List ℕ) (r : Result Unit Stop) (e : Stop) (old new : Place) → IsErrAnd r (λ (x : Stop). x ≡ e) → e ≡ Full → old.room < length bytes → Puts counts bytes r old new

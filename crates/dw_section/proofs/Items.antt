@@ -98,15 +98,6 @@ item_again at target (entry form body) rest is =
       place,
     ) refl
 
--- what was taken is read
-pub item_taken : (old new : Input) (item : Item) → IsItem item → Takes old (item_bytes old.target.order item) new → item_at old ≡ Ok (item, new)
-item_taken old new item is t =
-    let b = item_bytes old.target.order item in
-    let same : ◌≡◌ {A = Input} (record { at = old.at + length b; bytes = new.bytes; target = old.target }) new = rw (← t.at, ← t.target) refl in
-    let answer : Input → Result (Item × Input) Refusal = λ j. Ok (item, j) in
-    subst (λ (s : List ℕ). item_at (record { at = old.at; bytes = s; target = old.target }) ≡ answer (record { at = old.at + length b; bytes = new.bytes; target = old.target }))
-    (sym t.bytes) (item_again old.at old.target item new.bytes is) ∙ ap answer same
-
 pub front_item : (order : Order) (a b : Item) (x y : List ℕ) → IsItem a → IsItem b → item_bytes order a ++ x ≡ item_bytes order b ++ y → (a ≡ b) × (x ≡ y)
 front_item order a b x y h k e =
     let target : Target = record { size = Four; order = order } in

@@ -1,5 +1,4 @@
-use Rattle.dw_normal.proofs.Words.{◌≡◌, AreSpecified, refl, sym, ap, ◌∙◌, subst, OnOk, Rules, agreed, agreed_of, kept_by, row_or_blank, shown_row, kept, AgreesBeside}
-use Rattle.dw_normal.proofs.{Filled.on_ok, KnownCies.{agreed_kept, notes_more, shared_beside, still_kept}}
+use Rattle.dw_normal.proofs.{Words.{◌≡◌, AreSpecified, sym, ap, ◌∙◌, subst, OnOk, Rules, agreed, agreed_of, kept_by, row_or_blank, shown_row, kept, AgreesBeside}, Filled.on_ok, KnownCies.{agreed_kept, notes_more, shared_beside, still_kept}}
 use Rattle.dw_normal.proofs.groups.share_with.Goals as goal
 
 pub returns-in_default-behind-clause-row : goal.returns-in_default-behind-clause-row
@@ -44,6 +43,3 @@ returns-clause-known c =
     (λ e. notes_more _ _ (λ set h row same. subst (λ (x : Rules). AgreesBeside set x row) (sym e) (shared_beside set s first row c.agree-2.new.shared c.args.changes.now.to_come c.ascends.ensures c.in_ok-agree.ensures.row (h row same)))
     c.in-Some-behind.behind.cie_at c.args.register c.args.known.now.cies c.agree-2.new.self.cies before)
     c.narrow_further.ensures.row)
-
-pub returns-in_default-behind-clause-known : goal.returns-in_default-behind-clause-known
-returns-in_default-behind-clause-known c = rw c.in_default-behind.is (on_ok c.narrow.result _ _ (λ e. refl) c.narrow.ensures.row)

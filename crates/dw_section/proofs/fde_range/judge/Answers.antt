@@ -2,23 +2,21 @@ use Rattle.dw_section.proofs.Words.{◌≡◌, ◌<◌, ◌∙◌, ℕ, List, Op
 use Rattle.dw_section.proofs.{Lent.Judged.{all_get, behind_found, behind_broken}, Stages.handed_on, Tables.judged_more, fde_range.judge.Goals.After-go_to}
 use Rattle.dw_section.proofs.fde_range.judge.Goals as goal
 
-inside : (c : After-go_to) → c.args.found < length c.args.initials.now
-inside c = omega (arith, c.requires.fits.2.0, length-map c.args.initials.now place_of)
-
--- the CIE stands at the FDE's place
-place : (c : After-go_to) → c.index-initials-found.result.at ≡ c.args.fde.now.cie_at
-place c = let cie = c.index-initials-found in ap place_of cie.is ∙ sym (get_or-map place_of c.args.initials.now c.args.found cie.result 0 (inside c)) ∙ c.requires.fits.2.1
-
 module _ (c : After-go_to) (hs : List Head) (all : AreAmong hs c.args.initials.now) where
+  inside : c.args.found < length c.args.initials.now
+  inside = omega (arith, c.requires.fits.2.0, length-map c.args.initials.now place_of)
+
   among : IsAmong (initial_in c.index-initials-found.result) hs
   among =
       let cie = c.index-initials-found in
-      subst (λ (x : Initial). IsAmong (initial_in x) hs) (sym cie.is) (all_get (λ (x : Initial). IsAmong (initial_in x) hs) c.args.initials.now c.args.found cie.result all (inside c))
+      subst (λ (x : Initial). IsAmong (initial_in x) hs) (sym cie.is) (all_get (λ (x : Initial). IsAmong (initial_in x) hs) c.args.initials.now c.args.found cie.result all inside)
 
   -- the walk was led to the CIE at the FDE's place
   behind : AreLed c.args.target hs c.args.walks.now → LedTo c.args.target hs (Some c.args.fde.now.cie_at) c.lead.new.self.walk.led
   behind led =
-      subst (λ (n : ℕ). LedTo c.args.target hs (Some n) c.lead.new.self.walk.led) (place c)
+      let cie = c.index-initials-found in
+      let at : cie.result.at ≡ c.args.fde.now.cie_at = ap place_of cie.is ∙ sym (get_or-map place_of c.args.initials.now c.args.found cie.result 0 inside) ∙ c.requires.fits.2.1 in
+      subst (λ (n : ℕ). LedTo c.args.target hs (Some n) c.lead.new.self.walk.led) at
       (subst (λ (n : Option ℕ). LedTo c.args.target hs n c.lead.new.self.walk.led) c.lead.ensures.at (c.lead.ensures.led hs among led).0)
 
 pub returns-in_err-lacks-clause-stuck : goal.returns-in_err-lacks-clause-stuck
@@ -45,6 +43,3 @@ returns-in_err-keep_range-clause-led c = λ hs all led. rw (c.in_ok-lacks.ensure
 
 pub returns-clause-led : goal.returns-clause-led
 returns-clause-led c = λ hs all led. rw (c.in_ok-lacks.ensures.led, c.go_to.ensures.led) (c.lead.ensures.led hs (among (goal.at.returns-clause-led c).After-go_to hs all) led)
-
-pub keep_range-requires-clause-names : goal.keep_range-requires-clause-names
-keep_range-requires-clause-names c = place (goal.at.keep_range-requires-clause-names c).After-go_to

@@ -66,16 +66,3 @@ returns-clause-own c = λ t fs are.
     let own = same_fde c.in-Some-2.found.own.begin c.in-Some-2.found.own.range c.in-Some-2.found.cie.return_register l.0.begin l.0.range l.0.return_register same.begin same.range same.register_is in
     let among = fde_listed (fde_in l.0) (map fde_in list) l.1.0 (omega (arith, l.1.1, length-map list fde_in)) (λ d. listed_fde list l.1.0 l.0 d l.1.1 (l.1.2 l.0)) in
     subst (λ (f : Fde). IsAmong f fs) (sym own) (subst (IsAmong (fde_in l.0)) (listed_are _ _ list t fs are) among)
-
-pub returns-in_default-2-clause-bad : goal.returns-in_default-2-clause-bad
-returns-in_default-2-clause-bad c = λ is. (
-  c.from.result,
-  leads (goal.at.returns-in_default-2-clause-bad c).After-from,
-  λ own named stands place le lt. let some = rw c.in_default-2.is at (c.in_ok-found.ensures.only (own, named, stands, place)) in absurd cc,
-)
-
-pub returns-clause-found : goal.returns-clause-found
-returns-clause-found c =
-    let l = leads (goal.at.returns-clause-found c).After-from in
-    let found = rw c.in-Some-2.is at c.in_ok-found.ensures.found in
-    (refl, refl, refl, (l.0, l.1, l.2, found.0 ∙ l.3))
