@@ -25,19 +25,19 @@ impl fmt::Display for Place {
 #[derive(Debug, Drop, Error)]
 pub enum Failure<'a> {
     /// A section or a block is refused, or a normal form passes its cap.
-    #[error("refused: {} at {:#x}", .0.code.name(), .0.at)]
+    #[error("refused: {} at {:#x}", .0.code, .0.at)]
     Refused(Refusal),
     /// What is wrong with one of two sections, and with which.
-    #[error("refused: {} at {:#x} in {}", .0.code.name(), .0.at, .1)]
+    #[error("refused: {} at {:#x} in {}", .0.code, .0.at, .1)]
     RefusedIn(Refusal, &'static str),
     /// A dump is refused.
-    #[error("refused: {} at line {}", .0.code.name(), .0.line)]
+    #[error("refused: {} at line {}", .0.code, .0.line)]
     Dump(DumpFault),
     /// What an expression ends with, and the operation's index.
-    #[error("fault: {} at {}", .0.name(), .1)]
+    #[error("fault: {0} at {1}")]
     Evaluation(Kind, usize),
     /// What an expression of a column ends with, and the operation's index.
-    #[error("fault: {} at {} in {}", .0.name(), .1, .2)]
+    #[error("fault: {0} at {1} in {2}")]
     Value(Kind, usize, Place),
     /// What is wrong in a column.
     #[error("fault: {0} in {1}")]
