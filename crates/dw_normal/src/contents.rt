@@ -2,10 +2,9 @@
 
 ghost use Rattle.std.specs.{Prelude.{◌≡◌, ℕ, ◌+◌, ◌++◌, ◌<◌, ◌≤◌, ◌^◌, List, drop, length, OnOk}, List.AllByRecursion};
 ghost use Rattle.dw_num.specs.{Fixed.fixed_bytes, Target.{address_limit, byte_count}};
-ghost use Rattle.dw_canon.specs.Written.{fde_field_bytes};
-ghost use Rattle.dw_canon.specs.Inner.{Canon.cie_instrs, Fits.InstrFits, Spelling.program_bytes};
-ghost use Rattle.dw_normal.specs.Inner.{Begun.{IsReady, KeepsFde}, ChangeWalk.{Stand, later_bytes}, Lengths.cie_with};
-ghost use Rattle.dw_normal.specs.Inner.{Puts.{Fills, Holds, SameRoom}, Writing.{FillsBegun, unsized}};
+ghost use Rattle.dw_canon.specs.{Written.fde_field_bytes, Inner.{Canon.cie_instrs, Fits.InstrFits, Spelling.program_bytes}};
+ghost use Rattle.dw_normal.specs.Inner.{Begun.{IsReady, KeepsFde}, ChangeWalk.{Stand, later_bytes}, Lengths.cie_with, Puts.{Fills, Holds, SameRoom}};
+ghost use Rattle.dw_normal.specs.Inner.Writing.{FillsBegun, unsized};
 
 use crate::apart::Differences;
 use crate::begun::Begun;

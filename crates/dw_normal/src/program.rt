@@ -3,8 +3,7 @@
 ghost use Rattle.std.specs.{Prelude.{◌≡◌, ◌++◌, IfOk, OnOk}, List.AllByRecursion};
 ghost use Rattle.dw_row.specs.{Rows.rule, Inner.Agreement.same_rule, declared.rule.RegRule.TheVariants.Offset};
 ghost use Rattle.dw_canon.specs.Inner.{Difference.{cfa_difference, rule_to}, Fits.InstrFits, Spelling.{instr_bytes, program_bytes}};
-ghost use Rattle.dw_normal.specs.Inner.{Apart.StandsApart, ChangeWalk.{GoesOn, IsShown, Stand, shown_row}};
-ghost use Rattle.dw_normal.specs.Inner.Differences.{CanLead, Leads, Tells};
+ghost use Rattle.dw_normal.specs.Inner.{Apart.StandsApart, ChangeWalk.{GoesOn, IsShown, Stand, shown_row}, Differences.{CanLead, Leads, Tells}};
 
 use crate::apart::{Apart, Differences};
 use crate::instruction::{

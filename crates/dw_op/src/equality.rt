@@ -1,8 +1,7 @@
 //! Equality of expressions, and their hash.
 
 ghost use Rattle.std.specs.{Prelude.{◌≡◌, IsTrue, ◌↔◌, map}, List.fold};
-ghost use Rattle.dw_op.specs.Expression.{bare};
-ghost use Rattle.dw_op.specs.Inner.Equality.{line, op_line, lines_fed};
+ghost use Rattle.dw_op.specs.{Expression.bare, Inner.Equality.{line, op_line, lines_fed}};
 
 use crate::expression::OpSteps;
 use crate::op::{Op, alone_code};

@@ -3,8 +3,7 @@
 ghost use Rattle.std.specs.Prelude.{◌≡◌, ℕ, OnOk};
 ghost use Rattle.dw_row.specs.{Agreement.IsAgreed, Difference.{FirstDifference, place_behind}, RegisterSets.{AgreesBeside, SameBeside}};
 ghost use Rattle.dw_row.specs.Inner.{Agreement.is_agreed, Among.{CopiedUpTo, SameUnlisted, in_mask, in_tree}, Difference.SameUnset};
-ghost use Rattle.dw_row.specs.Inner.Entries.{LeavesAmong, LeavesAt};
-ghost use Rattle.dw_row.specs.Rows.{AreSpecified, rule_in};
+ghost use Rattle.dw_row.specs.{Inner.Entries.{LeavesAmong, LeavesAt}, Rows.{AreSpecified, rule_in}};
 
 use crate::behind::{place_behind, start_behind};
 use crate::in_common::agree_cfa;

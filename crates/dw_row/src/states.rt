@@ -2,8 +2,7 @@
 
 ghost use Rattle.std.specs.Prelude.{◌≡◌, ◌<◌, ℕ, ℤ, [], length, reverse, None, OnOk, IfOk, OnErr, IsTrue, ◌↔◌, false, true};
 ghost use Rattle.dw_row.specs.{Difference.{FirstDifference, place_behind}, Rows.{AreSpecified, blank, rule_in, with_cfa, with_rule}};
-ghost use Rattle.dw_row.specs.Inner.{Kept.KeptSo, States.{TakenBack, rows_before}};
-ghost use Rattle.dw_row.specs.States.{first_if, BeganWith, Restored, remembering, with_row};
+ghost use Rattle.dw_row.specs.{Inner.{Kept.KeptSo, States.{TakenBack, rows_before}}, States.{first_if, BeganWith, Restored, remembering, with_row}};
 
 use crate::entries::NEAR;
 use crate::kept_row::KeptRow;

@@ -33,8 +33,7 @@ pub enum UnwindAtError {
     Unwind(UnwindError),
 }
 
-// The law of sections that a proof here cites, alone: each law that is called goes into a proof.
-fn cited_law()
+fn cfa_is_set()
     ensures { CfaIsSet }
 {
     section_laws();
@@ -54,7 +53,7 @@ fn row_at<'a>(
     ensures set { OnOk result (room.new.cfa ≡ Unset → ⊥) }
     ensures fits { OnOk result (RowFits target room.new) }
 {
-    cited_law();
+    cfa_is_set();
     are_bytes(bytes);
     match look_up(bytes, target, index, address, room) {
         Ok(Some(fde)) => {
