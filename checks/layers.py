@@ -17,7 +17,7 @@ import sys
 
 from definitions import WORD, imports, read
 
-BY_PROMISES = ("dw_section", "dw_dump", "dw_unwind")
+BY_PROMISES = ("dw_section", "dw_dump", "dw_frame", "dw_unwind")
 # Definitions of specs/Inner, lemmas of proofs. A lemma of a crate of BY_PROMISES counts too: what is left is listed in docs/PROVING.md.
 BUDGETS = {
     "dw_op": (3, 52),
@@ -28,7 +28,8 @@ BUDGETS = {
     "dw_canon": (44, 97),
     "dw_normal": (43, 45),
     "dw_dump": (0, 2),
-    "dw_unwind": (0, 5),
+    "dw_frame": (0, 4),
+    "dw_unwind": (0, 1),
     "dw_show": (3, 6),
     "dw_command": (0, 4),
     "dw_library": (0, 4),

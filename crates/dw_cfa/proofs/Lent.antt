@@ -13,3 +13,4 @@ pub mod FaultLaws
 pub mod BehindLaws
 pub mod InstrCounts
 pub mod Openings
+pub mod RowFits

@@ -1,8 +1,9 @@
 -- A frame by an index or why there is none, as the functions over an index answer.
 use Rattle.dw_library.proofs.Words.{◌≡◌, ◌⊎◌, ℕ, List, Option, Some, Result, Ok, Err, MatchResult, map, subst, inl, inr, Target, Policy, held, Ranged, Accepted, IsTable, range_in, Stop, not_refused, Machine, Told, IsFrame, IsUnwound}
 use Rattle.dw_library.proofs.Words.{no_frame, status_of, told_fault, Register, given_in, byte_among}
-use Rattle.dw_unwind.specs.{Unwound.{Unwound, stopped}, UnwoundAt.UnwoundAt, declared.by_index.UnwindAtError.UnwindAtError, declared.by_index.UnwindAtError.TheVariants.Unwind, declared.frame.Frame.{Frame as CallerFrame}}
-use Rattle.dw_unwind.specs.declared.frame.{UnwindError.UnwindError, UnwindError.TheVariants.OutOfMemory}
+use Rattle.dw_unwind.specs.{Unwound.Unwound, UnwoundAt.UnwoundAt, declared.by_index.UnwindAtError.UnwindAtError, declared.by_index.UnwindAtError.TheVariants.Unwind}
+use Rattle.dw_frame.specs.{Frames.stopped, declared.frame.Frame.{Frame as CallerFrame}}
+use Rattle.dw_frame.specs.declared.frame.{UnwindError.UnwindError, UnwindError.TheVariants.OutOfMemory}
 use Rattle.dw_library.specs.{FrameAt.IsFrameAt, Inner.FrameAt.{IsOwn, Why, WhyOwn}}
 
 is_accepted : (target : Target) (s : List ℕ) (index : List Ranged) → IsTable target s index → Accepted target s

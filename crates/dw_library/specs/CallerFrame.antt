@@ -5,9 +5,10 @@ use Rattle.dw_eval.specs.{Kinds.kind_entry, Registers.held, declared.error.Kind.
 use Rattle.dw_eval.specs.declared.policy.{Policy.Policy, Policy.TheVariants.{SameValue, Undefined}}
 use Rattle.dw_eval.specs.declared.error.Kind.TheVariants as kinds
 use Rattle.dw_section.specs.Accepted.{Accepted, CheckFault}
-use Rattle.dw_unwind.specs.{Unwound.{Unwound, stopped}, declared.frame.Column.Column}
-use Rattle.dw_unwind.specs.declared.frame.{Column.TheVariants.{Cfa, Register as RegisterColumn}, Frame.{Frame as CallerFrame}, UnwindError.UnwindError}
-use Rattle.dw_unwind.specs.declared.frame.UnwindError.TheVariants as errors
+use Rattle.dw_frame.specs.{Frames.stopped, declared.frame.Column.Column}
+use Rattle.dw_frame.specs.declared.frame.{Column.TheVariants.{Cfa, Register as RegisterColumn}, Frame.{Frame as CallerFrame}, UnwindError.UnwindError}
+use Rattle.dw_frame.specs.declared.frame.UnwindError.TheVariants as errors
+use Rattle.dw_unwind.specs.Unwound.{Unwound}
 use Rattle.dw_library.specs.{Answers.{refused, out_of_memory, bad_argument, not_refused, told}, Registers.{given_in, told_register, AreTold}}
 use Rattle.dw_library.specs.{Windows.byte_among, declared.answer.Refused.Refused, declared.caller.Fault.Fault}
 use Rattle.dw_library.specs.declared.{caller.Frame.Frame, held.Held.Held, caller.Stop.Stop, held.Register.Register, held.Window.Window}

@@ -4,7 +4,7 @@ use Rattle.dw_num.specs.declared.{refusal.Refusal.Refusal, target.Target.Target}
 use Rattle.dw_op.specs.{Faults.{BlockFault, IsBlock}, declared.op.Op.Op, declared.profile.Profile.TheVariants.Location}
 use Rattle.dw_eval.specs.{Context.{Context as Surroundings}, Evaluation.{Evaluates, first_stack}, Registers.held}
 use Rattle.dw_eval.specs.declared.error.{EvalError.EvalError, EvalError.TheVariants.{Fault as Faults}, Kind.Kind}
-use Rattle.dw_unwind.specs.declared.frame.Column.TheVariants.{Register as RegisterColumn}
+use Rattle.dw_frame.specs.declared.frame.Column.TheVariants.{Register as RegisterColumn}
 use Rattle.dw_library.specs.Answers.{ok, refused, out_of_memory, bad_argument, not_refused, told}
 use Rattle.dw_library.specs.{CallerFrame.{Machine, fault_of_kind, no_fault}, Registers.given_in, Windows.byte_among}
 use Rattle.dw_library.specs.declared.{answer.Refused.Refused, caller.Fault.Fault, evaluation.Context.Context}

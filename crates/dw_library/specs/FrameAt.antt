@@ -3,8 +3,9 @@ use Rattle.std.specs.Prelude.{◌≡◌, ◌⊎◌, ℕ, List, map, Option, Some
 use Rattle.dw_num.specs.declared.target.Target.{Target}
 use Rattle.dw_eval.specs.{Registers.held, declared.policy.Policy.Policy}
 use Rattle.dw_section.specs.Ranges.{IsTable, Ranged}
-use Rattle.dw_unwind.specs.{Unwound.stopped, UnwoundAt.UnwoundAt, declared.by_index.UnwindAtError.UnwindAtError}
-use Rattle.dw_unwind.specs.declared.{by_index.UnwindAtError.TheVariants.{BadIndex, Refused, Unwind}, frame.Frame.{Frame as CallerFrame}}
+use Rattle.dw_frame.specs.{Frames.stopped, declared.frame.Frame.{Frame as CallerFrame}}
+use Rattle.dw_unwind.specs.{UnwoundAt.UnwoundAt, declared.by_index.UnwindAtError.UnwindAtError}
+use Rattle.dw_unwind.specs.declared.by_index.UnwindAtError.TheVariants.{BadIndex, Refused, Unwind}
 use Rattle.dw_library.specs.Answers.{refused, out_of_memory, bad_argument, not_refused, told}
 use Rattle.dw_library.specs.CallerFrame.{Machine, Told, IsUnwound, no_frame, no_fault, says, status_of, told_fault, told_frame}
 use Rattle.dw_library.specs.{Registers.{given_in, told_register, AreTold}, Windows.byte_among, declared.caller.Stop.Stop, declared.held.Register.Register}

@@ -16,7 +16,6 @@ pub mod Sames
 pub mod Exists
 pub mod Fitting
 pub mod Sounds
-pub mod RowFits
 pub mod Totals
 pub mod OneLengths
 pub mod OpeningLaws

@@ -12,8 +12,9 @@ use Rattle.dw_section.specs.{Meaning.{AreFdes, Covers, NoneCovers, RulesAt, tota
 use Rattle.dw_section.specs.declared.{entry.Entry.Entry, entry.EntryCounts.EntryCounts, lookup.Fde.Fde}
 use Rattle.dw_canon.specs.Members.{AreMembers, Member, changes_of}
 use Rattle.dw_dump.specs.{Describes.{Describes, RefusesDump}, Dump.Say, Lines.lines_of, Ranges.byte_in, Statement.Statement, declared.dump.Dump.Dump}
-use Rattle.dw_unwind.specs.{Unwound.{Unwound, stopped}, declared.frame.Frame.Frame}
-use Rattle.dw_unwind.specs.declared.frame.UnwindError.TheVariants as unwind_error
+use Rattle.dw_frame.specs.{Frames.stopped, declared.frame.Frame.Frame}
+use Rattle.dw_frame.specs.declared.frame.UnwindError.TheVariants as unwind_error
+use Rattle.dw_unwind.specs.Unwound.{Unwound}
 use Rattle.dw_words.specs.declared.request.Evaluation.{Evaluation}
 use Rattle.dw_words.specs.declared.request.{Lookup.Lookup, Unwinding.Unwinding}
 use Rattle.dw_files.specs.declared.files.{LoadError.LoadError, LoadError.TheVariants.CannotRead}

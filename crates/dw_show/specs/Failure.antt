@@ -6,9 +6,9 @@ use Rattle.dw_num.specs.declared.error.ReadError.TheVariants as read_error
 use Rattle.dw_eval.specs.declared.error.EvalError.{EvalError}
 use Rattle.dw_eval.specs.declared.error.EvalError.TheVariants as eval_error
 use Rattle.dw_dump.specs.declared.fault.DumpError.{DumpError}
-use Rattle.dw_unwind.specs.declared.frame.{Column.Column, UnwindError.UnwindError}
+use Rattle.dw_frame.specs.declared.frame.{Column.Column, UnwindError.UnwindError}
 use Rattle.dw_dump.specs.declared.fault.DumpError.TheVariants as dump_error
-use Rattle.dw_unwind.specs.declared.frame.UnwindError.TheVariants as unwind_error
+use Rattle.dw_frame.specs.declared.frame.UnwindError.TheVariants as unwind_error
 use Rattle.dw_files.specs.declared.files.LoadError.{LoadError}
 use Rattle.dw_files.specs.declared.files.LoadError.TheVariants as load_error
 use Rattle.dw_words.specs.declared.request.PlanError.{PlanError}

@@ -4,7 +4,7 @@ use Rattle.hex.specs.Hex.{encode_lower}
 use Rattle.dw_num.specs.declared.target.{Form.Form, Form.TheVariants.{Dwarf32, Dwarf64}}
 use Rattle.dw_op.specs.declared.op.Op.{Op}
 use Rattle.dw_section.specs.declared.entry.{Entry.Entry, EntryCounts.EntryCounts, Kind.Kind, Kind.TheVariants.{Cie, Fde}}
-use Rattle.dw_unwind.specs.declared.frame.Frame.{Frame}
+use Rattle.dw_frame.specs.declared.frame.Frame.{Frame}
 use Rattle.dw_show.specs.OpTexts.{op_text}
 
 abbrev pub line_end : List ℕ

@@ -1,17 +1,11 @@
 -- The words of specs and of std that the proofs cite, passed on from one place. Declares nothing.
 pub use Rattle.std.specs.List.{AllByRecursion, AllZip}
-pub use Rattle.std.proofs.Common.{AllPairs, Bool, Err, IsTrue, List, MatchResult, None, Ok, Option, Result, Some, [], ap, arith, eq-eqb, eqb-true, false, get_or, inl, inr, is_some, length, map, ne_eqb, ok_or, option_and_then, option_map}
-pub use Rattle.std.proofs.{Common.{refl, subst, suc, sym, take_all, true, zero, ℕ, ◌++◌, ◌+◌, ◌<◌, ◌==◌, ◌||◌, ◌∙◌, ◌∷◌, ◌≡◌, ◌≤◌, ◌⊎◌}, lemmas.{Bool.{cases_Bool, cases_lt}, Option.slice_get_past, Result.err_from_is_err_and}}
-pub use Rattle.dw_num.specs.{Target.byte_count, declared.target.Target.Target}
-pub use Rattle.dw_op.specs.Expression.{Expression}
-pub use Rattle.dw_eval.specs.{Context.{Context, context, read_at}, Evaluation.{Evaluates, MayFailAt, first_stack}, Laws.{OneResult, WantedByValue}, Registers.held, declared.{error.EvalError.EvalError, policy.Policy.Policy}}
-pub use Rattle.dw_row.specs.{Rows.{AreSpecified, Rules, is_specified, rule, rule_in}, declared.rule.{CfaRule.CfaRule, RegRule.RegRule}}
-pub use Rattle.dw_section.specs.{Among.IsAmong, Fits.{CfaFits, HasBlock, RowFits, RuleFits}, Laws.{CfaIsSet, FdesExist, OneFdes, OneHeaders, OneRules, RulesExist, RulesFit}, Meaning.{Covers, Lists, NoneCovers}, Ranges.{IsTable, fde_in}}
-pub use Rattle.dw_section.specs.declared.lookup.Fde.{Fde}
-pub use Rattle.dw_section.proofs.Lent.RowFits.{rule_fits}
-pub use Rattle.dw_unwind.specs.Columns.{CfaFails, CfaIs, RegisterFails, RegisterIs, SavedBy, SavedByFails, SavedFails, ValueFails, ValueIs, defaulted, in_column, on_cfa, on_value, plus, recovered, saved_at, value_in}
-pub use Rattle.dw_unwind.specs.Laws.{FaultMisses, FaultsInFrame, IsInFrame, WantedIsMissing, column_of}
-pub use Rattle.dw_unwind.specs.Unwound.{AreRegisters, FrameFails, FrameIs, IsCovered, IsListed, IsUncovered, OneFrame, Reached, Recovers, RegistersAre, RegistersFail, SomeFrame, Unwound, is_device, is_listed, stopped}
-pub use Rattle.dw_unwind.specs.{UnwoundAt.{IsLed, LacksRow, by_index}, declared.{by_index.UnwindAtError.UnwindAtError}}
-pub use Rattle.dw_unwind.specs.declared.frame.{Column.{Column, TheVariants.{Cfa, Register}}, Frame.Frame, UnwindError.{UnwindError, TheVariants.{Device, Eval, NoFde, NoRegister, OutOfMemory, Unreadable}}}
-pub use Rattle.dw_unwind.specs.Inner.{Recovery.{Adds, AddsOver, IsLeft, ListedBelow, Over, RegistersOver, Rise, SoFar, ValueOver}, Room.registers_in}
+pub use Rattle.std.proofs.Common.{Err, List, MatchResult, None, Ok, Option, Result, Some, [], ap, arith, inl, inr, map, refl, subst, sym, ℕ, ◌∙◌, ◌∷◌, ◌≡◌, ◌≤◌, ◌⊎◌}
+pub use Rattle.std.proofs.lemmas.Bool.{cases_lt}
+pub use Rattle.dw_num.specs.declared.target.Target.{Target}
+pub use Rattle.dw_eval.specs.{Context.Context, declared.policy.Policy.Policy}
+pub use Rattle.dw_row.specs.Rows.{Rules}
+pub use Rattle.dw_section.specs.{Among.IsAmong, Laws.{CfaIsSet, FdesExist, OneFdes, OneHeaders, OneRules, RulesExist, RulesFit}, Meaning.{Covers, Lists, NoneCovers}, Ranges.{IsTable, fde_in}, declared.lookup.Fde.Fde}
+pub use Rattle.dw_frame.specs.{Frames.{FrameIs, stopped}, Laws.{FaultMisses, FaultsInRow, OneOfRow, SomeOfRow, WantedOfRow, column_of}}
+pub use Rattle.dw_frame.specs.declared.frame.{Column.Column, Frame.Frame, UnwindError.{UnwindError, TheVariants.{NoFde, OutOfMemory}}}
+pub use Rattle.dw_unwind.specs.{Laws.{FaultsInFrame, WantedIsMissing}, Unwound.{IsCovered, IsUncovered, OneFrame, SomeFrame, Unwound}, UnwoundAt.{IsLed, LacksRow, by_index}, declared.by_index.UnwindAtError.UnwindAtError}

@@ -1,4 +1,2 @@
 -- How the code keeps what the contracts say. No clause of a `pub fn` reaches these.
-pub mod Recovery
 pub mod Found
-pub mod Room

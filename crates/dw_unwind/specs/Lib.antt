@@ -1,5 +1,3 @@
-pub mod Codes
-pub mod Columns
 pub mod Unwound
 pub mod UnwoundAt
 pub mod Laws

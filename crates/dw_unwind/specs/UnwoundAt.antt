@@ -6,9 +6,9 @@ use Rattle.dw_eval.specs.{Context.Context, declared.policy.Policy.Policy}
 use Rattle.dw_row.specs.{Rows.Rules, declared.rule.CfaRule.TheVariants.Unset}
 use Rattle.dw_section.specs.{Ranges.{LeadsTo, Ranged, Uncovered}, StandingFde.{LookUpFault, Misleads, RulesOf}}
 use Rattle.dw_section.specs.declared.lookup.Fde.{Fde}
-use Rattle.dw_unwind.specs.Unwound.{FrameIs, FrameFails}
+use Rattle.dw_frame.specs.Frames.{FrameIs, FrameFails}
 use Rattle.dw_unwind.specs.declared.by_index.{UnwindAtError.UnwindAtError, UnwindAtError.TheVariants.{BadIndex, Refused, Unwind}}
-use Rattle.dw_unwind.specs.declared.frame.{Frame.Frame, UnwindError.UnwindError, UnwindError.TheVariants.{NoFde, OutOfMemory}}
+use Rattle.dw_frame.specs.declared.frame.{Frame.Frame, UnwindError.UnwindError, UnwindError.TheVariants.{NoFde, OutOfMemory}}
 
 -- an answer of `unwind`, as one by an index
 abbrev pub by_index : Result Frame UnwindError → Result Frame UnwindAtError

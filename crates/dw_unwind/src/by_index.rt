@@ -3,16 +3,16 @@
 ghost use Rattle.std.specs.Prelude.{◌≡◌, ◌⊎◌, ◌-◌, ◌^◌, ◌<◌, ◌≤◌, true, IfOk, IfErr, OnOk, Result, Err};
 ghost use Rattle.dw_row.specs.declared.rule.CfaRule.TheVariants.{Unset};
 ghost use Rattle.dw_section.specs.{Fits.RowFits, Laws.CfaIsSet, Ranges.IsTable};
-ghost use Rattle.dw_unwind.specs.{Unwound.{Unwound, UnwindFails, is_device, stopped}, UnwoundAt.{IsLed, LacksRow, UnwoundAt, UnwindAtFails, by_index}};
-ghost use Rattle.dw_unwind.specs.declared.frame.{Frame.{Frame as TheFrame}, UnwindError.{UnwindError as TheError}};
-ghost use Rattle.dw_unwind.specs.{Inner.Found.FindsRow, declared.frame.UnwindError.TheVariants.OutOfMemory};
+ghost use Rattle.dw_frame.specs.Frames.{is_device, stopped};
+ghost use Rattle.dw_unwind.specs.{Unwound.{Unwound, UnwindFails}, UnwoundAt.{IsLed, LacksRow, UnwoundAt, UnwindAtFails, by_index}};
+ghost use Rattle.dw_frame.specs.declared.frame.{Frame.{Frame as TheFrame}, UnwindError.{UnwindError as TheError}};
+ghost use Rattle.dw_frame.specs.declared.frame.UnwindError.TheVariants.{OutOfMemory};
+ghost use Rattle.dw_unwind.specs.Inner.Found.{FindsRow};
 ghost use Rattle.dw_unwind.specs.declared.by_index.UnwindAtError.TheVariants as TheUnwindAtError;
 
-use crate::frame::{Frame, UnwindError};
-use crate::frame_room::FrameRoom;
-use crate::machine::unwind_row;
 use dw_cfa::RowRoom;
 use dw_eval::{Memory, Policy, Registers};
+use dw_frame::{Frame, FrameRoom, UnwindError, unwind_row};
 use dw_num::{Refusal, Target, are_bytes};
 use dw_row::CfaRule;
 use dw_section::{LookUpError, Ranged, Table, look_up, section_laws};

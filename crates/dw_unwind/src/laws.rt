@@ -2,8 +2,7 @@
 
 ghost use Rattle.dw_unwind.specs.{Laws.{FaultsInFrame, WantedIsMissing}, Unwound.{OneFrame, SomeFrame}};
 
-use dw_eval::evaluation_laws;
-use dw_op::block_laws;
+use dw_frame::frame_laws;
 use dw_section::section_laws;
 
 /// An accepted section gives a machine that stopped exactly one frame or fault, and the fault's column is the CFA or a register that the
@@ -14,7 +13,6 @@ pub fn unwind_laws()
     ensures column { FaultsInFrame }
     ensures wanted { WantedIsMissing }
 {
-    evaluation_laws();
-    block_laws();
+    frame_laws();
     section_laws();
 }

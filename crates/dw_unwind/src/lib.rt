@@ -3,15 +3,10 @@
 #![tactic(auto)]
 
 mod by_index;
-mod frame;
-mod frame_room;
 mod laws;
-mod machine;
 
 pub use by_index::{UnwindAtError, unwind, unwind_at};
 pub use dw_dump::{Dump, DumpCode, DumpError, DumpFault, DumpMemory};
 pub use dw_eval::Policy;
-pub use frame::{Column, Frame, UnwindError};
-pub use frame_room::{FrameRegisters, FrameRoom};
+pub use dw_frame::{Column, Frame, FrameRegisters, FrameRoom, UnwindError, unwind_row};
 pub use laws::unwind_laws;
-pub use machine::unwind_row;

@@ -1,7 +1,7 @@
 -- The instructions of a member's program, and of a CIE's, can be spelled.
 use Rattle.dw_row.specs.declared.rule.CfaRule.TheVariants as cfa
 use Rattle.dw_row.specs.declared.rule.RegRule.TheVariants as rules
-use Rattle.dw_section.proofs.Lent.RowFits.{rule_fits}
+use Rattle.dw_cfa.proofs.Lent.RowFits.{rule_fits}
 use Rattle.dw_canon.proofs.Words.{◌≡◌, ℕ, zero, suc, ◌-◌, ◌<◌, ◌≤◌, ◌^◌, true, false, List, [], ◌∷◌, ◌++◌, map, replicate, refl, inl, inr, arith, nat_lt, IsTrue, flat_map, AllByRecursion, keys_of}
 use Rattle.dw_canon.proofs.Words.{cases_Bool, ltb-true, Target, address_limit, Nop, CfaRule, RegRule, in_cie, Rules, rule, is_specified, blank, fde_instrs, cie_instrs, cfa_to, either, move, cfa_difference, rule_difference}
 use Rattle.dw_canon.proofs.{Words.{difference, later_changes, with_register, with_registers, CfaFits, RuleFits, RowFits, RestsOn, ChangesStand, MemberStands, InstrFits, Member, same_cfa, same_rule}, Lent.Programs.below_end}

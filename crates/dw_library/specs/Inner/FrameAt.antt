@@ -4,7 +4,7 @@ use Rattle.dw_num.specs.declared.target.Target.{Target}
 use Rattle.dw_eval.specs.declared.policy.Policy.{Policy}
 use Rattle.dw_section.specs.Ranges.{Ranged}
 use Rattle.dw_unwind.specs.{UnwoundAt.by_index, declared.by_index.UnwindAtError.UnwindAtError, declared.by_index.UnwindAtError.TheVariants.Unwind}
-use Rattle.dw_unwind.specs.declared.frame.{Frame.{Frame as CallerFrame}, UnwindError.UnwindError, UnwindError.TheVariants.OutOfMemory}
+use Rattle.dw_frame.specs.declared.frame.{Frame.{Frame as CallerFrame}, UnwindError.UnwindError, UnwindError.TheVariants.OutOfMemory}
 use Rattle.dw_library.specs.{CallerFrame.{Machine, IsFrame, told_frame}, FrameAt.IsFrameAt, Registers.{AreTold, told_register}}
 use Rattle.dw_library.specs.declared.{caller.{Frame.Frame, Stop.Stop}, held.Register.Register}
 

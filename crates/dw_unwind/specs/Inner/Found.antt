@@ -4,7 +4,7 @@ use Rattle.dw_num.specs.declared.target.Target.{Target}
 use Rattle.dw_row.specs.Rows.{Rules}
 use Rattle.dw_unwind.specs.Unwound.{IsCovered, IsUncovered}
 use Rattle.dw_unwind.specs.declared.by_index.{UnwindAtError.UnwindAtError, UnwindAtError.TheVariants.Unwind}
-use Rattle.dw_unwind.specs.declared.frame.UnwindError.TheVariants.{NoFde, OutOfMemory}
+use Rattle.dw_frame.specs.declared.frame.UnwindError.TheVariants.{NoFde, OutOfMemory}
 
 -- By the index of an accepted section: the return address register of the FDE that covers an address, with the rules there;
 -- or that none does, or want of memory.

@@ -1,0 +1,10 @@
+mod Words
+mod Elements
+mod ColumnLaws
+mod FrameLaws
+mod OneFrame
+mod SomeFrame
+mod ColumnErrors
+mod FaultColumns
+mod Wanted
+mod Room
