@@ -42,11 +42,7 @@ pub(crate) fn same_steps(mut a: OpSteps<'_>, mut b: OpSteps<'_>) -> bool
     'ops: loop {
         match (a.step(), b.step()) {
             (None, None) => return true,
-            (Some(x), Some(y)) => {
-                if !same_op(x, y) {
-                    return false;
-                }
-            }
+            (Some(x), Some(y)) if same_op(x, y) => {}
             _ => return false,
         }
     }
