@@ -80,9 +80,8 @@ fn read_deref_size<'a>(cursor: &mut Cursor<'a>) -> Result<Step<'a>, Refusal>
 {
     let at = cursor.at();
     let most = cursor.target().size.byte_count();
-    let size = cursor.byte()?;
-    match size {
-        1.. if size <= most => Ok(Step::Plain(Op::DerefSize(size))),
+    match cursor.byte()? {
+        size @ 1.. if size <= most => Ok(Step::Plain(Op::DerefSize(size))),
         _ => refused(Code::BadDerefSize, at),
     }
 }
