@@ -11,21 +11,22 @@ use std::hash::{Hash, Hasher};
 fn in_line<'a>(op: Op<'a>) -> (u8, u64, u64, i64, &'a [u8])
     ensures { line result.0 result.1 result.2 result.3 result.4.now ≡ op_line op.entry }
 {
+    let none: &[u8] = &[];
     match op {
-        Op::Addr(address) => (0x03, address, 0, 0, &[]),
-        Op::Const(value) => (0x08, value, 0, 0, &[]),
-        Op::Pick(index) => (0x15, u64::from(index), 0, 0, &[]),
-        Op::PlusUconst(number) => (0x23, number, 0, 0, &[]),
-        Op::Bra(index) => (0x28, index as u64, 0, 0, &[]),
-        Op::Skip(index) => (0x2f, index as u64, 0, 0, &[]),
-        Op::Reg(register) => (0x50, u64::from(register), 0, 0, &[]),
-        Op::Breg(register, offset) => (0x70, u64::from(register), 0, offset, &[]),
-        Op::Fbreg(offset) => (0x91, 0, 0, offset, &[]),
-        Op::Piece(size) => (0x93, size, 0, 0, &[]),
-        Op::DerefSize(size) => (0x94, u64::from(size), 0, 0, &[]),
-        Op::BitPiece(size, offset) => (0x9d, size, offset, 0, &[]),
+        Op::Addr(address) => (0x03, address, 0, 0, none),
+        Op::Const(value) => (0x08, value, 0, 0, none),
+        Op::Pick(index) => (0x15, u64::from(index), 0, 0, none),
+        Op::PlusUconst(number) => (0x23, number, 0, 0, none),
+        Op::Bra(index) => (0x28, index as u64, 0, 0, none),
+        Op::Skip(index) => (0x2f, index as u64, 0, 0, none),
+        Op::Reg(register) => (0x50, u64::from(register), 0, 0, none),
+        Op::Breg(register, offset) => (0x70, u64::from(register), 0, offset, none),
+        Op::Fbreg(offset) => (0x91, 0, 0, offset, none),
+        Op::Piece(size) => (0x93, size, 0, 0, none),
+        Op::DerefSize(size) => (0x94, u64::from(size), 0, 0, none),
+        Op::BitPiece(size, offset) => (0x9d, size, offset, 0, none),
         Op::Implicit(bytes) => (0x9e, 0, 0, 0, bytes),
-        _ => (alone_code(&op), 0, 0, 0, &[]),
+        _ => (alone_code(&op), 0, 0, 0, none),
     }
 }
 
@@ -42,11 +43,7 @@ pub(crate) fn same_steps(mut a: OpSteps<'_>, mut b: OpSteps<'_>) -> bool
     'ops: loop {
         match (a.step(), b.step()) {
             (None, None) => return true,
-            (Some(x), Some(y)) => {
-                if !same_op(x, y) {
-                    return false;
-                }
-            }
+            (Some(x), Some(y)) if same_op(x, y) => {}
             _ => return false,
         }
     }

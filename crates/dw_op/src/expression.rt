@@ -17,9 +17,8 @@ use std::alloc::{AllocError, Global};
 use std::hash::{Hash, Hasher};
 use std::marker::Model;
 
-/// A DWARF expression (2.5, 7.7.1): a block of the frame profile, borrowed, with its target. It stands for the list of its
-/// operations. The operand of `DW_CFA_def_cfa_expression` (6.4.2.2), `DW_CFA_expression` or `DW_CFA_val_expression` (6.4.2.3) is
-/// such a block behind its length: an `exprloc` or a block of 7.5.5.
+/// A DWARF expression (2.5, 7.7.1): a block of the frame profile, borrowed, with its target. It stands for its operations. The operand of
+/// `DW_CFA_def_cfa_expression` (6.4.2.2), `DW_CFA_expression` or `DW_CFA_val_expression` (6.4.2.3) is such a block behind its length (7.5.5).
 #[derive(Debug, Drop)]
 pub struct ExprRef<'a> {
     target: Target,
@@ -39,8 +38,7 @@ impl<'a> Model for ExprRef<'a> {
     ghost invariant = { λ e. IsAccepted e.target e.bytes.now × AreBytes e.bytes.now };
 }
 
-/// An iterator over the operations of an expression (2.5.1). A branch (`DW_OP_bra`, `DW_OP_skip`, 2.5.1.5) names the operation
-/// that it goes to. Takes no memory.
+/// An iterator over an expression's operations (2.5.1). A branch (`DW_OP_bra`, `DW_OP_skip`, 2.5.1.5) names the operation that it goes to. Takes no memory.
 #[derive(Drop)]
 pub struct OpSteps<'a> {
     walker: Walker<'a>,
@@ -122,9 +120,8 @@ impl<'a> ExprRef<'a> {
     pub fn steps(&self) -> OpSteps<'a>
         ensures { result ≡ self.now.ops }
     {
-        OpSteps {
-            walker: Walker::new(self.bytes, self.target, Measure::Operations),
-        }
+        let walker = Walker::new(self.bytes, self.target, Measure::Operations);
+        OpSteps { walker }
     }
 
     /// The operations (2.5.1) as a list, or want of memory.

@@ -3,9 +3,8 @@
 ghost use Rattle.std.specs.Prelude.{◌≡◌, ◌<◌, ◌^◌};
 ghost use Rattle.dw_op.specs.Inner.{Codes.alone_code, Ranges.IsTyped};
 
-/// An operation (2.5.1, 2.6.1, 7.7.1). A branch names the operation that it goes to by its index in the list, which is
-/// the list's length for the end. N is the number of bits of an address. A variant that several operations are
-/// read as names each of them. Those that are not read are listed at `Code::UnknownOperation`.
+/// An operation (2.5.1, 2.6.1, 7.7.1). A branch names the operation that it goes to by its index in the list, the list's length for the end. An address
+/// has N bits. A variant that several operations are read as names each of them. Those that are not read are listed at `Code::UnknownOperation`.
 #[derive(Clone, Copy, Debug, PartialEq, Eq)]
 pub enum Op<'a> {
     /// `DW_OP_addr`: push this address (2.5.1.1).

@@ -1,10 +1,9 @@
 //! The operation at the front of what is left of a block.
 
-ghost use Rattle.std.specs.Prelude.{◌≡◌, ◌+◌, ◌%◌, ◌<◌, ◌≤◌, Err};
+ghost use Rattle.std.specs.Prelude.{◌≡◌, ◌≢◌, ◌+◌, ◌%◌, ◌<◌, ◌≤◌, Err};
 ghost use Rattle.dw_num.specs.{Target.address_limit, Inner.Front.Gives};
-ghost use Rattle.dw_op.specs.Operands.{modulo, form_of, one, size};
 ghost use Rattle.dw_op.specs.declared.{op.Op.TheVariants.{Const, DerefSize}, operation.Step.TheVariants.Plain, profile.Profile.TheVariants.Location};
-ghost use Rattle.dw_op.specs.Inner.FrontOp.{bare_step, is_barred, judged, step_of, step_at};
+ghost use Rattle.dw_op.specs.{Operands.{modulo, form_of, one, size}, Inner.FrontOp.{bare_step, is_barred, judged, made, step_of, step_at}};
 
 use crate::op::Op;
 use crate::profile::Profile;
@@ -61,39 +60,50 @@ fn constant<'a>(size: Size, number: i64) -> Step<'a>
     natural(size, number.cast_unsigned())
 }
 
+// What a code and the number behind it make: an address, or a constant.
+fn made<'a>(size: Size, code: u8, number: u64) -> Step<'a>
+    ensures { result ≡ Plain (made size code number) }
+{
+    match code {
+        0x03 => Step::Plain(Op::Addr(number)),
+        0x09 => constant(size, i64::from(((number % (1 << 8)) as u8).cast_signed())),
+        0x0b => constant(size, i64::from(((number % (1 << 16)) as u16).cast_signed())),
+        0x0d => constant(size, i64::from(((number % (1 << 32)) as u32).cast_signed())),
+        0x0f | 0x11 => constant(size, number.cast_signed()),
+        _ => natural(size, number),
+    }
+}
+
 // A size is from 1 to that of an address.
 fn read_deref_size<'a>(cursor: &mut Cursor<'a>) -> Result<Step<'a>, Refusal>
     ensures { Gives bare_step result (step_of (one size DerefSize) cursor.old) cursor.new }
 {
     let at = cursor.at();
     let most = cursor.target().size.byte_count();
-    let size = cursor.byte()?;
-    match size {
-        1.. if size <= most => Ok(Step::Plain(Op::DerefSize(size))),
+    match cursor.byte()? {
+        size @ 1.. if size <= most => Ok(Step::Plain(Op::DerefSize(size))),
         _ => refused(Code::BadDerefSize, at),
     }
 }
 
-// An operation that puts a constant on the stack, or what stands at an address.
+// The number behind the code of an address or a constant, as its bits.
 #[tactic(auto, unfolding(crate::specs::Operands::form_of))]
-fn read_constant<'a>(cursor: &mut Cursor<'a>, code: u8, at: u64) -> Result<Step<'a>, Refusal>
-    requires { code < 0x12 }
-    ensures { Gives bare_step result (judged Location at (form_of cursor.old.target code) cursor.old) cursor.new }
+fn read_number(cursor: &mut Cursor<'_>, code: u8, at: u64) -> Result<u64, Refusal>
+    requires { (code < 0x12) × (code ≢ 0x06) }
+    ensures { Gives (λ n. Plain (made cursor.old.target.size code n)) result (judged Location at (form_of cursor.old.target code) cursor.old) cursor.new }
 {
-    let size = cursor.target().size;
     match code {
-        0x03 => Ok(Step::Plain(Op::Addr(cursor.address()?))),
-        0x06 => Ok(Step::Plain(Op::Deref)),
-        0x08 => Ok(natural(size, u64::from(cursor.byte()?))),
-        0x09 => Ok(constant(size, i64::from(cursor.byte()?.cast_signed()))),
-        0x0a => Ok(natural(size, cursor.fixed(2)?)),
-        0x0b => Ok(constant(size, i64::from((cursor.fixed(2)? as u16).cast_signed()))),
-        0x0c => Ok(natural(size, cursor.fixed(4)?)),
-        0x0d => Ok(constant(size, i64::from((cursor.fixed(4)? as u32).cast_signed()))),
-        0x0e => Ok(natural(size, cursor.fixed(8)?)),
-        0x0f => Ok(constant(size, cursor.fixed(8)?.cast_signed())),
-        0x10 => Ok(natural(size, cursor.uleb()?)),
-        0x11 => Ok(constant(size, cursor.sleb()?)),
+        0x03 => cursor.address(),
+        0x08 => cursor.fixed(1),
+        0x09 => cursor.fixed(1),
+        0x0a => cursor.fixed(2),
+        0x0b => cursor.fixed(2),
+        0x0c => cursor.fixed(4),
+        0x0d => cursor.fixed(4),
+        0x0e => cursor.fixed(8),
+        0x0f => cursor.fixed(8),
+        0x10 => cursor.uleb(),
+        0x11 => Ok(cursor.sleb()?.cast_unsigned()),
         _ => refused(Code::UnknownOperation, at),
     }
 }
@@ -172,7 +182,8 @@ fn read_operands<'a>(cursor: &mut Cursor<'a>, code: u8, at: u64) -> Result<Step<
     ensures { Gives bare_step result (judged Location at (form_of cursor.old.target code) cursor.old) cursor.new }
 {
     match code {
-        0x00..=0x11 => read_constant(cursor, code, at),
+        0x06 => Ok(Step::Plain(Op::Deref)),
+        0x00..=0x11 => Ok(made(cursor.target().size, code, read_number(cursor, code, at)?)),
         0x12..=0x2f => read_computing(cursor, code, at),
         0x30..=0x4f => Ok(Step::Plain(Op::Const(u64::from(code - 0x30)))),
         0x50..=0x6f => Ok(Step::Plain(Op::Reg(u16::from(code - 0x50)))),

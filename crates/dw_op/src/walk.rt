@@ -116,11 +116,7 @@ fn sum_from(cursor: &Cursor<'_>, measure: Measure, place: u64) -> Option<usize>
     }
     let mut here = copied(cursor);
     let count = advance(&mut here, measure, place);
-    if here.at() == place {
-        Some(count)
-    } else {
-        None
-    }
+    (here.at() == place).then_some(count)
 }
 
 fn mark_at(marks: &Marks, k: usize) -> Mark

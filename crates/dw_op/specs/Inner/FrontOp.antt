@@ -1,8 +1,8 @@
 -- Reading an operation from the front of a block, as the code does it: DWARF 5, 7.7.1. Faults.antt says which fault that gives without it.
-use Rattle.std.specs.{Prelude.{ℕ, Option, Some, None, Ok, nat_le, nat_eq, ◌&&◌, ◌||◌, if◌then◌else◌, Bool, true, false, ℤ, pos, [], List}, Int.{Width, byte_len, cast_signed}}
-use Rattle.dw_num.specs.{Front.{Read, fault, fixed_at, take_at, uleb_at, sleb_at, address_at, ◌>>=◌, register_at}, Input.Input, Target.byte_count}
+use Rattle.std.specs.{Prelude.{ℕ, ◌%◌, ◌^◌, Option, Some, None, Ok, nat_le, nat_eq, ◌&&◌, ◌||◌, if◌then◌else◌, Bool, true, false, ℤ, pos, [], List}, Int.{Width, byte_len, cast_signed, w8, w16, w32, w64}}
+use Rattle.dw_num.specs.{Front.{Read, fault, fixed_at, take_at, uleb_at, sleb_at, address_at, ◌>>=◌, register_at}, Input.Input, Target.{address_limit, byte_count}, declared.target.Size.Size}
 use Rattle.dw_num.specs.declared.{refusal.Code.TheVariants.{UnknownOperation, NotInFrame, BadDerefSize}}
-use Rattle.dw_op.specs.{Expression.bare, Operands.{Field, FieldValue, OpForm, form_of, in_range}, Profile.in_frame}
+use Rattle.dw_op.specs.{Expression.bare, Operands.{Field, FieldValue, OpForm, form_of, in_range, modulo}, Profile.in_frame}
 use Rattle.dw_op.specs.declared.{op.Op.Op, operation.Branch.Branch, operation.Step.Step, profile.Profile.Profile, profile.Profile.TheVariants.{Frame, Location}}
 use Rattle.dw_op.specs.declared.op.Op.TheVariants as ops
 use Rattle.dw_op.specs.declared.operation.Branch.TheVariants as branches
@@ -89,6 +89,16 @@ step_of (fields.none op) i = Ok (steps.Plain op, i)
 step_of (fields.one o make) i = value_at o i >>= with_op make
 step_of (fields.two o p make) i = value_at o i >>= then_value p make
 step_of (fields.branch to) i = jump_at (branch_in to) i
+
+-- what a code and the number behind it make, which is signed behind an odd code
+abbrev pub made : Size → ℕ → ℕ → Op
+made size code n =
+    if nat_eq code 0x03 then ops.Addr n
+    else ops.Const (modulo (address_limit size) (
+    if nat_eq code 0x09 then cast_signed w8 (n % 2 ^ 8)
+    else if nat_eq code 0x0b then cast_signed w16 (n % 2 ^ 16)
+    else if nat_eq code 0x0d then cast_signed w32 (n % 2 ^ 32)
+    else if nat_eq code 0x0f || nat_eq code 0x11 then cast_signed w64 n else pos n))
 
 -- ---- an operation
 
