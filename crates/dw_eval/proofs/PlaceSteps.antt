@@ -6,7 +6,9 @@ use Rattle.dw_eval.specs.declared.stack.Stop.TheVariants as stop
 use Rattle.dw_eval.proofs.Words.{◌≡◌, ℕ, ◌<◌, ◌≤◌, map, List, [], ◌∷◌, ◌++◌, length, Option, Some, None, Result, Ok, Err, ap, inl, arith, refl, sym, subst, slice_get, slice_get_within, Op, Reg, Piece, BitPiece, Implicit, StackValue, Nop, bare}
 use Rattle.dw_eval.proofs.Words.{branch_target, AllInRange, TargetWithin, EvalError, Fault, OutOfMemory, Kind, StackUnderflow, MissingPiece, Unreadable, Place, Context, context, read_at, OpEffect, Next, known, on_top, push}
 use Rattle.dw_eval.proofs.{Words.{Faults, effect, Leaves, LeavesOver, StepsWithoutMemory, state_of, PlaceState, place_reads, place_here, with_piece, with_value, bare_piece, pieces_of, free_step, held_step, refused, step_by, place_step, StepsTo, Does}, Effects.{InSpace, StepTells, effect_tells, leads_tells, led_within, in_range_at}}
-use Rattle.dw_eval.specs.{Inner.Steps.{refusal}, declared.{description.Description.Description, env.Env.Env}}
+use Rattle.dw_eval.proofs.Steps.{acted}
+use Rattle.std.specs.Borrow.{Bor}
+use Rattle.dw_eval.specs.{Effect.ReadsMemory, Inner.{Steps.{refusal, reached, ActsOn}, Location.place_led}, Location.with_stack, declared.{description.Description.Description, env.Env.Env}}
 
 -- a step without memory is one over a memory that stays
 pub steps_so : (step : Result PlaceState Kind) (Read : Type 0) (i before : ℕ) (state : ℕ → PlaceState) (result : Result ℕ EvalError) (after : ℕ) → StepsWithoutMemory step i state result → after ≡ before → StepsTo step Read i before state result after
@@ -65,6 +67,24 @@ module _ (c : Context) (op : Op) (s : PlaceState) (before : ℕ) (result : Resul
   -- a step without memory while no place is pending
   pub free_so : (Read : Type 0) (state : ℕ → PlaceState) → StepsWithoutMemory (free_step c op s) s.index state result → after ≡ before → Goes s.pending Read state
   free_so Read state h same = subst (λ (p : Option Place). Goes p Read state) (sym none) (steps_so (free_step c op s) Read s.index before state result after h same)
+
+-- where an operation is none of those that make a place
+free_else : (c : Context) (op : Op) (s : PlaceState) → ((r : ℕ) → op ≡ Reg r → ⊥) → ((n : ℕ) → op ≡ Piece n → ⊥) → ((n k : ℕ) → op ≡ BitPiece n k → ⊥) → ((b : Bor (List ℕ)) → op ≡ Implicit b → ⊥) → (op ≡ StackValue → ⊥)
+    → free_step c (bare op) s ≡ place_led s (effect c (bare op) s.stack)
+free_else c (Reg r) s reg piece bits block value = absurd (reg r refl)
+free_else c (Piece n) s reg piece bits block value = absurd (piece n refl)
+free_else c (BitPiece n k) s reg piece bits block value = absurd (bits n k refl)
+free_else c (Implicit b) s reg piece bits block value = absurd (block b refl)
+free_else c StackValue s reg piece bits block value = absurd (value refl)
+free_else c op s reg piece bits block value = refl
+
+pub free_acts : (c : Context) (op : Op) (s : PlaceState) (before : ℕ) (answer : Result Flow Stop) (new : List ℕ) (after : ℕ) (result : Result ℕ EvalError) → s.pending ≡ None → ((r : ℕ) → op ≡ Reg r → ⊥) → ((n : ℕ) → op ≡ Piece n → ⊥)
+    → ((n k : ℕ) → op ≡ BitPiece n k → ⊥) → ((b : Bor (List ℕ)) → op ≡ Implicit b → ⊥) → (op ≡ StackValue → ⊥) → ActsOn c (bare op) s.stack before answer new after → result ≡ reached s.index answer
+    → StepsTo (place_step c (bare op) s) (place_reads c (bare op) s) s.index before (λ n. with_stack n new s) result after
+free_acts c op s before answer new after result none reg piece bits block value h e =
+    let P : Result PlaceState Kind → Type 0 = λ step. StepsTo step (place_reads c (bare op) s) s.index before (λ n. with_stack n new s) result after in
+    let led = acted (λ n stack. with_stack n stack s) (effect c (bare op) s.stack) (ReadsMemory c (bare op) s.stack) (place_reads c (bare op) s) (λ read. (none, read)) s.index before answer new after result h e in
+    subst (λ (p : Option Place). P (step_by c (bare op) p s)) (sym none) (subst P (sym (free_else c op s reg piece bits block value)) led)
 
 -- ---- what every step keeps
 

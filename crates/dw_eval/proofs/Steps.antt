@@ -17,15 +17,15 @@ acts_so outcome Read before (Err stop.Device) stack after d e = absurd d
 acts_so outcome Read before (Err stop.OutOfMemory) stack after d e = e
 
 -- where the answer of an operation leads, for any machine
-pub acted : {S : Type 0} (at : ℕ → List ℕ → S) (outcome : OpEffect) (Read : Type 0) (i before : ℕ) (answer : Result Flow Stop) (new : List ℕ) (after : ℕ) (result : Result ℕ EvalError) → Acts outcome Read before answer new after → result ≡ reached i answer
-    → StepsTo (leads at i outcome) Read i before (λ n. at n new) result after
-acted at outcome Read i before answer new after result h e = rw e (of answer h)
+pub acted : {S : Type 0} (at : ℕ → List ℕ → S) (outcome : OpEffect) (Read Told : Type 0) (told : Read → Told) (i before : ℕ) (answer : Result Flow Stop) (new : List ℕ) (after : ℕ) (result : Result ℕ EvalError) → Acts outcome Read before answer new after → result ≡ reached i answer
+    → StepsTo (leads at i outcome) Told i before (λ n. at n new) result after
+acted at outcome Read Told told i before answer new after result h e = rw e (of answer h)
   where
-    of : (answer : Result Flow Stop) → Acts outcome Read before answer new after → StepsTo (leads at i outcome) Read i before (λ n. at n new) (reached i answer) after
+    of : (answer : Result Flow Stop) → Acts outcome Read before answer new after → StepsTo (leads at i outcome) Told i before (λ n. at n new) (reached i answer) after
     of (Ok flow.Next) h = (ap (leads at i) h.0, h.1)
     of (Ok (flow.Jump j)) h = (ap (leads at i) h.0, h.1)
     of (Err (stop.Fault kind)) h = (refl, inl (ap (leads at i) h.0, h.1))
-    of (Err stop.Device) h = (refl, inr (refl, h.1, h.0))
+    of (Err stop.Device) h = (refl, inr (refl, h.1, told h.0))
     of (Err stop.OutOfMemory) h = h
 
 -- the size of a deref_size in range
