@@ -3,12 +3,12 @@ use Rattle.dw_eval.specs.{Space.{PlaceInSpace, ArePlacesInSpace}, declared.place
 use Rattle.dw_eval.specs.declared.place.Piece as declared
 use Rattle.dw_eval.specs.declared.stack.Flow.TheVariants as flow
 use Rattle.dw_eval.specs.declared.stack.Stop.TheVariants as stop
-use Rattle.dw_eval.proofs.Words.{◌≡◌, ℕ, ◌%◌, address_limit, ◌<◌, ◌≤◌, zero, suc, map, List, [], ◌∷◌, ◌++◌, length, Option, Some, None, Result, Ok, Err, ap, inl, arith, refl, sym, subst, slice_get, slice_get_within, Op, Deref, DerefSize, Reg, Piece, BitPiece, Implicit, StackValue, Nop, byte_count, bare}
+use Rattle.dw_eval.proofs.Words.{◌≡◌, ℕ, ◌<◌, ◌≤◌, map, List, [], ◌∷◌, ◌++◌, length, Option, Some, None, Result, Ok, Err, ap, inl, arith, refl, sym, subst, slice_get, slice_get_within, Op, Reg, Piece, BitPiece, Implicit, StackValue, Nop, bare}
 use Rattle.dw_eval.proofs.Words.{branch_target, AllInRange, TargetWithin, EvalError, Fault, OutOfMemory, Kind, StackUnderflow, MissingPiece, Unreadable, Place, Context, context, read_at, OpEffect, Next, known, on_top, push}
-use Rattle.dw_eval.proofs.{Words.{Faults, effect, Leaves, LeavesOver, StepsWithoutMemory, state_of, PlaceState, place_reads, place_here, with_piece, with_value, bare_piece, pieces_of, free_step, held_step, refused, step_by, place_step, StepsTo, Acts}, Effects.{InSpace, StepTells, effect_tells, leads_tells, led_within, in_range_at}}
-use Rattle.dw_num.specs.declared.target.Order.{Order}
-unfoldable use Rattle.dw_eval.specs.Bytes.{number_in_memory}
-use Rattle.dw_eval.specs.{Inner.Steps.{refusal}, declared.{description.Description.Description, env.Env.Env}}
+use Rattle.dw_eval.proofs.{Words.{Faults, effect, Leaves, LeavesOver, StepsWithoutMemory, state_of, PlaceState, place_reads, place_here, with_piece, with_value, bare_piece, pieces_of, free_step, held_step, refused, step_by, place_step, StepsTo, Does}, Effects.{InSpace, StepTells, effect_tells, leads_tells, led_within, in_range_at}}
+use Rattle.dw_eval.proofs.Steps.{acted}
+use Rattle.std.specs.Borrow.{Bor}
+use Rattle.dw_eval.specs.{Effect.ReadsMemory, Inner.{Steps.{refusal, reached, ActsOn}, Location.place_led}, Location.with_stack, declared.{description.Description.Description, env.Env.Env}}
 
 -- a step without memory is one over a memory that stays
 pub steps_so : (step : Result PlaceState Kind) (Read : Type 0) (i before : ℕ) (state : ℕ → PlaceState) (result : Result ℕ EvalError) (after : ℕ) → StepsWithoutMemory step i state result → after ≡ before → StepsTo step Read i before state result after
@@ -18,34 +18,31 @@ steps_so step Read i before state (Err (Fault kind j)) after h same = (h.1, inl 
 
 -- ---- an operation that is refused
 
-misses : (a k : ℕ) (o : Option ℕ) (f : ℕ → List ℕ) → refused (known (Unreadable a k) o (λ v. Next (f v))) ≡ Err MissingPiece
-misses a k None f = refl
-misses a k (Some v) f = refl
+pub refusal_so : (o : OpEffect) (answer : Result Flow Stop) (stack : List ℕ) (i : ℕ) (state : ℕ → PlaceState) (e : EvalError) → Does o answer stack → e ≡ refusal i answer → StepsWithoutMemory (refused o) i state (Err e)
+refusal_so o answer stack i state e h is = rw is (of answer h)
+  where
+    of : (answer : Result Flow Stop) → Does o answer stack → StepsWithoutMemory (refused o) i state (Err (refusal i answer))
+    of (Ok flow.Next) h = (ap refused h, refl)
+    of (Ok (flow.Jump j)) h = (ap refused h, refl)
+    of (Err (stop.Fault StackUnderflow)) h = (ap refused h, refl)
+    of (Err (stop.Fault kind)) h = (ap refused h, refl)
+    of (Err stop.Device) h = absurd h
+    of (Err stop.OutOfMemory) h = tt
 
-reads : (c d : Context) (k : ℕ) (stack : List ℕ) → c.target ≡ d.target → refused (on_top stack (λ t below. known (Unreadable t k) (read_at c t k) (λ v. push c.target.size v below)))
-    ≡ refused (on_top stack (λ t below. known (Unreadable t k) (read_at d t k) (λ v. push d.target.size v below)))
-reads c d k [] e = refl
-reads c d k (t ∷ below) e = cc (misses t k (read_at c t k) (λ v. v % address_limit c.target.size ∷ below), misses t k (read_at d t k) (λ v. v % address_limit d.target.size ∷ below))
+-- one that reads is refused as one that takes the top
+reads : (c : Context) (k : ℕ) (stack : List ℕ) → refused (on_top stack (λ t below. known (Unreadable t k) (read_at c t k) (λ v. push c.target.size v below))) ≡ refused (on_top stack (λ t below. Next below))
+reads c k [] = refl
+reads c k (t ∷ below) = of (read_at c t k)
+  where
+    of : (o : Option ℕ) → refused (known (Unreadable t k) o (λ v. push c.target.size v below)) ≡ Err MissingPiece
+    of None = refl
+    of (Some v) = refl
 
--- no byte tells why
-unread : (env : Env) (byte other : ℕ → Option ℕ) (op : Op) (stack : List ℕ) → refused (effect (context env byte) op stack) ≡ refused (effect (context env other) op stack)
-unread env byte other Deref stack = reads (context env byte) (context env other) (byte_count env.target.size) stack refl
-unread env byte other (DerefSize k) stack = reads (context env byte) (context env other) k stack refl
-unread env byte other op stack = refl
-
-pub refused_so : (o : OpEffect) (Read : Type 0) (answer : Result Flow Stop) (stack : List ℕ) (i : ℕ) (state : ℕ → PlaceState) → Acts o Read 0 answer stack 0 → StepsWithoutMemory (refused o) i state (Err (refusal i answer))
-refused_so o Read (Ok flow.Next) stack i state h = (ap refused h.0, refl)
-refused_so o Read (Ok (flow.Jump j)) stack i state h = (ap refused h.0, refl)
-refused_so o Read (Err (stop.Fault StackUnderflow)) stack i state h = (ap refused h.0, refl)
-refused_so o Read (Err (stop.Fault kind)) stack i state h = (ap refused h.0, refl)
-refused_so o Read (Err stop.Device) stack i state h = absurd (omega (arith, h.1))
-refused_so o Read (Err stop.OutOfMemory) stack i state h = tt
-
-pub refusal_so : (env : Env) (byte none : ℕ → Option ℕ) (op : Op) (stack new : List ℕ) (Read : Type 0) (answer : Result Flow Stop) (i : ℕ) (state : ℕ → PlaceState) (e : EvalError)
-    → Acts (effect (context env none) (bare op) stack) Read 0 answer new 0 → e ≡ refusal i answer → StepsWithoutMemory (refused (effect (context env byte) (bare op) stack)) i state (Err e)
-refusal_so env byte none op stack new Read answer i state e h is =
+pub read_refusal : (c : Context) (k : ℕ) (stack new : List ℕ) (answer : Result Flow Stop) (i : ℕ) (state : ℕ → PlaceState) (e : EvalError) → Does (on_top stack (λ t below. Next below)) answer new → e ≡ refusal i answer
+    → StepsWithoutMemory (refused (on_top stack (λ t below. known (Unreadable t k) (read_at c t k) (λ v. push c.target.size v below)))) i state (Err e)
+read_refusal c k stack new answer i state e h is =
     let P : Result PlaceState Kind → Type 0 = λ step. StepsWithoutMemory step i state (Err e) in
-    subst P (unread env none byte (bare op) stack) (rw is (refused_so (effect (context env none) (bare op) stack) Read answer new i state h))
+    subst P (sym (reads c k stack)) (refusal_so (on_top stack (λ t below. Next below)) answer new i state e h is)
 
 -- where it is no piece and no nop
 pub held_else : (env : Env) (byte : ℕ → Option ℕ) (op : Op) (s : PlaceState) (i : ℕ) (d : Description) (result : Result ℕ EvalError) → ((n : ℕ) → op ≡ Piece n → ⊥) → ((n k : ℕ) → op ≡ BitPiece n k → ⊥) → (op ≡ Nop → ⊥)
@@ -71,10 +68,23 @@ module _ (c : Context) (op : Op) (s : PlaceState) (before : ℕ) (result : Resul
   pub free_so : (Read : Type 0) (state : ℕ → PlaceState) → StepsWithoutMemory (free_step c op s) s.index state result → after ≡ before → Goes s.pending Read state
   free_so Read state h same = subst (λ (p : Option Place). Goes p Read state) (sym none) (steps_so (free_step c op s) Read s.index before state result after h same)
 
-pub no_bytes : (order : Order) (address len : ℕ) → 1 ≤ len → number_in_memory (λ a. None) order address len ≡ None
-unfolding number_in_memory
-no_bytes order address zero h = absurd (omega arith)
-no_bytes order address (suc len) h = refl
+-- where an operation is none of those that make a place
+free_else : (c : Context) (op : Op) (s : PlaceState) → ((r : ℕ) → op ≡ Reg r → ⊥) → ((n : ℕ) → op ≡ Piece n → ⊥) → ((n k : ℕ) → op ≡ BitPiece n k → ⊥) → ((b : Bor (List ℕ)) → op ≡ Implicit b → ⊥) → (op ≡ StackValue → ⊥)
+    → free_step c (bare op) s ≡ place_led s (effect c (bare op) s.stack)
+free_else c (Reg r) s reg piece bits block value = absurd (reg r refl)
+free_else c (Piece n) s reg piece bits block value = absurd (piece n refl)
+free_else c (BitPiece n k) s reg piece bits block value = absurd (bits n k refl)
+free_else c (Implicit b) s reg piece bits block value = absurd (block b refl)
+free_else c StackValue s reg piece bits block value = absurd (value refl)
+free_else c op s reg piece bits block value = refl
+
+pub free_acts : (c : Context) (op : Op) (s : PlaceState) (before : ℕ) (answer : Result Flow Stop) (new : List ℕ) (after : ℕ) (result : Result ℕ EvalError) → s.pending ≡ None → ((r : ℕ) → op ≡ Reg r → ⊥) → ((n : ℕ) → op ≡ Piece n → ⊥)
+    → ((n k : ℕ) → op ≡ BitPiece n k → ⊥) → ((b : Bor (List ℕ)) → op ≡ Implicit b → ⊥) → (op ≡ StackValue → ⊥) → ActsOn c (bare op) s.stack before answer new after → result ≡ reached s.index answer
+    → StepsTo (place_step c (bare op) s) (place_reads c (bare op) s) s.index before (λ n. with_stack n new s) result after
+free_acts c op s before answer new after result none reg piece bits block value h e =
+    let P : Result PlaceState Kind → Type 0 = λ step. StepsTo step (place_reads c (bare op) s) s.index before (λ n. with_stack n new s) result after in
+    let led = acted (λ n stack. with_stack n stack s) (effect c (bare op) s.stack) (ReadsMemory c (bare op) s.stack) (place_reads c (bare op) s) (λ read. (none, read)) s.index before answer new after result h e in
+    subst (λ (p : Option Place). P (step_by c (bare op) p s)) (sym none) (subst P (sym (free_else c op s reg piece bits block value)) led)
 
 -- ---- what every step keeps
 

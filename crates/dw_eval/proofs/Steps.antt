@@ -1,8 +1,8 @@
 -- What one operation of the code tells of a run.
 use Rattle.dw_op.specs.Inner.Ranges.{Fits}
 use Rattle.dw_eval.proofs.Words.{◌≡◌, ℕ, ◌+◌, ◌<◌, ◌≤◌, List, length, length-map, map, get_or, Some, Result, Ok, Err, refl, sym, ◌∙◌, ap, subst, inl, inr, arith, slice_get, Target, byte_count, Op, DerefSize, bare, bare_at, in_range_at, fits, AllInRange}
-use Rattle.dw_eval.proofs.Words.{Context, EvalError, Fault, OutOfMemory, Kind, Device, StepLimit, Runs, OpEffect, leads, Does, Acts, StepsTo, ◌∷◌, ◌^◌, Next, Faults, on_top, on_two}
-use Rattle.dw_eval.specs.Inner.Steps.{MakesOfOne, MakesOfTwo, reached}
+use Rattle.dw_eval.proofs.Words.{Context, EvalError, Fault, OutOfMemory, Kind, Device, StepLimit, Runs, OpEffect, leads, Does, Acts, StepsTo}
+use Rattle.dw_eval.specs.Inner.Steps.{reached}
 use Rattle.std.proofs.Math.Numerals.{suc-eq-add-one}
 use Rattle.dw_eval.specs.{Inner.Runs.{Answered, Right, Short, Failed}, declared.stack.Flow.Flow, declared.stack.Stop.Stop}
 use Rattle.dw_eval.specs.declared.stack.Flow.TheVariants as flow
@@ -16,32 +16,16 @@ acts_so outcome Read before (Err (stop.Fault kind)) stack after d e = (d, e)
 acts_so outcome Read before (Err stop.Device) stack after d e = absurd d
 acts_so outcome Read before (Err stop.OutOfMemory) stack after d e = e
 
--- what is made of the top, and of the second and the top
-pub one_does : (Made : ℕ → ℕ → Type 0) (f : ℕ → List ℕ → OpEffect) (old new : List ℕ) (result : Result Flow Stop) → MakesOfOne Made old result new → ((t made : ℕ) (below : List ℕ) → t < 2 ^ 64 → Made t made → f t below ≡ Next (made ∷ below)) → Does (on_top old f) result new
-one_does Made f old new (Ok flow.Next) (t, made, below, is, so, small, h) g = rw (is, so) (g t made below small h)
-one_does Made f old new (Ok (flow.Jump i)) m g = absurd m
-one_does Made f old new (Err (stop.Fault kind)) (is, none) g = rw (is, none) refl
-one_does Made f old new (Err stop.Device) m g = absurd m
-one_does Made f old new (Err stop.OutOfMemory) m g = tt
-
-pub two_does : (Made : ℕ → ℕ → ℕ → Type 0) (f : ℕ → ℕ → List ℕ → OpEffect) (old new : List ℕ) (result : Result Flow Stop) → MakesOfTwo Made old result new → ((s t made : ℕ) (below : List ℕ) → s < 2 ^ 64 → t < 2 ^ 64 → Made s t made → f s t below ≡ Next (made ∷ below))
-    → Does (on_two old f) result new
-two_does Made f old new (Ok flow.Next) (s, t, made, below, is, so, second, top, h) g = rw (is, so) (g s t made below second top h)
-two_does Made f old new (Ok (flow.Jump i)) m g = absurd m
-two_does Made f old new (Err (stop.Fault kind)) (is, none) g = none f ∙ ap Faults (sym is)
-two_does Made f old new (Err stop.Device) m g = absurd m
-two_does Made f old new (Err stop.OutOfMemory) m g = tt
-
 -- where the answer of an operation leads, for any machine
-pub acted : {S : Type 0} (at : ℕ → List ℕ → S) (outcome : OpEffect) (Read : Type 0) (i before : ℕ) (answer : Result Flow Stop) (new : List ℕ) (after : ℕ) (result : Result ℕ EvalError) → Acts outcome Read before answer new after → result ≡ reached i answer
-    → StepsTo (leads at i outcome) Read i before (λ n. at n new) result after
-acted at outcome Read i before answer new after result h e = rw e (of answer h)
+pub acted : {S : Type 0} (at : ℕ → List ℕ → S) (outcome : OpEffect) (Read Told : Type 0) (told : Read → Told) (i before : ℕ) (answer : Result Flow Stop) (new : List ℕ) (after : ℕ) (result : Result ℕ EvalError) → Acts outcome Read before answer new after → result ≡ reached i answer
+    → StepsTo (leads at i outcome) Told i before (λ n. at n new) result after
+acted at outcome Read Told told i before answer new after result h e = rw e (of answer h)
   where
-    of : (answer : Result Flow Stop) → Acts outcome Read before answer new after → StepsTo (leads at i outcome) Read i before (λ n. at n new) (reached i answer) after
+    of : (answer : Result Flow Stop) → Acts outcome Read before answer new after → StepsTo (leads at i outcome) Told i before (λ n. at n new) (reached i answer) after
     of (Ok flow.Next) h = (ap (leads at i) h.0, h.1)
     of (Ok (flow.Jump j)) h = (ap (leads at i) h.0, h.1)
     of (Err (stop.Fault kind)) h = (refl, inl (ap (leads at i) h.0, h.1))
-    of (Err stop.Device) h = (refl, inr (refl, h.1, h.0))
+    of (Err stop.Device) h = (refl, inr (refl, h.1, told h.0))
     of (Err stop.OutOfMemory) h = h
 
 -- the size of a deref_size in range

@@ -1,11 +1,11 @@
 //! One operation (2.5.1).
 
-ghost use Rattle.std.specs.Prelude.{◌≡◌, ℕ, ◌+◌, ◌-◌, ◌^◌, ◌<◌, ◌≤◌, IsTrue, ◌↔◌};
+ghost use Rattle.std.specs.Prelude.{◌≡◌, ℕ, ◌+◌, ◌-◌, ◌^◌, ◌<◌, ◌≤◌, IsTrue, ◌↔◌, Option};
 ghost use Rattle.dw_num.specs.Target.{address_limit, byte_count};
-ghost use Rattle.dw_op.specs.{Expression.bare, declared.op.Op.TheVariants.DerefSize};
-ghost use Rattle.dw_eval.specs.{Context.context, Inner.Steps.{ActsOn, ReadsTop}};
+ghost use Rattle.dw_op.specs.{Expression.bare, declared.op.Op.TheVariants.{Deref, DerefSize}};
+ghost use Rattle.dw_eval.specs.{Context.context, Effect.effect, Inner.Steps.{ActsOn, Does, IsBinary, IsUnary, ReadsTop}};
 
-use crate::arithmetic::{offset_by, reduced, shifted_left, shifted_right, shifted_signed, signed};
+use crate::arithmetic::{reduced, shifted_left, shifted_right, shifted_signed, signed};
 use crate::env::Env;
 use crate::error::Kind;
 use crate::memory::{Memory, ReadFault};
@@ -27,7 +27,7 @@ pub fn is_in_space(address: u64, len: usize, size: Size) -> bool
 
 // Reads the bytes at the top's address.
 #[tactic(auto, using(crate::proofs::Steps::acts_so))]
-fn read<M: Memory>(stack: &mut Stack, len: usize, env: &Env<'_>, memory: &mut M) -> Answer
+fn read<M: Memory>(stack: &mut Stack, len: u8, env: &Env<'_>, memory: &mut M) -> Answer
     requires some { 1 ≤ len }
     requires most { len ≤ byte_count env.now.target.size }
     requires room { M.failures memory.old < 2 ^ 64 - 1 }
@@ -35,6 +35,7 @@ fn read<M: Memory>(stack: &mut Stack, len: usize, env: &Env<'_>, memory: &mut M)
     ensures acts { ReadsTop (context env.now (M.byte memory.old)) len stack.old (M.failures memory.old) result stack.new (M.failures memory.new) }
 {
     let target = env.target;
+    let len = usize::from(len);
     let address = stack.take()?;
     if !is_in_space(address, len, target.size) {
         return Err(Stop::Fault(Kind::Unreadable { address, len }));
@@ -46,7 +47,90 @@ fn read<M: Memory>(stack: &mut Stack, len: usize, env: &Env<'_>, memory: &mut M)
     }
 }
 
-#[tactic(auto, using(crate::proofs::Steps::acts_so, crate::proofs::Steps::one_does, crate::proofs::Steps::two_does))]
+// Puts what a unary operation makes of the top in its place.
+fn change(op: &Op<'_>, stack: &mut Stack, env: &Env<'_>) -> Answer
+    requires { IsUnary op.now }
+    ensures { (byte : ℕ → Option ℕ) → Does (effect (context env.now byte) (bare op.now) stack.old) result stack.new }
+{
+    let size = env.target.size;
+    let t = stack.take()?;
+    let made = match *op {
+        Op::Abs => signed(t, size).unsigned_abs(),
+        Op::Neg => t.wrapping_neg(),
+        Op::Not => !t,
+        Op::PlusUconst(number) => t.wrapping_add(number),
+        _ => unreachable!(),
+    };
+    stack.put(reduced(made, size))
+}
+
+// Puts what a binary operation makes of the second and the top in their place.
+fn combine(op: &Op<'_>, stack: &mut Stack, env: &Env<'_>) -> Answer
+    requires { IsBinary op.now }
+    ensures { (byte : ℕ → Option ℕ) → Does (effect (context env.now byte) (bare op.now) stack.old) result stack.new }
+{
+    let size = env.target.size;
+    let (s, t) = stack.take_two()?;
+    let made = match *op {
+        Op::And => reduced(s & t, size),
+        Op::Minus => reduced(s.wrapping_sub(t), size),
+        Op::Mul => reduced(s.wrapping_mul(t), size),
+        Op::Or => reduced(s | t, size),
+        Op::Plus => reduced(s.wrapping_add(t), size),
+        Op::Shl => shifted_left(s, t, size),
+        Op::Shr => shifted_right(s, t, size),
+        Op::Shra => shifted_signed(s, t, size),
+        Op::Xor => reduced(s ^ t, size),
+        Op::Eq => u64::from(s == t),
+        Op::Ge => u64::from(signed(s, size) >= signed(t, size)),
+        Op::Gt => u64::from(signed(s, size) > signed(t, size)),
+        Op::Le => u64::from(signed(s, size) <= signed(t, size)),
+        Op::Lt => u64::from(signed(s, size) < signed(t, size)),
+        Op::Ne => u64::from(s != t),
+        _ => unreachable!(),
+    };
+    stack.put(made)
+}
+
+/// Executes an operation that reads no memory.
+pub(crate) fn calculate(op: &Op<'_>, stack: &mut Stack, env: &Env<'_>) -> Answer
+    requires { (op.now ≡ Deref → ⊥) × ((len : ℕ) → op.now ≡ DerefSize len → ⊥) }
+    ensures { (byte : ℕ → Option ℕ) → Does (effect (context env.now byte) (bare op.now) stack.old) result stack.new }
+{
+    let size = env.target.size;
+    match *op {
+        Op::Addr(number) | Op::Const(number) => stack.put(reduced(number, size)),
+        Op::Dup => stack.pick(0),
+        Op::Drop => stack.take().and(Ok(Flow::Next)),
+        Op::Over => stack.pick(1),
+        Op::Pick(index) => stack.pick(index),
+        Op::Swap => stack.swap(),
+        Op::Rot => stack.rot(),
+        Op::Abs | Op::Neg | Op::Not | Op::PlusUconst(_) => change(op, stack, env),
+        Op::Div => stack.div(size),
+        Op::Mod => stack.modulus(size),
+        Op::And | Op::Minus | Op::Mul | Op::Or | Op::Plus | Op::Xor => combine(op, stack, env),
+        Op::Shl | Op::Shr | Op::Shra => combine(op, stack, env),
+        Op::Eq | Op::Ge | Op::Gt | Op::Le | Op::Lt | Op::Ne => combine(op, stack, env),
+        Op::Bra(target) => stack.bra(target),
+        Op::Skip(target) => Ok(Flow::Jump(target)),
+        Op::Breg(register, by) => {
+            let value = env.registers.get(register);
+            stack.put_sum(value, by, size, Kind::NoRegister { register })
+        }
+        Op::Fbreg(by) => stack.put_sum(env.frame_base, by, size, Kind::NoFrameBase),
+        Op::Nop => Ok(Flow::Next),
+        Op::PushObjectAddress => stack.put_sum(env.object, 0, size, Kind::NoObject),
+        Op::CallFrameCfa => stack.put_sum(env.cfa, 0, size, Kind::NoCfa),
+        Op::Deref | Op::DerefSize(_) => unreachable!(),
+        Op::Reg(_) | Op::Piece(_) | Op::BitPiece(_, _) | Op::Implicit(_) => Err(Stop::Fault(
+            Kind::NotAValue,
+        )),
+        Op::StackValue => stack.take().and(Err(Stop::Fault(Kind::NotAValue))),
+    }
+}
+
+#[tactic(auto, using(crate::proofs::Steps::acts_so))]
 pub(crate) fn act<M: Memory>(
     op: &Op<'_>,
     stack: &mut Stack,
@@ -58,65 +142,9 @@ pub(crate) fn act<M: Memory>(
     ensures same { M.byte memory.new ≡ M.byte memory.old }
     ensures acts { ActsOn (context env.now (M.byte memory.old)) (bare op.now) stack.old (M.failures memory.old) result stack.new (M.failures memory.new) }
 {
-    let size = env.target.size;
     match *op {
-        Op::Addr(number) => stack.put(reduced(number, size)),
-        Op::Deref => read(stack, usize::from(size.byte_count()), env, memory),
-        Op::Const(number) => stack.put(reduced(number, size)),
-        Op::Dup => stack.pick(0),
-        Op::Drop => stack.take().map(|_| Flow::Next),
-        Op::Over => stack.pick(1),
-        Op::Pick(index) => stack.pick(index),
-        Op::Swap => stack.swap(),
-        Op::Rot => stack.rot(),
-        Op::Abs => stack.one(|t| reduced(signed(t, size).unsigned_abs(), size)),
-        Op::And => stack.two(|s, t| reduced(s & t, size)),
-        Op::Div => stack.div(size),
-        Op::Minus => stack.two(|s, t| reduced(s.wrapping_sub(t), size)),
-        Op::Mod => stack.modulus(size),
-        Op::Mul => stack.two(|s, t| reduced(s.wrapping_mul(t), size)),
-        Op::Neg => stack.one(|t| reduced(t.wrapping_neg(), size)),
-        Op::Not => stack.one(|t| reduced(!t, size)),
-        Op::Or => stack.two(|s, t| reduced(s | t, size)),
-        Op::Plus => stack.two(|s, t| reduced(s.wrapping_add(t), size)),
-        Op::PlusUconst(number) => stack.one(|t| reduced(t.wrapping_add(number), size)),
-        Op::Shl => stack.two(|s, t| shifted_left(s, t, size)),
-        Op::Shr => stack.two(|s, t| shifted_right(s, t, size)),
-        Op::Shra => stack.two(|s, t| shifted_signed(s, t, size)),
-        Op::Xor => stack.two(|s, t| reduced(s ^ t, size)),
-        Op::Bra(target) => stack.bra(target),
-        Op::Eq => stack.two(|s, t| u64::from(s == t)),
-        Op::Ge => stack.two(|s, t| u64::from(signed(s, size) >= signed(t, size))),
-        Op::Gt => stack.two(|s, t| u64::from(signed(s, size) > signed(t, size))),
-        Op::Le => stack.two(|s, t| u64::from(signed(s, size) <= signed(t, size))),
-        Op::Lt => stack.two(|s, t| u64::from(signed(s, size) < signed(t, size))),
-        Op::Ne => stack.two(|s, t| u64::from(s != t)),
-        Op::Skip(target) => Ok(Flow::Jump(target)),
-        Op::Breg(register, by) => {
-            let value = env.registers.get(register);
-            let sum = value.map(|value| offset_by(value, by, size));
-            stack.put_known(sum, Kind::NoRegister { register })
-        }
-        Op::Fbreg(by) => {
-            let sum = env.frame_base.map(|base| offset_by(base, by, size));
-            stack.put_known(sum, Kind::NoFrameBase)
-        }
-        Op::DerefSize(len) => read(stack, usize::from(len), env, memory),
-        Op::Nop => Ok(Flow::Next),
-        Op::PushObjectAddress => {
-            let object = env.object.map(|object| reduced(object, size));
-            stack.put_known(object, Kind::NoObject)
-        }
-        Op::CallFrameCfa => {
-            let cfa = env.cfa.map(|cfa| reduced(cfa, size));
-            stack.put_known(cfa, Kind::NoCfa)
-        }
-        Op::Reg(_) | Op::Piece(_) | Op::BitPiece(_, _) | Op::Implicit(_) => Err(Stop::Fault(
-            Kind::NotAValue,
-        )),
-        Op::StackValue => {
-            stack.take()?;
-            Err(Stop::Fault(Kind::NotAValue))
-        }
+        Op::Deref => read(stack, env.target.size.byte_count(), env, memory),
+        Op::DerefSize(len) => read(stack, len, env, memory),
+        _ => calculate(op, stack, env),
     }
 }

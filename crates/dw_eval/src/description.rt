@@ -8,31 +8,15 @@ ghost use Rattle.dw_eval.specs.Location.{held_step, refused, LocatedIn, PlaceMay
 ghost use Rattle.dw_eval.specs.declared.error.{EvalError.TheVariants.{Fault, OutOfMemory}, Kind.Kind, Kind.TheVariants.{Device, MissingPiece}};
 ghost use Rattle.dw_eval.specs.Inner.{Description.{state_of, EndsBehind, Finishes, Leaves, LeavesOver}, Location.LocatesOver, Steps.refusal};
 
-use crate::action::act;
+use crate::action::{act, calculate};
 use crate::env::Env;
 use crate::error::{EvalError, Kind};
 use crate::evaluation::reached;
-use crate::memory::{Memory, ReadFault};
+use crate::memory::Memory;
 use crate::place::{Part, Piece, Place};
-use crate::stack::{Answer, Stack, Stop};
-use dw_num::Order;
+use crate::stack::{Answer, Flow, Stack, Stop};
 use dw_op::{Op, OpList};
 use std::alloc::Global;
-
-/// Holds no byte, for an operation whose effect is asked for though it is not executed.
-#[derive(Drop)]
-struct NoMemory;
-
-impl Memory for NoMemory {
-    ghost byte = { λ m. λ a. None };
-
-    ghost failures = { λ m. 0 };
-
-    #[tactic(auto, using(crate::proofs::PlaceSteps::no_bytes))]
-    fn read(&mut self, address: u64, len: usize, order: Order) -> Result<u64, ReadFault> {
-        Err(ReadFault::Unreadable)
-    }
-}
 
 // Why an operation is refused that answers so on the stack: too few entries, or the missing piece.
 fn refusal(answer: Answer, index: usize) -> EvalError
@@ -101,20 +85,20 @@ impl<'a> Description<'a> {
     }
 
     // No piece follows a place: the stack is too short for the operation, or the piece is missing.
-    #[tactic(auto, using(crate::proofs::PlaceSteps::refusal_so))]
+    #[tactic(auto, using(crate::proofs::PlaceSteps::read_refusal))]
     fn refuse(&mut self, op: &Op<'a>, index: usize, env: &Env<'_>) -> Result<usize, EvalError>
-        requires access { (len : ℕ) → op.now ≡ DerefSize len → (1 ≤ len) × (len ≤ byte_count env.now.target.size) }
         ensures { (byte : ℕ → Option ℕ) → Leaves (refused (effect (context env.now byte) (bare op.now) self.old.stack)) index self.new result }
     {
-        let answer = act(op, &mut self.stack, env, &mut NoMemory);
-        Err(refusal(answer, index))
+        if let Op::Deref | Op::DerefSize(_) = *op {
+            return Err(refusal(self.stack.take().and(Ok(Flow::Next)), index));
+        }
+        Err(refusal(calculate(op, &mut self.stack, env), index))
     }
 
     // An operation while a place is pending.
     #[tactic(auto, using(crate::proofs::PlaceSteps::held_else))]
     fn hold(&mut self, op: &Op<'a>, index: usize, env: &Env<'_>) -> Result<usize, EvalError>
-        requires inside { index < 2 ^ 64 - 1 }
-        requires access { (len : ℕ) → op.now ≡ DerefSize len → (1 ≤ len) × (len ≤ byte_count env.now.target.size) }
+        requires { index < 2 ^ 64 - 1 }
         ensures { (byte : ℕ → Option ℕ) → Leaves (held_step (context env.now byte) (bare op.now) (state_of index self.old)) index self.new result }
     {
         match *op {

@@ -1,8 +1,8 @@
 //! The stack of values (2.5.1), and what operations do to it: stack operations (2.5.1.3), arithmetic and logic (2.5.1.4), comparisons and branches (2.5.1.5).
 
-ghost use Rattle.std.specs.Prelude.{◌≡◌, ℕ, ◌%◌, List, [], ◌∷◌, length, slice_get, IfOk, IfErr, nat_eq, if◌then◌else◌};
-ghost use Rattle.dw_eval.specs.Effect.{Next, Jump, on_top, on_two, on_three, known, nonzero, push};
-ghost use Rattle.dw_eval.specs.{declared.error.Kind.TheVariants.StackUnderflow, Inner.Steps.{Does, LacksTwo, MakesOfOne, MakesOfTwo, divides}};
+ghost use Rattle.std.specs.Prelude.{◌≡◌, ℕ, ◌%◌, pos, ◌+ℤ◌, List, [], ◌∷◌, length, slice_get, IfOk, IfErr, nat_eq, if◌then◌else◌};
+ghost use Rattle.dw_eval.specs.Effect.{Next, Jump, on_top, on_two, on_three, known, nonzero, push, push_signed};
+ghost use Rattle.dw_eval.specs.{declared.error.Kind.TheVariants.StackUnderflow, Inner.Steps.{Does, LacksTwo, divides}};
 
 use crate::arithmetic;
 use crate::error::Kind;
@@ -106,7 +106,7 @@ impl Stack {
         ensures { Does (known StackUnderflow (slice_get self.old index) (λ v. Next (v ∷ self.old))) result self.new }
     {
         let value = self.get(usize::from(index));
-        self.put_known(value, Kind::StackUnderflow)
+        self.put(value.ok_or(Stop::Fault(Kind::StackUnderflow))?)
     }
 
     pub(crate) fn swap(&mut self) -> Answer
@@ -125,24 +125,6 @@ impl Stack {
         self.put(t)?;
         self.put(third)?;
         self.put(s)
-    }
-
-    /// Puts what is made of the top in its place.
-    pub(crate) fn one<F: FnOnce(u64) -> u64>(&mut self, f: F) -> Answer
-        requires { F.IsAlwaysCallable f }
-        ensures { MakesOfOne (F.post f) self.old result self.new }
-    {
-        let t = self.take()?;
-        self.put(f(t))
-    }
-
-    /// Puts what is made of the second and the top in their place.
-    pub(crate) fn two<F: FnOnce(u64, u64) -> u64>(&mut self, f: F) -> Answer
-        requires { F.IsAlwaysCallable f }
-        ensures { MakesOfTwo (F.post f) self.old result self.new }
-    {
-        let (s, t) = self.take_two()?;
-        self.put(f(s, t))
     }
 
     pub(crate) fn div(&mut self, size: Size) -> Answer
@@ -175,10 +157,11 @@ impl Stack {
         Ok(Flow::Next)
     }
 
-    /// Puts a value on the stack, or faults where there is none.
-    pub(crate) fn put_known(&mut self, value: Option<u64>, missing: Kind) -> Answer
-        ensures { Does (known missing value (λ v. Next (v ∷ self.old))) result self.new }
+    /// Puts the sum of a base and a signed number on the stack, or faults where there is no base.
+    pub(crate) fn put_sum(&mut self, base: Option<u64>, by: i64, size: Size, absent: Kind) -> Answer
+        ensures { Does (known absent base (λ v. push_signed size (pos v +ℤ by) self.old)) result self.new }
     {
-        self.put(value.ok_or(Stop::Fault(missing))?)
+        let value = base.ok_or(Stop::Fault(absent))?;
+        self.put(arithmetic::offset_by(value, by, size))
     }
 }

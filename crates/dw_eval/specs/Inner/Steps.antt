@@ -1,7 +1,8 @@
 -- How the code keeps a step.
-use Rattle.std.specs.Prelude.{◌≡◌, ◌⊎◌, ℕ, ◌+◌, ◌%◌, ◌^◌, ◌<◌, int_div, List, [], ◌∷◌, Result, Ok, Err}
+use Rattle.std.specs.Prelude.{◌≡◌, ◌⊎◌, ℕ, ◌+◌, ◌%◌, ◌<◌, int_div, List, Result, Ok, Err}
 use Rattle.dw_num.specs.{Target.address_limit, declared.target.Size.Size}
 use Rattle.dw_op.specs.declared.op.Op.{Op}
+use Rattle.dw_op.specs.declared.op.Op.TheVariants.{Abs, Neg, Not, PlusUconst, And, Minus, Mul, Or, Plus, Shl, Shr, Shra, Xor, Eq, Ge, Gt, Le, Lt, Ne}
 use Rattle.dw_eval.specs.{Context.{Context, read_at, signed}, Effect.{effect, known, nonzero, on_top, push, push_signed, ReadsAt, ReadsMemory}}
 use Rattle.dw_eval.specs.{Effect.{OpEffect, Next, Jump, Faults, on_two}, declared.error.EvalError.EvalError, declared.error.EvalError.TheVariants.{Fault, OutOfMemory}}
 use Rattle.dw_eval.specs.declared.{error.Kind.Kind, error.Kind.TheVariants.{Device, StackUnderflow, MissingPiece, Unreadable}, stack.Flow.Flow, stack.Stop.Stop}
@@ -16,25 +17,17 @@ Does outcome (Err (stop.Fault kind)) stack = outcome ≡ Faults kind
 Does outcome (Err stop.Device) stack = ⊥
 Does outcome (Err stop.OutOfMemory) stack = Unit {0}
 
--- an operation puts what Made says in the place of the top
-abbrev pub MakesOfOne : (ℕ → ℕ → Type 0) → List ℕ → Result Flow Stop → List ℕ → Type 0
-MakesOfOne Made old (Ok flow.Next) new = (t made : ℕ) × (below : List ℕ) × (old ≡ t ∷ below) × (new ≡ made ∷ below) × (t < 2 ^ 64) × Made t made
-MakesOfOne Made old (Ok (flow.Jump i)) new = ⊥
-MakesOfOne Made old (Err (stop.Fault kind)) new = (kind ≡ StackUnderflow) × (old ≡ [])
-MakesOfOne Made old (Err stop.Device) new = ⊥
-MakesOfOne Made old (Err stop.OutOfMemory) new = Unit {0}
+-- an operation makes one value of one
+abbrev pub IsUnary : Op → Type 0
+IsUnary op = (op ≡ Abs) ⊎ ((op ≡ Neg) ⊎ ((op ≡ Not) ⊎ ((n : ℕ) × (op ≡ PlusUconst n))))
+
+-- an operation makes one value of two
+abbrev pub IsBinary : Op → Type 0
+IsBinary op = (op ≡ And) ⊎ ((op ≡ Minus) ⊎ ((op ≡ Mul) ⊎ ((op ≡ Or) ⊎ ((op ≡ Plus) ⊎ ((op ≡ Shl) ⊎ ((op ≡ Shr) ⊎ ((op ≡ Shra) ⊎ ((op ≡ Xor) ⊎ ((op ≡ Eq) ⊎ ((op ≡ Ge) ⊎ ((op ≡ Gt) ⊎ ((op ≡ Le) ⊎ ((op ≡ Lt) ⊎ (op ≡ Ne))))))))))))))
 
 -- there are no two values
 abbrev pub LacksTwo : List ℕ → Type 0
 LacksTwo stack = (f : ℕ → ℕ → List ℕ → OpEffect) → on_two stack f ≡ Faults StackUnderflow
-
--- and in that of the second and the top
-abbrev pub MakesOfTwo : (ℕ → ℕ → ℕ → Type 0) → List ℕ → Result Flow Stop → List ℕ → Type 0
-MakesOfTwo Made old (Ok flow.Next) new = (s t made : ℕ) × (below : List ℕ) × (old ≡ t ∷ s ∷ below) × (new ≡ made ∷ below) × (s < 2 ^ 64) × (t < 2 ^ 64) × Made s t made
-MakesOfTwo Made old (Ok (flow.Jump i)) new = ⊥
-MakesOfTwo Made old (Err (stop.Fault kind)) new = (kind ≡ StackUnderflow) × LacksTwo old
-MakesOfTwo Made old (Err stop.Device) new = ⊥
-MakesOfTwo Made old (Err stop.OutOfMemory) new = Unit {0}
 
 -- so does one over a memory, while the count of failures stays; where it grew, this was read
 abbrev pub Acts : OpEffect → Type 0 → ℕ → Result Flow Stop → List ℕ → ℕ → Type 0

@@ -9,14 +9,14 @@ returns-in_err-index-clause-so g c =
     let p = err_from_is_err_and c.from_residual.result c.from_residual.ensures.1 in
     rw (p.1, p.2) (step_stop index_of value_step value_reads (λ len s. top_of len s.stack) _ _ c.args.ops.now (value_start c.args.stack.now) c.steps.taken c.steps.index _ _ (record { index = c.steps.index; stack = c.steps.stack }) _
     (ap (context c.args.env.now) c.steps.invariant.same) c.steps.invariant.runs refl c.steps-test.true c.steps.invariant.count c.args.steps _ (λ k. record { index = k; stack = c.act-answer.new.stack }) _ (omega arith)
-    (acted {S = State} (λ k stack. record { index = k; stack = stack }) _ _ _ _ c.act-answer.result _ _ _ c.act-answer.ensures.acts c.in_err-index.ensures))
+    (acted {S = State} (λ k stack. record { index = k; stack = stack }) _ _ _ (λ read. read) _ _ c.act-answer.result _ _ _ c.act-answer.ensures.acts c.in_err-index.ensures))
 
 pub steps-preserved : goal.steps-preserved
 steps-preserved g c =
     let p = step_more index_of value_step value_reads (λ len s. top_of len s.stack) _ _ c.args.ops.now (value_start c.args.stack.now) c.steps.taken c.steps.index _ _ (record { index = c.steps.index; stack = c.steps.stack }) _
     (ap (context c.args.env.now) c.steps.invariant.same) c.steps.invariant.runs refl c.steps-test.true c.steps.invariant.count c.in_ok-index.index _ (λ k. record { index = k; stack = c.act-answer.new.stack })
     (value_stays _ (map bare c.args.ops.now) c.requires.range) (λ k. refl)
-    (acted {S = State} (λ k stack. record { index = k; stack = stack }) _ _ _ _ c.act-answer.result _ _ _ c.act-answer.ensures.acts c.in_ok-index.ensures) in
+    (acted {S = State} (λ k stack. record { index = k; stack = stack }) _ _ _ (λ read. read) _ _ c.act-answer.result _ _ _ c.act-answer.ensures.acts c.in_ok-index.ensures) in
     record { runs = p.0; within = p.1; limit = omega arith; same = c.act-answer.ensures.same ∙ c.steps.invariant.same; count = p.2 }
 
 pub returns-then-taken-steps-clause-so : goal.returns-then-taken-steps-clause-so
