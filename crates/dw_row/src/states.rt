@@ -130,6 +130,9 @@ impl<'a> States<'a> {
     pub fn into_row(self) -> Row<'a>
         ensures { result ≡ self.entry.row }
     {
+        drop(self.kept);
+        drop(self.undo);
+        drop(self.saved);
         self.row
     }
 

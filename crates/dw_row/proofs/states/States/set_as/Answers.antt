@@ -1,6 +1,11 @@
 use Rattle.dw_row.proofs.{Words.{rule_in, with_rule}, StatesLaws.{marked_so, since_row}}
 use Rattle.dw_row.proofs.states.States.set_as.Goals as goal
 
+pub invariant_of-self-in_err-mark-2 : goal.invariant_of-self-in_err-mark-2
+invariant_of-self-in_err-mark-2 c =
+    let s = c.self.inside in let m = c.mark.ensures in let so = c.self.invariant.1 in let free = c.if-self.false in let old = s.row.registers in
+    rw c.in_err-mark-2.ensures.same (c.self.invariant.0, marked_so c.self.view_is so c.mark.new.self s.row s.kept.row free m.row m.watched (m.still old (since_row c.self.view_is so free)))
+
 pub invariant_of-self-in_err-copy_rule : goal.invariant_of-self-in_err-copy_rule
 invariant_of-self-in_err-copy_rule c =
     let s = c.self.inside in let m = c.mark.ensures in let so = c.self.invariant.1 in let free = c.if-self.false in let old = s.row.registers in
