@@ -130,9 +130,6 @@ impl<'a> States<'a> {
     pub fn into_row(self) -> Row<'a>
         ensures { result ≡ self.entry.row }
     {
-        drop(self.kept);
-        drop(self.undo);
-        drop(self.saved);
         self.row
     }
 
