@@ -69,9 +69,6 @@ module _ {all others xs ys : List Entry} (h : BothLeft all others xs ys) where
 
 -- ---- slots
 
-pub one_more : (from k : ℕ) (xs ys : List Entry) → SameBetween from k xs ys → rule_in xs k ≡ rule_in ys k → SameBetween from (k + 1) xs ys
-one_more from k xs ys h same r le lt = grind (arith, h r, same)
-
 -- a register whose slot is used in neither
 pub unused : (e f : Entries) → EntriesSo e → EntriesSo f → (mask : ℕ) → mask ≡ bit_or e.used f.used → SameUnset mask (entries_of e) (entries_of f)
 unused e f so so' mask is q lt none =
@@ -80,6 +77,10 @@ unused e f so so' mask is q lt none =
 -- the registers up to the next one in the mask
 pub up_to_next : (mask : ℕ) (xs ys : List Entry) (from k r : ℕ) → SameUnset mask xs ys → SameBetween from k xs ys → r ≤ 128 → ((q : ℕ) → k ≤ q → q < r → bit_at mask q ≡ 0) → SameBetween from r xs ys
 up_to_next mask xs ys from k r unset same within none q le lt = grind (arith, same q, unset q, none q)
+
+-- and that one
+pub one_more : (mask : ℕ) (xs ys : List Entry) (from k r : ℕ) → SameUnset mask xs ys → SameBetween from k xs ys → r < 128 → ((q : ℕ) → k ≤ q → q < r → bit_at mask q ≡ 0) → rule_in xs r ≡ rule_in ys r → SameBetween from (r + 1) xs ys
+one_more mask xs ys from k r unset same within none here q le lt = grind (arith, same q, unset q, none q, here)
 
 -- ---- registers that have no slot
 

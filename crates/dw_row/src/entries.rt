@@ -113,8 +113,9 @@ impl<'a> Entries<'a> {
         ensures { FirstDifference (place_behind behind) self.now.far.entries others.now.far.entries result }
     {
         let start = start_behind(behind);
-        let rules = self.far.range((start, Bound::Unbounded));
-        first_difference(rules, others.far.range((start, Bound::Unbounded)))
+        let mut rules = self.far.range((start, Bound::Unbounded));
+        let mut others = others.far.range((start, Bound::Unbounded));
+        first_difference(&mut rules, &mut others)
     }
 
     // Whether both trees are empty.

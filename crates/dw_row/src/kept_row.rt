@@ -99,6 +99,7 @@ impl<'a> KeptRow<'a> {
     }
 
     /// Makes the current row a copy of another one that was kept beside it too, or answers want of memory.
+    #[tactic(auto, using(crate::proofs::Marked::unwatched))]
     #[inline(always)]
     pub(crate) fn go_back(
         &mut self,

@@ -60,8 +60,7 @@ impl<'a> RegisterSet<'a> {
         ensures added { OnOk result ((r : ℕ) → has self.new r ≡ (nat_eq r register || has self.old r)) }
         ensures same { OnErr result (self.new ≡ self.old) }
     {
-        set_in_tree(&mut self.far, register, RegRule::SameValue)?;
-        Ok(())
+        set_in_tree(&mut self.far, register, RegRule::SameValue)
     }
 
     /// Puts a register in, or answers want of memory.

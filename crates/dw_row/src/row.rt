@@ -314,8 +314,7 @@ impl<'a> Row<'a> {
         if register < NEAR {
             return self.entries.set_near(register, rule);
         }
-        set_in_tree(&mut self.entries.far, register, rule)?;
-        Ok(())
+        set_in_tree(&mut self.entries.far, register, rule)
     }
 
     /// Leaves a register Unspecified (6.4.1). Takes no memory.
@@ -369,7 +368,6 @@ impl<'a> Row<'a> {
         self.entries.used
     }
 
-    // Whether no rule is in a tree.
     #[inline(always)]
     pub(crate) fn is_narrow(&self) -> bool {
         self.entries.is_narrow()

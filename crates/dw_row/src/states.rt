@@ -276,8 +276,8 @@ impl<'a> States<'a> {
         if self.is_listed {
             return self.set_rule_of(row, register);
         }
-        self.saved.mark(register)?;
         self.kept.mark(register)?;
+        self.saved.mark(register)?;
         self.row.ascends();
         self.row.copy_rule(row, register)?;
         Ok(())

@@ -59,15 +59,13 @@ pub(crate) fn next_in_tree<'a>(
 /// The first register whose rule differs between two parts of trees.
 #[tactic(auto, using(crate::proofs::Difference::none_differs))]
 pub(crate) fn first_difference(
-    rules: btree_map::Range<'_, u16, RegRule<'_>>,
-    others: btree_map::Range<'_, u16, RegRule<'_>>,
+    rules: &mut btree_map::Range<'_, u16, RegRule<'_>>,
+    others: &mut btree_map::Range<'_, u16, RegRule<'_>>,
 ) -> Option<u16>
-    requires rules { AreSpecified 0 rules }
-    requires others { AreSpecified 0 others }
-    ensures { FirstDifference 0 rules.entry others.entry result }
+    requires rules { AreSpecified 0 rules.old }
+    requires others { AreSpecified 0 others.old }
+    ensures { FirstDifference 0 rules.old others.old result }
 {
-    let mut rules = rules;
-    let mut others = others;
     'rules: while let Some((register, rule)) = rules.next() {
         let Some((other_register, other)) = others.next() else {
             return Some(*register);

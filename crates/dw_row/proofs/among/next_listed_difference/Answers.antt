@@ -13,13 +13,7 @@ marks-init c =
     )
 
 pub returns-then-not-has_same_rule : goal.returns-then-not-has_same_rule
-returns-then-not-has_same_rule c =
-    let inv = c.marks.invariant in
-    differs_here (place_behind c.args.behind) c.marks.marks c.next.new.self c.args.kept.now.registers c.args.row.now.registers c.in-Some.register.now c.in-Some.field-0-1.now c.in-Some.ensures.steps inv.0 inv.1
-    (not_one c.if-not-has_same_rule.ensures)
+returns-then-not-has_same_rule c = differs_here _ _ _ _ _ _ _ c.in-Some.ensures.steps c.marks.invariant.0 c.marks.invariant.1 (not_one c.if-not-has_same_rule.ensures)
 
 pub marks-preserved : goal.marks-preserved
-marks-preserved c =
-    let inv = c.marks.invariant in
-    same_here (place_behind c.args.behind) c.marks.marks c.next.new.self c.args.kept.now.registers c.args.row.now.registers c.in-Some.register.now c.in-Some.field-0-1.now c.in-Some.ensures.steps inv.0 inv.1
-    (c.if-not-has_same_rule.ensures.0 refl)
+marks-preserved c = same_here _ _ _ _ _ _ _ c.in-Some.ensures.steps c.marks.invariant.0 c.marks.invariant.1 (c.if-not-has_same_rule.ensures.0 refl)

@@ -1,4 +1,4 @@
-use Rattle.dw_row.proofs.{Words.{rules, ◌∙◌, sym}, Slots.next_used}
+use Rattle.dw_row.proofs.{Words.{rules, ◌∙◌, sym}, Slots.{next_used, none_used}}
 use Rattle.dw_row.proofs.row.SpecifiedIterator.next.Goals as goal
 
 pub returns-in-Some-clause-steps : goal.returns-in-Some-clause-steps
@@ -8,3 +8,9 @@ returns-in-Some-clause-steps c =
 
 pub returns-in-Some-clause-goes : goal.returns-in-Some-clause-goes
 returns-in-Some-clause-goes c = rw (returns-in-Some-clause-steps c) (search rules)
+
+pub returns-clause-steps : goal.returns-clause-steps
+returns-clause-steps c = search (rules, none_used)
+
+pub returns-clause-goes : goal.returns-clause-goes
+returns-clause-goes c = rw (returns-clause-steps c) (search rules)
