@@ -2,6 +2,7 @@
 
 use dw_op::ExprRef;
 use dw_row::RegRule;
+use std::alloc::AllocError;
 
 /// What the factored operands of instructions are multiplied by, from a CIE (6.4.1).
 #[derive(Clone, Copy, Debug, PartialEq, Eq)]
@@ -13,7 +14,7 @@ pub struct Factors {
 }
 
 /// A call frame instruction (6.4.2) with its factors multiplied out.
-#[derive(Clone, Debug, Drop, PartialEq, Eq)]
+#[derive(Debug, Drop, PartialEq, Eq)]
 pub enum Instr<'a> {
     /// `DW_CFA_nop` (6.4.2.5).
     Nop,
@@ -41,4 +42,31 @@ pub enum Instr<'a> {
     RememberState,
     /// `DW_CFA_restore_state` (6.4.2.4): the rules are those that were kept last.
     RestoreState,
+}
+
+impl<'a> Clone for Instr<'a> {
+    ghost use Rattle.std.specs.Prelude.{◌≡◌, ⊤};
+
+    ghost is_clone = { λ instr copy. copy ≡ instr };
+
+    ghost is_infallible = { λ _. ⊤ };
+
+    fn clone(&self) -> Result<Instr<'a>, AllocError> {
+        Ok(match self {
+            Instr::Nop => Instr::Nop,
+            Instr::SetLoc(address) => Instr::SetLoc(*address),
+            Instr::Advance(distance) => Instr::Advance(*distance),
+            Instr::DefCfa { register, offset } => Instr::DefCfa {
+                register: *register,
+                offset: *offset,
+            },
+            Instr::DefCfaRegister(register) => Instr::DefCfaRegister(*register),
+            Instr::DefCfaOffset(offset) => Instr::DefCfaOffset(*offset),
+            Instr::DefCfaExpression(expression) => Instr::DefCfaExpression(expression.copied()),
+            Instr::Set(register, rule) => Instr::Set(*register, rule.copied()),
+            Instr::Restore(register) => Instr::Restore(*register),
+            Instr::RememberState => Instr::RememberState,
+            Instr::RestoreState => Instr::RestoreState,
+        })
+    }
 }

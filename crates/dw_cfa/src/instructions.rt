@@ -7,8 +7,9 @@ ghost use Rattle.dw_cfa.specs.{InstrSpells.ProgramSpells, Listing.{ProgramFault,
 ghost use Rattle.dw_cfa.specs.Inner.{FrontInstr.instr_at, Listing.{Yields, left_of}, Turns.cie_machine};
 
 use crate::instr::{Factors, Instr};
-use crate::keep::Keep;
+use crate::keep::{Keep, bare};
 use crate::machine::End;
+use crate::opcode::Opcode;
 use crate::turn::execute;
 use dw_num::{Code, Cursor, Program, Refusal, Target, are_bytes};
 use dw_row::RegRule;
@@ -32,11 +33,6 @@ impl<'a> Keep<'a> for Noted<'a> {
     }
 
     #[inline(always)]
-    fn nop(&mut self, at: u64, fault: &mut Refusal) -> End {
-        self.take(Instr::Nop, at, fault)
-    }
-
-    #[inline(always)]
     fn advance(&mut self, distance: u128, at: u64, fault: &mut Refusal) -> End {
         self.take(Instr::Advance(distance), at, fault)
     }
@@ -57,18 +53,8 @@ impl<'a> Keep<'a> for Noted<'a> {
     }
 
     #[inline(always)]
-    fn restore(&mut self, register: u16, at: u64, fault: &mut Refusal) -> End {
-        self.take(Instr::Restore(register), at, fault)
-    }
-
-    #[inline(always)]
-    fn remember(&mut self, at: u64, fault: &mut Refusal) -> End {
-        self.take(Instr::RememberState, at, fault)
-    }
-
-    #[inline(always)]
-    fn recall(&mut self, at: u64, fault: &mut Refusal) -> End {
-        self.take(Instr::RestoreState, at, fault)
+    fn take_bare(&mut self, opcode: Opcode, at: u64, fault: &mut Refusal) -> End {
+        self.take(bare(opcode), at, fault)
     }
 
     #[inline(always)]

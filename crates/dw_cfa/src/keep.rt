@@ -3,11 +3,12 @@
 ghost use Rattle.std.specs.Prelude.{◌≡◌, ℕ, ◌≤◌, false, nat_lt, true};
 ghost use Rattle.dw_num.specs.declared.refusal.{Refusal.{Refusal}};
 ghost use Rattle.dw_cfa.specs.declared.{instr.Instr.Instr, machine.{End.End, Machine.Machine}};
-ghost use Rattle.dw_cfa.specs.declared.instr.Instr.TheVariants.{Advance, DefCfa, DefCfaOffset, Nop, RememberState, Restore, RestoreState, Set, SetLoc};
-ghost use Rattle.dw_cfa.specs.Inner.{Machine.IsCfaBehind, Steps.InLimit, Turns.{Did, IsWithinLimit, cie_machine}};
+ghost use Rattle.dw_cfa.specs.declared.instr.Instr.TheVariants.{Advance, DefCfa, DefCfaOffset, RememberState, RestoreState, Set, SetLoc};
+ghost use Rattle.dw_cfa.specs.Inner.{ByOpcode.bare_of, Machine.IsCfaBehind, Steps.InLimit, Turns.{Did, IsWithinLimit, cie_machine}};
 
 use crate::instr::Instr;
 use crate::machine::{End, Machine, refuse};
+use crate::opcode::Opcode;
 use dw_num::{Code, Refusal};
 use dw_row::{CfaRule, RegRule, Row};
 
@@ -25,11 +26,6 @@ pub(crate) trait Keep<'a> {
         requires within { IsWithinLimit (machine self.old) }
         requires limit { InLimit (machine self.old).limit instr }
         ensures { takes self.old instr.entry at result fault.new self.new };
-
-    /// Takes one that does nothing (6.4.2.5).
-    fn nop(&mut self, at: u64, fault: &mut Refusal) -> End
-        requires { IsWithinLimit (machine self.old) }
-        ensures { takes self.old Nop at result fault.new self.new };
 
     /// Takes one that moves the location on.
     fn advance(&mut self, distance: u128, at: u64, fault: &mut Refusal) -> End
@@ -51,24 +47,27 @@ pub(crate) trait Keep<'a> {
         requires { IsWithinLimit (machine self.old) }
         ensures { takes self.old (Set register rule.entry) at result fault.new self.new };
 
-    /// Takes one that gives a register the rule that it has in the initial row.
-    fn restore(&mut self, register: u16, at: u64, fault: &mut Refusal) -> End
+    /// Takes one that has no operands behind its opcode.
+    fn take_bare(&mut self, opcode: Opcode, at: u64, fault: &mut Refusal) -> End
         requires { IsWithinLimit (machine self.old) }
-        ensures { takes self.old (Restore register) at result fault.new self.new };
-
-    /// Takes one that remembers the row (6.4.2.4).
-    fn remember(&mut self, at: u64, fault: &mut Refusal) -> End
-        requires { IsWithinLimit (machine self.old) }
-        ensures { takes self.old RememberState at result fault.new self.new };
-
-    /// Takes one that goes back to the row that was remembered last (6.4.2.4).
-    fn recall(&mut self, at: u64, fault: &mut Refusal) -> End
-        requires { IsWithinLimit (machine self.old) }
-        ensures { takes self.old RestoreState at result fault.new self.new };
+        ensures { takes self.old (bare_of opcode) at result fault.new self.new };
 
     /// Whether the location is above an address.
     fn is_above(&self, address: u64) -> bool
         ensures { result ≡ nat_lt address (machine self.now).location };
+}
+
+/// The instruction of an opcode behind which no operands stand.
+#[inline(always)]
+pub(crate) fn bare<'a>(opcode: Opcode) -> Instr<'a>
+    ensures { result ≡ bare_of opcode }
+{
+    match opcode {
+        Opcode::Restore(register) => Instr::Restore(register),
+        Opcode::RememberState => Instr::RememberState,
+        Opcode::RestoreState => Instr::RestoreState,
+        _ => Instr::Nop,
+    }
 }
 
 /// The CFA's rule behind an instruction (6.4.2.2), or none where that keeps half of a rule that has none.
@@ -105,6 +104,34 @@ impl<'a> Machine<'a> {
         self.location = address;
         End::Moved
     }
+
+    // Remembers the row (6.4.2.4).
+    #[inline(always)]
+    fn remember(&mut self, at: u64, fault: &mut Refusal) -> End
+        requires { IsWithinLimit self.old }
+        ensures { Did false RememberState at self.old result fault.new self.new }
+    {
+        if self.states.depth() >= MOST_REMEMBERED {
+            return refuse(Code::StateStackFull, at, fault);
+        }
+        match self.states.remember() {
+            Ok(()) => End::On,
+            Err(_) => End::OutOfMemory,
+        }
+    }
+
+    // Goes back to the row that was remembered last (6.4.2.4).
+    #[inline(always)]
+    fn recall(&mut self, at: u64, fault: &mut Refusal) -> End
+        requires { IsWithinLimit self.old }
+        ensures { Did false RestoreState at self.old result fault.new self.new }
+    {
+        match self.states.restore() {
+            Ok(true) => End::On,
+            Ok(false) => refuse(Code::EmptyStateStack, at, fault),
+            Err(_) => End::OutOfMemory,
+        }
+    }
 }
 
 impl<'a> Keep<'a> for Machine<'a> {
@@ -119,7 +146,7 @@ impl<'a> Keep<'a> for Machine<'a> {
             Instr::SetLoc(address) => self.go(address, at, fault),
             Instr::Advance(distance) => self.advance(distance, at, fault),
             Instr::Set(register, rule) => self.set(register, rule, at, fault),
-            Instr::Restore(register) => self.restore(register, at, fault),
+            Instr::Restore(register) => self.take_bare(Opcode::Restore(register), at, fault),
             Instr::RememberState => self.remember(at, fault),
             Instr::RestoreState => self.recall(at, fault),
             definition => match cfa_behind(definition, self.states.row().cfa_rule()) {
@@ -133,11 +160,6 @@ impl<'a> Keep<'a> for Machine<'a> {
     }
 
     // What most programs have is taken in line.
-    #[inline(always)]
-    fn nop(&mut self, _at: u64, _fault: &mut Refusal) -> End {
-        End::On
-    }
-
     #[inline(always)]
     fn advance(&mut self, distance: u128, at: u64, fault: &mut Refusal) -> End {
         if distance > self.limit - self.location {
@@ -170,30 +192,15 @@ impl<'a> Keep<'a> for Machine<'a> {
     }
 
     #[inline(always)]
-    fn restore(&mut self, register: u16, _at: u64, _fault: &mut Refusal) -> End {
-        match self.states.set_as(&self.initial, register) {
-            Ok(()) => End::On,
-            Err(_) => End::OutOfMemory,
-        }
-    }
-
-    #[inline(always)]
-    fn remember(&mut self, at: u64, fault: &mut Refusal) -> End {
-        if self.states.depth() >= MOST_REMEMBERED {
-            return refuse(Code::StateStackFull, at, fault);
-        }
-        match self.states.remember() {
-            Ok(()) => End::On,
-            Err(_) => End::OutOfMemory,
-        }
-    }
-
-    #[inline(always)]
-    fn recall(&mut self, at: u64, fault: &mut Refusal) -> End {
-        match self.states.restore() {
-            Ok(true) => End::On,
-            Ok(false) => refuse(Code::EmptyStateStack, at, fault),
-            Err(_) => End::OutOfMemory,
+    fn take_bare(&mut self, opcode: Opcode, at: u64, fault: &mut Refusal) -> End {
+        match opcode {
+            Opcode::Restore(register) => match self.states.set_as(&self.initial, register) {
+                Ok(()) => End::On,
+                Err(_) => End::OutOfMemory,
+            },
+            Opcode::RememberState => self.remember(at, fault),
+            Opcode::RestoreState => self.recall(at, fault),
+            _ => End::On,
         }
     }
 
@@ -233,11 +240,6 @@ impl<'a> Keep<'a> for Row<'a> {
     }
 
     #[inline(always)]
-    fn nop(&mut self, at: u64, fault: &mut Refusal) -> End {
-        self.take(Instr::Nop, at, fault)
-    }
-
-    #[inline(always)]
     fn advance(&mut self, distance: u128, at: u64, fault: &mut Refusal) -> End {
         self.take(Instr::Advance(distance), at, fault)
     }
@@ -258,18 +260,8 @@ impl<'a> Keep<'a> for Row<'a> {
     }
 
     #[inline(always)]
-    fn restore(&mut self, register: u16, at: u64, fault: &mut Refusal) -> End {
-        self.take(Instr::Restore(register), at, fault)
-    }
-
-    #[inline(always)]
-    fn remember(&mut self, at: u64, fault: &mut Refusal) -> End {
-        self.take(Instr::RememberState, at, fault)
-    }
-
-    #[inline(always)]
-    fn recall(&mut self, at: u64, fault: &mut Refusal) -> End {
-        self.take(Instr::RestoreState, at, fault)
+    fn take_bare(&mut self, opcode: Opcode, at: u64, fault: &mut Refusal) -> End {
+        self.take(bare(opcode), at, fault)
     }
 
     fn is_above(&self, _address: u64) -> bool {

@@ -9,6 +9,7 @@ ghost use Rattle.dw_cfa.specs.Inner.{LookUp.look_up_at, Turns.Did};
 use crate::instr::Instr;
 use crate::keep::{Keep, cfa_behind};
 use crate::machine::{End, refuse};
+use crate::opcode::Opcode;
 use dw_num::{Code, Refusal, Size};
 use dw_row::{CfaRule, NEAR, RegRule, Row, is_in};
 use std::alloc::Global;
@@ -98,9 +99,9 @@ impl<'a> Keep<'a> for LookUp<'a> {
             }
             Instr::Advance(distance) => self.advance(distance, at, fault),
             Instr::Set(register, rule) => self.set(register, rule, at, fault),
-            Instr::Restore(register) => self.restore(register, at, fault),
-            Instr::RememberState => self.remember(at, fault),
-            Instr::RestoreState => self.recall(at, fault),
+            Instr::Restore(register) => self.take_bare(Opcode::Restore(register), at, fault),
+            Instr::RememberState => End::OutOfMemory,
+            Instr::RestoreState => refuse(Code::EmptyStateStack, at, fault),
             definition => match cfa_behind(definition, self.row.cfa_rule()) {
                 Some(rule) => {
                     self.row.set_cfa(rule);
@@ -109,11 +110,6 @@ impl<'a> Keep<'a> for LookUp<'a> {
                 None => refuse(Code::CfaNotRegister, at, fault),
             },
         }
-    }
-
-    #[inline(always)]
-    fn nop(&mut self, _at: u64, _fault: &mut Refusal) -> End {
-        End::On
     }
 
     #[inline(always)]
@@ -148,24 +144,21 @@ impl<'a> Keep<'a> for LookUp<'a> {
     }
 
     #[inline(always)]
-    fn restore(&mut self, register: u16, _at: u64, _fault: &mut Refusal) -> End {
-        if register >= NEAR || is_in(self.specified, register) {
-            return End::OutOfMemory;
+    fn take_bare(&mut self, opcode: Opcode, at: u64, fault: &mut Refusal) -> End {
+        match opcode {
+            Opcode::Restore(register) => {
+                if register >= NEAR || is_in(self.specified, register) {
+                    return End::OutOfMemory;
+                }
+                match self.row.set(register, RegRule::Unspecified) {
+                    Ok(()) => End::On,
+                    Err(_) => End::OutOfMemory,
+                }
+            }
+            Opcode::RememberState => End::OutOfMemory,
+            Opcode::RestoreState => refuse(Code::EmptyStateStack, at, fault),
+            _ => End::On,
         }
-        match self.row.set(register, RegRule::Unspecified) {
-            Ok(()) => End::On,
-            Err(_) => End::OutOfMemory,
-        }
-    }
-
-    #[inline(always)]
-    fn remember(&mut self, _at: u64, _fault: &mut Refusal) -> End {
-        End::OutOfMemory
-    }
-
-    #[inline(always)]
-    fn recall(&mut self, at: u64, fault: &mut Refusal) -> End {
-        refuse(Code::EmptyStateStack, at, fault)
     }
 
     #[inline(always)]

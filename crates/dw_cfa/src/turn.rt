@@ -30,7 +30,6 @@ fn apply<'a, K: Keep<'a>>(
     ensures { Taken K.takes (operands_at factors at opcode cursor.old) at keep.old result fault.new cursor.new keep.new }
 {
     match opcode {
-        Opcode::Nop => keep.nop(at, fault),
         Opcode::AdvanceLoc(delta) => {
             keep.advance(distance(u64::from(delta), factors), at, fault)
         }
@@ -40,9 +39,9 @@ fn apply<'a, K: Keep<'a>>(
         Opcode::DefCfaOffset => run_def_cfa_offset(cursor, keep, at, fault),
         Opcode::DefCfaOffsetSf => run_def_cfa_offset_sf(cursor, factors, keep, at, fault),
         Opcode::Offset(register) => run_offset(cursor, factors, keep, at, register, fault),
-        Opcode::Restore(register) => keep.restore(register, at, fault),
-        Opcode::RememberState => keep.remember(at, fault),
-        Opcode::RestoreState => keep.recall(at, fault),
+        Opcode::Nop | Opcode::Restore(_) | Opcode::RememberState | Opcode::RestoreState => {
+            keep.take_bare(opcode, at, fault)
+        }
         _ => apply_rare(opcode, cursor, factors, keep, at, fault),
     }
 }

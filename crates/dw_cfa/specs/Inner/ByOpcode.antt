@@ -124,6 +124,13 @@ rare_at f at opcodes.OffsetExtended i = offset_extended_at f at false i
 rare_at f at opcodes.OffsetExtendedSf i = offset_extended_at f at true i
 rare_at f at opcode i = other_at f at opcode i
 
+-- the instruction of an opcode without operands behind it
+abbrev pub bare_of : Opcode → Instr
+bare_of (opcodes.Restore r) = Restore r
+bare_of opcodes.RememberState = RememberState
+bare_of opcodes.RestoreState = RestoreState
+bare_of other = Nop
+
 -- the operands of the instruction whose opcode is at this place
 unfoldable pub operands_at : Factors → ℕ → Opcode → Input → Read Instr
 operands_at f at opcodes.Nop i = Ok (Nop, i)
