@@ -99,14 +99,13 @@ pub(crate) fn next_item<'a>(cursor: &mut Cursor<'a>) -> Result<Option<Placed<'a>
     if unit.length == 0 && form == Form::Dwarf32 {
         return Ok(None);
     }
-    if (cursor.left() as u64) < unit.length {
-        return Err(refusal(Code::EntryPastEnd, at));
-    }
     let place = cursor.at();
-    if unit.length < width_of(form) as u64 {
+    let Ok(bytes) = cursor.take(unit.length as usize) else {
+        return Err(refusal(Code::EntryPastEnd, at));
+    };
+    if bytes.len() < width_of(form) {
         return Err(refusal(Code::Truncated, place));
     }
-    let bytes = cursor.take(unit.length as usize)?;
     Ok(Some(Placed {
         at,
         form,

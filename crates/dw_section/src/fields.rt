@@ -89,7 +89,7 @@ fn read_register(cursor: &mut Cursor<'_>, version: u8) -> Result<u16, Refusal>
     ensures { (rest : ℕ → Fields TheCieFields) → Passes result (fields_at (return_register version rest) cursor.old) (λ r. fields_at (rest r) cursor.new) }
 {
     if version == 1 {
-        return Ok(u16::from(cursor.byte()?));
+        return cursor.byte().map(u16::from);
     }
     cursor.register()
 }
