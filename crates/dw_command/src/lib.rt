@@ -10,7 +10,7 @@ mod lent;
 
 pub use command::engine;
 pub use dw_files::{Disk, Hinted, Load, LoadError, Shown};
-pub use dw_show::{Failure, Place};
+pub use dw_show::Failure;
 pub use dw_words::{
     Evaluation, Job, Lookup, Name, PlanError, Request, Task, Unwinding, Writing, plan,
 };

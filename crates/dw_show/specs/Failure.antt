@@ -49,12 +49,12 @@ of_eval eval_error.OutOfMemory = failures.OutOfMemory
 
 -- what a text says is wrong in a column
 abbrev pub IsWrongIn : Text → Column → Failure → Type 0
-IsWrongIn what column (failures.Column text place) = (text.now ≡ what) × (place.0 ≡ column)
+IsWrongIn what column (failures.Column text place) = (text.now ≡ what) × (place ≡ column)
 IsWrongIn what column failure = ⊥
 
 abbrev pub OfUnwind : UnwindError → Failure → Type 0
 OfUnwind unwind_error.NoFde failure = failure ≡ failures.NoFde
-OfUnwind (unwind_error.Eval kind index column) (failures.Value k i place) = (k ≡ kind) × (i ≡ index) × (place.0 ≡ column)
+OfUnwind (unwind_error.Eval kind index column) (failures.Value k i place) = (k ≡ kind) × (i ≡ index) × (place ≡ column)
 OfUnwind (unwind_error.Eval kind index column) failure = ⊥
 OfUnwind (unwind_error.Unreadable column a k) failure = IsWrongIn (codes "Unreadable") column failure
 OfUnwind (unwind_error.Device column) failure = IsWrongIn (codes "Device") column failure

@@ -8,18 +8,7 @@ use dw_num::{ReadError, Refusal};
 use dw_unwind::{Column, DumpError, DumpFault, UnwindError};
 use dw_words::PlanError;
 use std::alloc::AllocError;
-use std::fmt;
 use thiserror::Error;
-
-/// A column as it is printed.
-#[derive(Clone, Copy, Debug, PartialEq, Eq)]
-pub struct Place(Column);
-
-impl fmt::Display for Place {
-    fn fmt<W: fmt::Write>(&self, f: &mut fmt::Formatter<W>) -> fmt::Result {
-        write!(f, "{}", self.0)
-    }
-}
 
 /// Why a run ends without its answer. Its text is the line that the command prints.
 #[derive(Debug, Drop, Error)]
@@ -38,10 +27,10 @@ pub enum Failure<'a> {
     Evaluation(Kind, usize),
     /// What an expression of a column ends with, and the operation's index.
     #[error("fault: {0} at {1} in {2}")]
-    Value(Kind, usize, Place),
+    Value(Kind, usize, Column),
     /// What is wrong in a column.
     #[error("fault: {0} in {1}")]
-    Column(&'static str, Place),
+    Column(&'static str, Column),
     /// No FDE covers the dump's pc.
     #[error("fault: NoFde")]
     NoFde,
@@ -128,10 +117,10 @@ impl From<UnwindError> for Failure<'_> {
                 kind,
                 index,
                 column,
-            } => Failure::Value(kind, index, Place(column)),
-            UnwindError::Unreadable { column, .. } => Failure::Column("Unreadable", Place(column)),
-            UnwindError::Device { column } => Failure::Column("Device", Place(column)),
-            UnwindError::NoRegister { column, .. } => Failure::Column("NoRegister", Place(column)),
+            } => Failure::Value(kind, index, column),
+            UnwindError::Unreadable { column, .. } => Failure::Column("Unreadable", column),
+            UnwindError::Device { column } => Failure::Column("Device", column),
+            UnwindError::NoRegister { column, .. } => Failure::Column("NoRegister", column),
             UnwindError::OutOfMemory => Failure::OutOfMemory,
         }
     }

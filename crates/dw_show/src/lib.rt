@@ -12,7 +12,7 @@ mod texts;
 mod unwind;
 
 pub use expression::{run_eval, run_expr};
-pub use failure::{Failure, Place};
+pub use failure::Failure;
 pub use files::load_file;
 pub use listing::{Listing, put_help};
 pub use rows::{run_at, run_rows};
