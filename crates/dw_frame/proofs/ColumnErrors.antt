@@ -39,13 +39,11 @@ module _ (So : Column → UnwindError → Type 0) (c : Context) (limit : ℕ)
 
   pub cfa_holds : (r : CfaRule) (answer : Result ℕ UnwindError) → CfaIs c limit r answer → Holds (So Cfa) answer
   cfa_holds cfa.Unset answer h = absurd h
-  cfa_holds (cfa.Register r n) answer h =
-      subst (Holds (So Cfa)) (sym h) (known (So Cfa) (NoRegister Cfa r) (option_map (λ v. plus c limit v n) (c.register r)) (λ none. ungiven Cfa r (unmapped _ (c.register r) none)))
+  cfa_holds (cfa.Register r n) answer h = subst (Holds (So Cfa)) (sym h) (known (So Cfa) (NoRegister Cfa r) (option_map (λ v. plus c limit v n) (c.register r)) (λ none. ungiven Cfa r (unmapped _ (c.register r) none)))
   cfa_holds (cfa.Expression e) answer h = value Cfa e [] answer h
 
   saved_by : (column : Column) (cfa : ℕ) (e : Expression) (answer : Result ℕ UnwindError) → SavedBy c limit column cfa e answer → Holds (So column) answer
-  saved_by column cfa e answer h =
-      subst (Holds (So column)) (sym h.2) (behind (So column) h.0 (saved_at c limit column) (value column e (on_cfa c limit cfa) h.0 h.1) (saved column))
+  saved_by column cfa e answer h = subst (Holds (So column)) (sym h.2) (behind (So column) h.0 (saved_at c limit column) (value column e (on_cfa c limit cfa) h.0 h.1) (saved column))
 
   pub register_holds : (policy : Policy) (cfa r : ℕ) (x : RegRule) (answer : Result (Option ℕ) UnwindError) → RegisterIs c limit policy cfa r x answer → Holds (So (Register r)) answer
   register_holds policy cfa r (rules.Offset n) answer h =
@@ -54,6 +52,5 @@ module _ (So : Column → UnwindError → Type 0) (c : Context) (limit : ℕ)
       let told = known (So (Register r)) (NoRegister (Register r) q) (value_in c limit q) (λ none. ungiven (Register r) q (unmapped _ (c.register q) none)) in
       subst (Holds (So (Register r))) (sym h) (recovers (So (Register r)) (ok_or (value_in c limit q) (NoRegister (Register r) q)) told)
   register_holds policy cfa r (rules.Expression e) answer h = subst (Holds (So (Register r))) (sym h.2) (recovers (So (Register r)) h.0 (saved_by (Register r) cfa e h.0 h.1))
-  register_holds policy cfa r (rules.ValExpression e) answer h =
-      subst (Holds (So (Register r))) (sym h.2) (recovers (So (Register r)) h.0 (value (Register r) e (on_cfa c limit cfa) h.0 h.1))
+  register_holds policy cfa r (rules.ValExpression e) answer h = subst (Holds (So (Register r))) (sym h.2) (recovers (So (Register r)) h.0 (value (Register r) e (on_cfa c limit cfa) h.0 h.1))
   register_holds policy cfa r x answer h = subst (Holds (So (Register r))) (sym h) tt

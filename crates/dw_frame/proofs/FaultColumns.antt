@@ -19,8 +19,7 @@ module _ (c : Context) (limit : ℕ) where
   cfa_names r e h = cfa_holds Names c limit (λ column x first answer is. in_column_names column answer) (λ column a none other named. cc) (λ column q none other named. cc) r (Err e) h
 
   register_names : (policy : Policy) (cfa r : ℕ) (x : RegRule) (e : UnwindError) → RegisterIs c limit policy cfa r x (Err e) → Names (Register r) e
-  register_names policy cfa r x e h =
-      register_holds Names c limit (λ column y first answer is. in_column_names column answer) (λ column a none other named. cc) (λ column q none other named. cc) policy cfa r x (Err e) h
+  register_names policy cfa r x e h = register_holds Names c limit (λ column y first answer is. in_column_names column answer) (λ column a none other named. cc) (λ column q none other named. cc) policy cfa r x (Err e) h
 
   -- ---- the device
 

@@ -18,8 +18,7 @@ module _ (c : Context) (limit : ℕ) where
   one_cfa (cfa.Expression e) a b v w = one_value _ e [] a b v w
 
   one_saved : (column : Column) (cfa : ℕ) (e : Expression) (a b : Result ℕ UnwindError) → SavedBy c limit column cfa e a → SavedBy c limit column cfa e b → a ≡ b
-  one_saved column cfa e a b v w =
-      v.2 ∙ ap (λ (r : Result ℕ UnwindError). on_value r (saved_at c limit column)) (one_value column e (on_cfa c limit cfa) v.0 w.0 v.1 w.1) ∙ sym w.2
+  one_saved column cfa e a b v w = v.2 ∙ ap (λ (r : Result ℕ UnwindError). on_value r (saved_at c limit column)) (one_value column e (on_cfa c limit cfa) v.0 w.0 v.1 w.1) ∙ sym w.2
 
   one_register : (policy : Policy) (cfa r : ℕ) (rule : RegRule) (a b : Result (Option ℕ) UnwindError) → RegisterIs c limit policy cfa r rule a → RegisterIs c limit policy cfa r rule b → a ≡ b
   one_register policy cfa r (rules.Expression e) a b v w = v.2 ∙ ap recovered (one_saved _ cfa e v.0 w.0 v.1 w.1) ∙ sym w.2
@@ -105,8 +104,7 @@ module _ (c : Context) (limit : ℕ) (policy : Policy) (row : Rules) (register :
 
   frame_apart : (a : Frame) (e : UnwindError) → FrameIs c limit policy row register (Ok a) → FrameIs c limit policy row register (Err e) → ⊥
   frame_apart a e v (inl w) = cfa_apart a.cfa e v.0 w
-  frame_apart a e v (inr w) =
-      registers_apart a.cfa a.registers e v.2 (subst (λ (n : ℕ). RegistersAre c limit policy row register n (Err e)) (cfa_same a.cfa w.0 v.0 w.1) w.2)
+  frame_apart a e v (inr w) = registers_apart a.cfa a.registers e v.2 (subst (λ (n : ℕ). RegistersAre c limit policy row register n (Err e)) (cfa_same a.cfa w.0 v.0 w.1) w.2)
 
   same_frame : (a b : Frame) → FrameIs c limit policy row register (Ok a) → FrameIs c limit policy row register (Ok b) → a ≡ b
   same_frame a b v w = grind (arith, cfa_same, same_registers)
@@ -115,8 +113,7 @@ module _ (c : Context) (limit : ℕ) (policy : Policy) (row : Rules) (register :
   frame_error e f (inl v) (inl w) = let same = one_cfa c limit row.cfa (Err e) (Err f) v w in cc
   frame_error e f (inl v) (inr w) = absurd (cfa_apart w.0 e w.1 v)
   frame_error e f (inr v) (inl w) = absurd (cfa_apart v.0 f v.1 w)
-  frame_error e f (inr v) (inr w) =
-      registers_error v.0 e f v.2 (subst (λ (n : ℕ). RegistersAre c limit policy row register n (Err f)) (cfa_same v.0 w.0 v.1 w.1) w.2)
+  frame_error e f (inr v) (inr w) = registers_error v.0 e f v.2 (subst (λ (n : ℕ). RegistersAre c limit policy row register n (Err f)) (cfa_same v.0 w.0 v.1 w.1) w.2)
 
   pub one_of_row : (a b : Result Frame UnwindError) → FrameIs c limit policy row register a → FrameIs c limit policy row register b → a ≡ b
   one_of_row (Ok a) (Ok b) v w = ap Ok (same_frame a b v w)
