@@ -142,10 +142,8 @@ pub(crate) fn same_slots(
             others,
             register,
         ),
-        (Slot::Undefined, Slot::Undefined) => true,
-        (Slot::SameValue, Slot::SameValue) => true,
-        (Slot::Offset, Slot::Offset) => slot.1 == other.1,
-        (Slot::ValOffset, Slot::ValOffset) => slot.1 == other.1,
+        (Slot::Undefined, Slot::Undefined) | (Slot::SameValue, Slot::SameValue) => true,
+        (Slot::Offset, Slot::Offset) | (Slot::ValOffset, Slot::ValOffset) => slot.1 == other.1,
         (Slot::Register, Slot::Register) => register_in(slot.1) == register_in(other.1),
         _ => false,
     }

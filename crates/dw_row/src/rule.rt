@@ -108,9 +108,9 @@ impl<'a> RegRule<'a> {
         ensures { IsTrue result ↔ (self.now ≡ other.now) }
     {
         match (self, other) {
-            (RegRule::Unspecified, RegRule::Unspecified) => true,
-            (RegRule::Undefined, RegRule::Undefined) => true,
-            (RegRule::SameValue, RegRule::SameValue) => true,
+            (RegRule::Unspecified, RegRule::Unspecified)
+            | (RegRule::Undefined, RegRule::Undefined)
+            | (RegRule::SameValue, RegRule::SameValue) => true,
             (RegRule::Offset(offset), RegRule::Offset(n)) => *offset == *n,
             (RegRule::ValOffset(offset), RegRule::ValOffset(n)) => *offset == *n,
             (RegRule::Register(register), RegRule::Register(r)) => *register == *r,

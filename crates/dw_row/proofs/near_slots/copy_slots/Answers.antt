@@ -1,4 +1,5 @@
-use Rattle.std.proofs.{Common.{arith}, lemmas.Grind.{common_steps}}
+use Rattle.std.proofs.lemmas.Grind.{common_steps}
+use Rattle.dw_row.proofs.Words.{arith}
 use Rattle.dw_row.proofs.near_slots.copy_slots.Goals as goal
 
 pub slots-preserved : goal.slots-preserved
