@@ -72,7 +72,7 @@ fn decode_ops<'a>(
 /// by `NotInFrame` (21); at the operand by `Truncated` (1), `NumberTooLarge` (8), `RegisterTooLarge` (9) or `BadDerefSize` (23). Where all are read,
 /// `BadBranch` (22) comes at the opcode of the first branch that leads to no operation's start and not to the end. Places count from the block's first byte.
 /// `OutOfMemory` may come in place of any answer: memory is taken for the operations.
-#[tactic(auto, using(crate::proofs::Lent::Blocks::block_found, crate::proofs::Lent::Blocks::fault_found, crate::proofs::Decoded::decoded_in_range))]
+#[tactic(auto, using(crate::proofs::Lent::Blocks::fault_found, crate::proofs::Decoded::decoded_in_range))]
 pub fn decode<'a>(
     alloc: Global,
     bytes: &'a [u8],

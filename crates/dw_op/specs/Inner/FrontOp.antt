@@ -92,12 +92,8 @@ step_of (fields.branch to) i = jump_at (branch_in to) i
 
 -- what a code and the number behind it make, which is signed behind an odd code
 abbrev pub made : Size → ℕ → ℕ → Op
-made size code n =
-    if nat_eq code 0x03 then ops.Addr n
-    else ops.Const (modulo (address_limit size) (
-    if nat_eq code 0x09 then cast_signed w8 (n % 2 ^ 8)
-    else if nat_eq code 0x0b then cast_signed w16 (n % 2 ^ 16)
-    else if nat_eq code 0x0d then cast_signed w32 (n % 2 ^ 32)
+made size code n = if nat_eq code 0x03 then ops.Addr n else ops.Const (modulo (address_limit size) (
+    if nat_eq code 0x09 then cast_signed w8 (n % 2 ^ 8) else if nat_eq code 0x0b then cast_signed w16 (n % 2 ^ 16) else if nat_eq code 0x0d then cast_signed w32 (n % 2 ^ 32)
     else if nat_eq code 0x0f || nat_eq code 0x11 then cast_signed w64 n else pos n))
 
 -- ---- an operation
