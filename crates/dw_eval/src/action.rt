@@ -48,6 +48,7 @@ fn read<M: Memory>(stack: &mut Stack, len: u8, env: &Env<'_>, memory: &mut M) ->
 }
 
 // Puts what a unary operation makes of the top in its place.
+#[inline(always)]
 fn change(op: &Op<'_>, stack: &mut Stack, env: &Env<'_>) -> Answer
     requires { IsUnary op.now }
     ensures { (byte : ℕ → Option ℕ) → Does (effect (context env.now byte) (bare op.now) stack.old) result stack.new }
@@ -65,6 +66,7 @@ fn change(op: &Op<'_>, stack: &mut Stack, env: &Env<'_>) -> Answer
 }
 
 // Puts what a binary operation makes of the second and the top in their place.
+#[inline(always)]
 fn combine(op: &Op<'_>, stack: &mut Stack, env: &Env<'_>) -> Answer
     requires { IsBinary op.now }
     ensures { (byte : ℕ → Option ℕ) → Does (effect (context env.now byte) (bare op.now) stack.old) result stack.new }
@@ -93,13 +95,13 @@ fn combine(op: &Op<'_>, stack: &mut Stack, env: &Env<'_>) -> Answer
 }
 
 /// Executes an operation that reads no memory.
+#[inline(always)]
 pub(crate) fn calculate(op: &Op<'_>, stack: &mut Stack, env: &Env<'_>) -> Answer
     requires { (op.now ≡ Deref → ⊥) × ((len : ℕ) → op.now ≡ DerefSize len → ⊥) }
     ensures { (byte : ℕ → Option ℕ) → Does (effect (context env.now byte) (bare op.now) stack.old) result stack.new }
 {
-    let size = env.target.size;
     match *op {
-        Op::Addr(number) | Op::Const(number) => stack.put(reduced(number, size)),
+        Op::Addr(number) | Op::Const(number) => stack.put(reduced(number, env.target.size)),
         Op::Dup => stack.pick(0),
         Op::Drop => stack.take().and(Ok(Flow::Next)),
         Op::Over => stack.pick(1),
@@ -107,8 +109,8 @@ pub(crate) fn calculate(op: &Op<'_>, stack: &mut Stack, env: &Env<'_>) -> Answer
         Op::Swap => stack.swap(),
         Op::Rot => stack.rot(),
         Op::Abs | Op::Neg | Op::Not | Op::PlusUconst(_) => change(op, stack, env),
-        Op::Div => stack.div(size),
-        Op::Mod => stack.modulus(size),
+        Op::Div => stack.div(env.target.size),
+        Op::Mod => stack.modulus(env.target.size),
         Op::And | Op::Minus | Op::Mul | Op::Or | Op::Plus | Op::Xor => combine(op, stack, env),
         Op::Shl | Op::Shr | Op::Shra => combine(op, stack, env),
         Op::Eq | Op::Ge | Op::Gt | Op::Le | Op::Lt | Op::Ne => combine(op, stack, env),
@@ -116,12 +118,12 @@ pub(crate) fn calculate(op: &Op<'_>, stack: &mut Stack, env: &Env<'_>) -> Answer
         Op::Skip(target) => Ok(Flow::Jump(target)),
         Op::Breg(register, by) => {
             let value = env.registers.get(register);
-            stack.put_sum(value, by, size, Kind::NoRegister { register })
+            stack.put_sum(value, by, env.target.size, Kind::NoRegister { register })
         }
-        Op::Fbreg(by) => stack.put_sum(env.frame_base, by, size, Kind::NoFrameBase),
+        Op::Fbreg(by) => stack.put_sum(env.frame_base, by, env.target.size, Kind::NoFrameBase),
         Op::Nop => Ok(Flow::Next),
-        Op::PushObjectAddress => stack.put_sum(env.object, 0, size, Kind::NoObject),
-        Op::CallFrameCfa => stack.put_sum(env.cfa, 0, size, Kind::NoCfa),
+        Op::PushObjectAddress => stack.put_sum(env.object, 0, env.target.size, Kind::NoObject),
+        Op::CallFrameCfa => stack.put_sum(env.cfa, 0, env.target.size, Kind::NoCfa),
         Op::Deref | Op::DerefSize(_) => unreachable!(),
         Op::Reg(_) | Op::Piece(_) | Op::BitPiece(_, _) | Op::Implicit(_) => Err(Stop::Fault(
             Kind::NotAValue,
