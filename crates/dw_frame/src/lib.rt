@@ -1,5 +1,4 @@
-//! The caller's frame by the rules of a row (6.4.1). `unwind_row` answers it, or the first fault; `Device` exactly where the memory's count of failures grew.
-//! Read `specs/Frames.antt` first.
+//! The caller's frame by the rules of a row (6.4.1): `unwind_row` answers it, or the first fault. Read `specs/Frames.antt` first.
 #![tactic(auto)]
 
 mod frame;

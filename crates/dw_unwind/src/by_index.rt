@@ -3,10 +3,9 @@
 ghost use Rattle.std.specs.Prelude.{◌≡◌, ◌⊎◌, ◌-◌, ◌^◌, ◌<◌, ◌≤◌, true, IfOk, IfErr, OnOk, Result, Err};
 ghost use Rattle.dw_row.specs.declared.rule.CfaRule.TheVariants.{Unset};
 ghost use Rattle.dw_section.specs.{Fits.RowFits, Laws.CfaIsSet, Ranges.IsTable};
-ghost use Rattle.dw_frame.specs.Frames.{is_device, stopped};
-ghost use Rattle.dw_unwind.specs.{Unwound.{Unwound, UnwindFails}, UnwoundAt.{IsLed, LacksRow, UnwoundAt, UnwindAtFails, by_index}};
+ghost use Rattle.dw_frame.specs.{Frames.{is_device, stopped}, declared.frame.UnwindError.TheVariants.OutOfMemory};
 ghost use Rattle.dw_frame.specs.declared.frame.{Frame.{Frame as TheFrame}, UnwindError.{UnwindError as TheError}};
-ghost use Rattle.dw_frame.specs.declared.frame.UnwindError.TheVariants.{OutOfMemory};
+ghost use Rattle.dw_unwind.specs.{Unwound.{Unwound, UnwindFails}, UnwoundAt.{IsLed, LacksRow, UnwoundAt, UnwindAtFails, by_index}};
 ghost use Rattle.dw_unwind.specs.Inner.Found.{FindsRow};
 ghost use Rattle.dw_unwind.specs.declared.by_index.UnwindAtError.TheVariants as TheUnwindAtError;
 
