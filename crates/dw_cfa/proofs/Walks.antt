@@ -1,6 +1,5 @@
 -- A walk from one FDE's program to another's, behind a CIE's row that is run or brought back.
-use Rattle.dw_cfa.specs.RowSteps.{Advances}
-use Rattle.dw_cfa.specs.Inner.RowWalk.{GoesOn, LeadsSame, ReadAlike}
+use Rattle.dw_cfa.specs.{RowSteps.{Advances}, Inner.RowWalk.{AllSpecify, GoesOn, LeadsSame, ReadAlike}}
 use Rattle.dw_cfa.proofs.Words.{◌≡◌, ◌⊎◌, ℕ, Bool, true, false, Option, Some, None, Ok, Result, Err, refl, sym, ap, subst, ◌∙◌, inl, inr, ◌↔◌, IsTrue, MatchOption, AreBytes, Factors, Input, Leading, Machine, Outcome, Progress, ReadError}
 use Rattle.dw_cfa.proofs.Words.{Refuses, Rules, Stepping, Target, ProgramSpells, blank, fails, finished, RunsSo, initial_row, placed, rows_left, program_input, kept, StandsOn, AreLeft, HasInitial, WalksSo, initial_of, led_of, led_row}
 use Rattle.dw_cfa.proofs.{Words.{led_rows, walk_of}, Lent.{FaultLaws.initial_leaves, Given.{leaves_to, refusal_weaker, to_leaves}, RowsAt.RowsFrom, RunLaws.{left_from, run_from}}, RunSteps.run_stuck}
@@ -66,6 +65,12 @@ pub goes_on_stands : (l : Leading) (fde : Input) (m : Machine) (p : Progress) (o
 goes_on_stands l fde m p old (Some start) (true, so, rows, is) h = rw is ((left_from l.factors fde m).some, h)
 goes_on_stands l fde m p old (Some start) (false, so, rows, is) h = rw is refl
 goes_on_stands l fde m p old None gives h = absurd gives
+
+pub goes_on_so : (l : Leading) (k : Bool) (i j : Input) (m n : Machine) (p : Progress) (s : Option ℕ) → WalksSo progress.Running k l i m → n.initial ≡ m.initial → GoesOn (rows_left l.factors i m) l.factors j n p (Ok s) → WalksSo p k l j n
+goes_on_so l k i j m n p (Some start) so same (true, runs, rows, is) =
+    rw is (record { stands = runs; initial = rw same so.initial; keeps = subst (λ (r : Rules). AllSpecify r (rows_left l.factors j n).rows) (sym same) (rw rows at so.keeps).1; left = rw same so.left })
+goes_on_so l k i j m n p (Some start) so same (false, runs, rows, is) = rw is (record { stands = runs.first; initial = rw same so.initial; keeps = tt; left = tt })
+goes_on_so l k i j m n p None so same gives = absurd gives
 
 -- an error is answered again
 pub answered_again : (old : Stepping) (result : Result (Option ℕ) ReadError) (new : Stepping) → Advances old result new → (e : ReadError) → old.error ≡ Some e → result ≡ Err e

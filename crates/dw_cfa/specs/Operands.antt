@@ -4,9 +4,7 @@ use Rattle.dw_op.specs.{Expression.Expression, Operands.{look_up, in_range}}
 use Rattle.dw_row.specs.declared.rule.RegRule.{RegRule}
 use Rattle.dw_row.specs.declared.rule.RegRule.TheVariants as rules
 use Rattle.dw_cfa.specs.declared.instr.Instr.TheVariants.{Nop, SetLoc, Advance, DefCfa, DefCfaRegister, DefCfaOffset, DefCfaExpression, Set, Restore}
-use Rattle.dw_cfa.specs.declared.instr.Instr.TheVariants.{RememberState, RestoreState}
-use Rattle.dw_cfa.specs.declared.instr.Instr.{Instr}
-use Rattle.dw_cfa.specs.declared.instr.Factors.{Factors}
+use Rattle.dw_cfa.specs.declared.instr.{Factors.Factors, Instr.{Instr, TheVariants.{RememberState, RestoreState}}}
 
 -- an address of the target; a number of n bytes; the LEB of a register, of a number, of a signed number; an expression's block behind its length
 pub data Operand : Type 0 where

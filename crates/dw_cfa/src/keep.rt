@@ -3,7 +3,7 @@
 ghost use Rattle.std.specs.Prelude.{◌≡◌, ℕ, ◌≤◌, false, nat_lt, true};
 ghost use Rattle.dw_num.specs.declared.refusal.{Refusal.{Refusal}};
 ghost use Rattle.dw_cfa.specs.declared.{instr.Instr.Instr, machine.{End.End, Machine.Machine}};
-ghost use Rattle.dw_cfa.specs.declared.instr.Instr.TheVariants.{Advance, DefCfa, DefCfaOffset, RememberState, RestoreState, Set, SetLoc};
+ghost use Rattle.dw_cfa.specs.declared.instr.Instr.TheVariants.{Advance, DefCfa, DefCfaOffset, RememberState, RestoreState, Set};
 ghost use Rattle.dw_cfa.specs.Inner.{ByOpcode.bare_of, Machine.IsCfaBehind, Steps.InLimit, Turns.{Did, IsWithinLimit, cie_machine}};
 
 use crate::instr::Instr;
@@ -91,20 +91,6 @@ pub(crate) fn cfa_behind<'a>(instr: Instr<'a>, cfa: &CfaRule<'a>) -> Option<CfaR
 }
 
 impl<'a> Machine<'a> {
-    // Moves the location to an address that is not below it.
-    #[inline(always)]
-    fn go(&mut self, address: u64, at: u64, fault: &mut Refusal) -> End
-        requires { address ≤ self.old.limit }
-        ensures { Did false (SetLoc address) at self.old result fault.new self.new }
-    {
-        let address = u128::from(address);
-        if address < self.location {
-            return refuse(Code::LocationBackwards, at, fault);
-        }
-        self.location = address;
-        End::Moved
-    }
-
     // Remembers the row (6.4.2.4).
     #[inline(always)]
     fn remember(&mut self, at: u64, fault: &mut Refusal) -> End
@@ -143,7 +129,14 @@ impl<'a> Keep<'a> for Machine<'a> {
     fn take(&mut self, instr: Instr<'a>, at: u64, fault: &mut Refusal) -> End {
         match instr {
             Instr::Nop => End::On,
-            Instr::SetLoc(address) => self.go(address, at, fault),
+            Instr::SetLoc(address) => {
+                let address = u128::from(address);
+                if address < self.location {
+                    return refuse(Code::LocationBackwards, at, fault);
+                }
+                self.location = address;
+                End::Moved
+            }
             Instr::Advance(distance) => self.advance(distance, at, fault),
             Instr::Set(register, rule) => self.set(register, rule, at, fault),
             Instr::Restore(register) => self.take_bare(Opcode::Restore(register), at, fault),

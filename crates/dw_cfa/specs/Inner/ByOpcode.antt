@@ -5,10 +5,7 @@ use Rattle.dw_num.specs.declared.refusal.{Code.TheVariants.OffsetTooLarge, Refus
 use Rattle.dw_row.specs.declared.rule.RegRule.{RegRule}
 use Rattle.dw_row.specs.declared.rule.RegRule.TheVariants as rules
 use Rattle.dw_cfa.specs.declared.instr.Instr.TheVariants.{Nop, SetLoc, DefCfa, DefCfaRegister, DefCfaOffset, DefCfaExpression, Set, Restore, RememberState}
-use Rattle.dw_cfa.specs.declared.instr.Instr.TheVariants.{RestoreState}
-use Rattle.dw_cfa.specs.declared.instr.Instr.{Instr}
-use Rattle.dw_cfa.specs.declared.instr.Factors.{Factors}
-use Rattle.dw_cfa.specs.declared.opcode.Opcode.{Opcode}
+use Rattle.dw_cfa.specs.declared.{instr.{Factors.Factors, Instr.{Instr, TheVariants.RestoreState}}, opcode.Opcode.Opcode}
 use Rattle.dw_cfa.specs.{Operands.advanced, Inner.FrontInstr.{leaving, block_at, with_instr}}
 use Rattle.dw_cfa.specs.declared.opcode.Opcode.TheVariants as opcodes
 

@@ -3,9 +3,7 @@ use Rattle.std.specs.Prelude.{ℕ, ◌-◌, List, [], ◌∷◌, Option, Some, i
 use Rattle.dw_op.specs.Operands.{look_up, in_range}
 use Rattle.dw_row.specs.declared.rule.RegRule.TheVariants as rules
 use Rattle.dw_cfa.specs.declared.instr.Instr.TheVariants.{Nop, SetLoc, DefCfa, DefCfaRegister, DefCfaOffset, DefCfaExpression, Set, Restore, RememberState}
-use Rattle.dw_cfa.specs.declared.instr.Instr.TheVariants.{RestoreState}
-use Rattle.dw_cfa.specs.declared.instr.Factors.{Factors}
-use Rattle.dw_cfa.specs.declared.opcode.Opcode.{Opcode}
+use Rattle.dw_cfa.specs.declared.{instr.{Factors.Factors, Instr.TheVariants.RestoreState}, opcode.Opcode.Opcode}
 use Rattle.dw_cfa.specs.Operands.{address, fixed, register, unsigned, signed, expression, InstrForm, none, one, two, advanced}
 use Rattle.dw_cfa.specs.declared.opcode.Opcode.TheVariants as opcodes
 

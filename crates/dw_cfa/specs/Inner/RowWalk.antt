@@ -3,9 +3,8 @@ use Rattle.std.specs.{Prelude.{◌≡◌, ℕ, Bool, true, false, if◌then◌el
 use Rattle.dw_num.specs.{Input.Input, Refusals.Refuses, declared.error.ReadError.ReadError, declared.refusal.Refusal.Refusal}
 use Rattle.dw_row.specs.{Rows.{Rules, blank, is_specified, rule}, States.BeganWith}
 use Rattle.dw_cfa.specs.declared.{execution.LocatedRow.LocatedRow, instr.Factors.Factors, lead.Leading.Leading, machine.Machine.Machine}
-use Rattle.dw_cfa.specs.declared.next_row.Progress.{Progress}
 use Rattle.dw_cfa.specs.{Behind.LeavesTo, RowSteps.{Failed, Stepping, program_input, stepping}, RowWalk.Led, Runs.{Outcome, fails, finished, row_then}}
-use Rattle.dw_cfa.specs.Inner.Runs.{RunsSo, initial_row, placed, rows_left, run_rows}
+use Rattle.dw_cfa.specs.{declared.next_row.Progress.Progress, Inner.Runs.{RunsSo, initial_row, placed, rows_left, run_rows}}
 use Rattle.dw_cfa.specs.declared.next_row.Progress.TheVariants as progress
 
 abbrev pub led_of : Leading → Led

@@ -1,9 +1,7 @@
 -- Runs of whole programs, and the rows that they give, as the code runs them.
 use Rattle.std.specs.Prelude.{◌≡◌, ℕ, ◌<◌, ◌≤◌, List, [], ◌∷◌, length, Bool, false, IsTrue, Option, Some, None, Result, Ok, Err, if◌then◌else◌}
-use Rattle.dw_num.specs.{Input.Input, Target.address_limit}
-use Rattle.dw_num.specs.declared.{refusal.Code.Code, refusal.Refusal.Refusal}
-use Rattle.dw_op.specs.Walks.{Walked}
-use Rattle.dw_op.specs.Inner.Walks.{walked}
+use Rattle.dw_num.specs.{Input.Input, Target.address_limit, declared.refusal.{Code.Code, Refusal.Refusal}}
+use Rattle.dw_op.specs.{Walks.Walked, Inner.Walks.walked}
 use Rattle.dw_row.specs.{Rows.{Rules, blank}, States.BeganWith}
 use Rattle.dw_cfa.specs.{Location.moves_location, Runs.{Outcome, finished, fails, row_then}}
 use Rattle.dw_cfa.specs.declared.{execution.LocatedRow.LocatedRow, instr.{Factors.Factors, Instr.Instr}, machine.Machine.Machine}
