@@ -134,7 +134,7 @@ fn ordered(judged: Judged) -> Result<Vec<Ranged>, ReadError>
     }
 }
 
-/// Reads the fields of the FDEs of a section that has a cut, runs their programs behind those of its CIEs, and puts them in order. Apart from `checked`, which owns a table.
+/// Reads the FDEs of a section that has a cut, runs their programs behind those of its CIEs, and puts them in order. Apart from `checked`, which owns a table.
 pub(crate) fn run_fdes<'a>(
     alloc: Global,
     bytes: &'a [u8],
