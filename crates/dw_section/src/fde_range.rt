@@ -1,18 +1,18 @@
 //! Running the programs of a section (6.4.2, 6.4.3), and its nonempty FDEs.
 
-ghost use Rattle.std.specs.{List.AllByRecursion, Prelude.{◌≡◌, ◌<◌, List, map, IfErr, IfOk, OnOk, ◌≤◌, None, [], ◌∷◌, ◌++◌}};
-ghost use Rattle.dw_num.specs.{Refusals.Refuses, Target.address_limit};
-ghost use Rattle.dw_section.specs.{Accepted.{CiesRun, RulesFault}, Cut.Piece, Headers.Head, Overlap.nonempty};
-ghost use Rattle.dw_section.specs.{Pieces.Pieces, Programs.{CieRuns, CieBroken}, Ranges.range_in, Stage.FirstStuck};
+ghost use Rattle.std.specs.{List.AllByRecursion, Prelude.{◌≡◌, ◌<◌, ℕ, List, map, IfErr, IfOk, OnOk, ◌≤◌, None, [], ◌∷◌, ◌++◌}};
+ghost use Rattle.dw_num.specs.{Refusals.Refuses, Target.address_limit, declared.target.Target.{Target as TheTarget}};
+ghost use Rattle.dw_section.specs.{Accepted.{CheckFault, RulesFault}, Cut.Piece, Headers.Head, Overlap.nonempty};
+ghost use Rattle.dw_section.specs.{Pieces.Pieces, Programs.{CieRuns, CieBroken}, Ranges.{IsTable, range_in}, Stage.FirstStuck};
 ghost use Rattle.dw_section.specs.Inner.{Index.{JudgesOne, BreaksOne, AreAllJudged, ListsOf}};
 ghost use Rattle.dw_section.specs.Inner.{Initials.{place_of, AreAmong, AreOf, AreCies}, PieceHeader.{entry_in, initial_in}, Places.{Rises, IsAt}, Walks.AreLed};
 
-use crate::entry::next_piece;
+use crate::entry::{next_piece, refusal};
 use crate::header::{Cies, FdeEntry, Initial, fde_of, or_fields_fault};
 use crate::walks::Walks;
 use dw_cfa::become_initial;
-use dw_index::Ranged;
-use dw_num::{Cursor, ReadError, Target, are_bytes};
+use dw_index::{Ranged, first_overlap, put_in_order};
+use dw_num::{Code, Cursor, ReadError, Target, are_bytes};
 use dw_row::Row;
 use std::alloc::{AllocError, Global};
 
@@ -117,18 +117,35 @@ fn run_on<'a>(
     Ok(())
 }
 
-/// Reads the fields of the FDEs of a section that has a cut, and runs their programs behind those of its CIEs. Apart from `checked`, which owns a table.
+// Puts in order what was judged of a section, unless an address lacks a rule or two FDEs share one.
+fn ordered(judged: Judged) -> Result<Vec<Ranged>, ReadError>
+    requires { (target : TheTarget) × (s : List ℕ) × AreAllJudged target s judged }
+    ensures found { (target : TheTarget) (s : List ℕ) → AreAllJudged target s judged → IfOk result (λ index. IsTable target s index.items) }
+    ensures first { (target : TheTarget) (s : List ℕ) → AreAllJudged target s judged → IfErr result (Refuses (CheckFault target s)) }
+{
+    if let Some(at) = judged.lacking {
+        return Err(ReadError::Refused(refusal(Code::NoCfaRule, at)));
+    }
+    let mut index = judged.list;
+    put_in_order(&mut index)?;
+    match first_overlap(&index) {
+        Some(at) => Err(ReadError::Refused(refusal(Code::Overlap, at))),
+        None => Ok(index),
+    }
+}
+
+/// Reads the FDEs of a section that has a cut, runs their programs behind those of its CIEs, and puts them in order. Apart from `checked`, which owns a table.
 pub(crate) fn run_fdes<'a>(
     alloc: Global,
     bytes: &'a [u8],
     target: Target,
     cies: &Cies<'a>,
-) -> Result<Judged, ReadError>
+) -> Result<Vec<Ranged>, ReadError>
     requires ascending { Rises 0 cies.now.places.items }
     requires cies { (ps : List Piece) × Pieces target bytes.now ps × AreCies target ps cies.now.places.items cies.now.initials.items }
     requires run { (hs : List Head) → AreOf hs cies.now.initials.items → AllByRecursion (CieRuns target) hs }
-    ensures found { IfOk result (AreAllJudged target bytes.now) }
-    ensures first { IfErr result (Refuses (RulesFault target bytes.now)) }
+    ensures found { IfOk result (λ index. IsTable target bytes.now index.items) }
+    ensures first { IfErr result (Refuses (CheckFault target bytes.now)) }
 {
     let mut judged = Judged {
         list: Vec::with_capacity(alloc, cies.counts.fdes)?,
@@ -138,5 +155,6 @@ pub(crate) fn run_fdes<'a>(
     let (places, initials) = (&cies.places, &cies.initials);
     let ran = run_on(&mut walks, &mut judged, bytes, target, places, initials);
     drop(walks);
-    ran.map(|()| judged)
+    ran?;
+    ordered(judged)
 }

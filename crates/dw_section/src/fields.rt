@@ -62,8 +62,7 @@ fn empty_string(cursor: &mut Cursor<'_>) -> Result<(), Refusal>
 {
     let at = cursor.at();
     if let Some(0) = cursor.rest().first() {
-        let _ = cursor.take(1)?;
-        return Ok(());
+        return cursor.take(1).map(drop);
     }
     match string_len(cursor.rest()) {
         None => Err(refusal(Code::Truncated, at)),

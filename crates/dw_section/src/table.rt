@@ -1,16 +1,16 @@
 //! Sections that are checked whole (6.4.1).
 
-ghost use Rattle.std.specs.Prelude.{◌≡◌, ℕ, List, IfOk, IfErr, MatchResult};
-ghost use Rattle.dw_num.specs.{Input.AreBytes, Refusals.Refuses, declared.{error.ReadError.TheVariants.OutOfMemory, target.Target.{Target as TheTarget}}};
+ghost use Rattle.std.specs.Prelude.{◌≡◌, List, IfOk, IfErr, MatchResult};
+ghost use Rattle.dw_num.specs.{Input.AreBytes, Refusals.Refuses, declared.error.ReadError.TheVariants.OutOfMemory};
 ghost use Rattle.dw_op.specs.Faults.{IsWithin};
 ghost use Rattle.dw_section.specs.{Accepted.{CheckFault, Accepted}, Counts.AreCounts, Cut.Piece, Meaning.AreFdes, Pieces.Pieces, Ranges.IsTable};
-ghost use Rattle.dw_section.specs.{Inner.Index.AreAllJudged, declared.lookup.Fde.{Fde as TheFde}};
+ghost use Rattle.dw_section.specs.declared.lookup.Fde.{Fde as TheFde};
 
-use crate::entry::{EntryCounts, refusal};
-use crate::fde_range::{Judged, run_cies, run_fdes};
+use crate::entry::EntryCounts;
+use crate::fde_range::{run_cies, run_fdes};
 use crate::header::{Initial, cies_of, or_fields_fault};
-use dw_index::{Ranged, first_overlap, put_in_order};
-use dw_num::{Code, Cursor, ReadError, Target, are_bytes};
+use dw_index::Ranged;
+use dw_num::{Cursor, ReadError, Target, are_bytes};
 use std::alloc::Global;
 use std::marker::Model;
 
@@ -74,23 +74,6 @@ impl<'a> Table<'a> {
     }
 }
 
-// Puts in order what was judged of a section, unless an address lacks a rule or two FDEs share one.
-fn ordered(judged: Judged) -> Result<Vec<Ranged>, ReadError>
-    requires { (target : TheTarget) × (s : List ℕ) × AreAllJudged target s judged }
-    ensures found { (target : TheTarget) (s : List ℕ) → AreAllJudged target s judged → IfOk result (λ index. IsTable target s index.items) }
-    ensures first { (target : TheTarget) (s : List ℕ) → AreAllJudged target s judged → IfErr result (Refuses (CheckFault target s)) }
-{
-    if let Some(at) = judged.lacking {
-        return Err(ReadError::Refused(refusal(Code::NoCfaRule, at)));
-    }
-    let mut index = judged.list;
-    put_in_order(&mut index)?;
-    match first_overlap(&index) {
-        Some(at) => Err(ReadError::Refused(refusal(Code::Overlap, at))),
-        None => Ok(index),
-    }
-}
-
 fn checked<'a>(alloc: Global, bytes: &'a [u8], target: Target) -> Result<Table<'a>, ReadError>
     ensures found { IfOk result (λ table. (table ≡ record { target = target; bytes = bytes.now }) × Accepted target bytes.now) }
     ensures first { IfErr result (Refuses (CheckFault target bytes.now)) }
@@ -100,7 +83,7 @@ fn checked<'a>(alloc: Global, bytes: &'a [u8], target: Target) -> Result<Table<'
         let mut cursor = Cursor::new(bytes, 0, target);
         return Err(or_fields_fault(&mut cursor, target, &cies.places, broken));
     }
-    let index = ordered(run_fdes(alloc, bytes, target, &cies)?)?;
+    let index = run_fdes(alloc, bytes, target, &cies)?;
     Ok(Table {
         bytes,
         target,

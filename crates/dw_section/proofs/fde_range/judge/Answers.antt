@@ -37,8 +37,7 @@ returns-clause-found c = λ hs front all runs led listed w.
     let y = c.in_ok-lacks.ensures.found in
     let said = behind_found c.args.target hs c.lead.new.self.walk.led (entry_head c.args.fde.now) (behind here hs all led) runs c.are_bytes.ensures c.requires.fits.1
     c.go_to.new.self.steps.outcome c.go_to.ensures.runs y.0 c.in_ok-lacks.lacks (rw (c.from.ensures, c.from-2.ensures) at y.1) in
-    let kept = c.keep_range.ensures in
-    on_both c.keep_range.result c.map_err.result c.map_err.ensures.variant kept.found (kept.each hs (among here hs all) listed w.each)
+    on_both c.keep_range.result c.map_err.result c.map_err.ensures.variant c.keep_range.ensures.found (c.keep_range.ensures.each hs (among here hs all) listed w.each)
     (λ are each. rw (c.or-judged.ensures, c.then_some.ensures) (judged_more c.args.target hs front (entry_in c.args.fde.now) c.args.judged.now.lacking c.in_ok-lacks.lacks c.args.judged.now.list.items c.keep_range.new.list.items w said.0 said.1 are each))
 
 pub returns-in_err-lacks-clause-led : goal.returns-in_err-lacks-clause-led

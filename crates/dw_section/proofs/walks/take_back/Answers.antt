@@ -2,12 +2,8 @@ use Rattle.dw_section.proofs.Words.{ℕ, List, None, inl, inr, nat_cmp, cases_Bo
 use Rattle.std.specs.BTreeMap.{is_at, Updates}
 use Rattle.dw_section.proofs.walks.take_back.Goals as goal
 
--- of all that stay
 led_still : (target : Target) (hs : List Head) (old new : BTreeMap ℕ Walking) (place : ℕ) → Updates nat_cmp old new place None → AreAway target hs old → AreAway target hs new
 led_still target hs old new place is all = λ other. elim (cases_Bool (is_at (nat_cmp place) other)) [ inl e ↦ rw (is.0 other, e) tt | inr e ↦ rw (is.0 other, e) (all other) ]
-
-pub returns-in-Some-clause-led : goal.returns-in-Some-clause-led
-returns-in-Some-clause-led c = λ hs all. rw (← c.remove.ensures.value, c.in-Some.is) at (all c.args.place)
 
 pub returns-in-Some-clause-away : goal.returns-in-Some-clause-away
 returns-in-Some-clause-away c = λ hs all. led_still c.args.target hs c.args.away.now c.remove.new.self c.args.place c.remove.ensures.updates all

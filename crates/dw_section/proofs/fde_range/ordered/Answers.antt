@@ -1,6 +1,6 @@
 use Rattle.dw_section.specs.{Inner.Index.AreAllJudged, Ranges.{AreIndexed}}
-use Rattle.dw_section.proofs.{Words.{ℕ, List, Target, map, inl, inr, range_in}, Lent.Heads.heads_rise, Ordered.in_place, Tables.{in_order, nonempty_rise}, table.ordered.Goals.In_ok-put_in_order}
-use Rattle.dw_section.proofs.table.ordered.Goals as goal
+use Rattle.dw_section.proofs.{Words.{ℕ, List, Target, map, inl, inr, range_in}, Lent.Heads.heads_rise, Ordered.in_place, Tables.{in_order, nonempty_rise}, fde_range.ordered.Goals.In_ok-put_in_order}
+use Rattle.dw_section.proofs.fde_range.ordered.Goals as goal
 
 -- the nonempty FDEs in order of place, where the CFA has a rule at each address, put in the order of their begins
 indexed : (c : In_ok-put_in_order) (t : Target) (s : List ℕ) → AreAllJudged t s c.args.judged → AreIndexed t s c.put_in_order.new.list.items
