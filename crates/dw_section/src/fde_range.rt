@@ -84,7 +84,7 @@ fn judge<'a>(
     let end = u128::from(fde.begin) + u128::from(fde.range);
     let lacks = walks.walk.lacks_rule(end)?;
     judged.lacking = judged.lacking.or(lacks.then_some(fde.at));
-    keep_range(&mut judged.list, fde, cie).map_err(ReadError::from)
+    Ok(keep_range(&mut judged.list, fde, cie)?)
 }
 
 // Judges the FDEs of a section that has a cut, behind the CIEs.

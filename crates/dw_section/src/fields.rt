@@ -62,7 +62,8 @@ fn empty_string(cursor: &mut Cursor<'_>) -> Result<(), Refusal>
 {
     let at = cursor.at();
     if let Some(0) = cursor.rest().first() {
-        return cursor.take(1).map(drop);
+        let _ = cursor.take(1)?;
+        return Ok(());
     }
     match string_len(cursor.rest()) {
         None => Err(refusal(Code::Truncated, at)),
@@ -88,7 +89,7 @@ fn read_register(cursor: &mut Cursor<'_>, version: u8) -> Result<u16, Refusal>
     ensures { (rest : ℕ → Fields TheCieFields) → Passes result (fields_at (return_register version rest) cursor.old) (λ r. fields_at (rest r) cursor.new) }
 {
     if version == 1 {
-        return cursor.byte().map(u16::from);
+        return Ok(u16::from(cursor.byte()?));
     }
     cursor.register()
 }

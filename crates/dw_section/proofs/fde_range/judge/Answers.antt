@@ -1,4 +1,4 @@
-use Rattle.dw_section.proofs.Words.{◌≡◌, ◌<◌, ◌∙◌, ℕ, List, Option, Some, Result, Ok, Err, OnOk, is_ok, ap, arith, get_or-map, length, length-map, subst, sym, AreAmong, AreLed, Head, Initial, IsAmong, LedTo, entry_head, entry_in, initial_in, place_of, refuses_by}
+use Rattle.dw_section.proofs.Words.{◌≡◌, ◌<◌, ◌∙◌, ℕ, List, Option, Some, ap, arith, get_or-map, length, length-map, subst, sym, AreAmong, AreLed, Head, Initial, IsAmong, LedTo, entry_head, entry_in, initial_in, place_of, refuses_by}
 use Rattle.dw_section.proofs.{Lent.Judged.{all_get, behind_found, behind_broken}, Stages.handed_on, Tables.judged_more, fde_range.judge.Goals.After-go_to}
 use Rattle.dw_section.proofs.fde_range.judge.Goals as goal
 
@@ -25,23 +25,21 @@ returns-in_err-lacks-clause-stuck c = λ hs all runs led.
     handed_on c.from_residual.result _ c.from_residual.ensures.1 (refuses_by c.in_err-lacks.field-0.0 _ _ (λ r h. behind_broken c.args.target hs c.lead.new.self.walk.led (entry_head c.args.fde.now) led runs c.are_bytes.ensures c.requires.fits.1
     c.go_to.new.self.steps.outcome c.go_to.ensures.runs r h) c.in_err-lacks.ensures.refused)
 
-on_both : {T E D : Type 0} {A B C : Type 0} (r : Result T E) (q : Result T D) → is_ok q ≡ is_ok r → OnOk r A → OnOk r B → (A → B → C) → OnOk q C
-on_both (Ok x) (Ok y) e a b f = f a b
-on_both (Ok x) (Err d) e a b f = absurd cc
-on_both (Err x) (Ok y) e a b f = absurd cc
-on_both (Err x) (Err d) e a b f = tt
-
 pub returns-clause-found : goal.returns-clause-found
 returns-clause-found c = λ hs front all runs led listed w.
     let here = (goal.at.returns-clause-found c).After-go_to in
     let y = c.in_ok-lacks.ensures.found in
     let said = behind_found c.args.target hs c.lead.new.self.walk.led (entry_head c.args.fde.now) (behind here hs all led) runs c.are_bytes.ensures c.requires.fits.1
     c.go_to.new.self.steps.outcome c.go_to.ensures.runs y.0 c.in_ok-lacks.lacks (rw (c.from.ensures, c.from-2.ensures) at y.1) in
-    on_both c.keep_range.result c.map_err.result c.map_err.ensures.variant c.keep_range.ensures.found (c.keep_range.ensures.each hs (among here hs all) listed w.each)
-    (λ are each. rw (c.or-judged.ensures, c.then_some.ensures) (judged_more c.args.target hs front (entry_in c.args.fde.now) c.args.judged.now.lacking c.in_ok-lacks.lacks c.args.judged.now.list.items c.keep_range.new.list.items w said.0 said.1 are each))
+    let kept = c.in_ok-keep_range.ensures in
+    rw (c.or-judged.ensures, c.then_some.ensures)
+    (judged_more c.args.target hs front (entry_in c.args.fde.now) c.args.judged.now.lacking c.in_ok-lacks.lacks c.args.judged.now.list.items c.keep_range.new.list.items w said.0 said.1 kept.found (kept.each hs (among here hs all) listed w.each))
 
 pub returns-in_err-lacks-clause-led : goal.returns-in_err-lacks-clause-led
 returns-in_err-lacks-clause-led c = λ hs all led. rw (c.in_err-lacks.ensures.led, c.go_to.ensures.led) (c.lead.ensures.led hs (among (goal.at.returns-in_err-lacks-clause-led c).After-go_to hs all) led)
+
+pub returns-in_err-keep_range-clause-led : goal.returns-in_err-keep_range-clause-led
+returns-in_err-keep_range-clause-led c = λ hs all led. rw (c.in_ok-lacks.ensures.led, c.go_to.ensures.led) (c.lead.ensures.led hs (among (goal.at.returns-in_err-keep_range-clause-led c).After-go_to hs all) led)
 
 pub returns-clause-led : goal.returns-clause-led
 returns-clause-led c = λ hs all led. rw (c.in_ok-lacks.ensures.led, c.go_to.ensures.led) (c.lead.ensures.led hs (among (goal.at.returns-clause-led c).After-go_to hs all) led)
