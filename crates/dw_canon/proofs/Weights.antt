@@ -75,16 +75,13 @@ behind c r P b h = omega (arith, ap length h.whole, both_len (Register r) P h.re
 module _ (t : Target) (f : Factors) where
   rule_most : (r : ℕ) (rule : RegRule) (b : List ℕ) → RuleSpells t f r rule b → rule_len t r rule ≤ 6 * length b
   rule_most r rules.Unspecified b h = absurd h
-  rule_most r (rules.Offset n) b (inl h) =
-      omega (arith, offset_len t r n h.1.operands.range, shortest_uleb-one r (omega (arith, h.0)), ap length h.1.whole, leb_some h.1.rest h.1.operands.spelled.shape)
+  rule_most r (rules.Offset n) b (inl h) = omega (arith, offset_len t r n h.1.operands.range, shortest_uleb-one r (omega (arith, h.0)), ap length h.1.whole, leb_some h.1.rest h.1.operands.spelled.shape)
   rule_most r (rules.Offset n) b (inr (inl h)) =
       omega (arith, offset_len t r n h.operands.second.range, register_len r h.operands.first.1, behind 0x05 r _ b h, leb_some h.operands.back h.operands.second.spelled.shape)
   rule_most r (rules.Offset n) b (inr (inr h)) =
       omega (arith, offset_len t r n h.operands.second.range, register_len r h.operands.first.1, behind 0x11 r _ b h, leb_some h.operands.back h.operands.second.spelled.shape)
-  rule_most r (rules.ValOffset n) b (inl h) =
-      omega (arith, val_len t r n h.operands.second.range, register_len r h.operands.first.1, behind 0x14 r _ b h, leb_some h.operands.back h.operands.second.spelled.shape)
-  rule_most r (rules.ValOffset n) b (inr h) =
-      omega (arith, val_len t r n h.operands.second.range, register_len r h.operands.first.1, behind 0x15 r _ b h, leb_some h.operands.back h.operands.second.spelled.shape)
+  rule_most r (rules.ValOffset n) b (inl h) = omega (arith, val_len t r n h.operands.second.range, register_len r h.operands.first.1, behind 0x14 r _ b h, leb_some h.operands.back h.operands.second.spelled.shape)
+  rule_most r (rules.ValOffset n) b (inr h) = omega (arith, val_len t r n h.operands.second.range, register_len r h.operands.first.1, behind 0x15 r _ b h, leb_some h.operands.back h.operands.second.spelled.shape)
   rule_most r (rules.Register q) b h = grind (arith, length-append, register_len, leb_some)
   rule_most r (rules.Expression e) b h =
       omega (arith, length-append (shortest_uleb r) (expression_bytes t e), register_len r h.operands.first.1, behind 0x10 r _ b h, expression_len t e h.operands.back h.operands.second, block_some t e h.operands.back h.operands.second)

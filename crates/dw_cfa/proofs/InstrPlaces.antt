@@ -46,8 +46,7 @@ judged_stays i x h = elim (cases_Bool (nat_lt (unsigned_abs (offset_of x.0)) (2 
 
 known_stays : (f : Factors) (code : ℕ) (o : Option Opcode) (i j : Input) → opcode_of code ≡ o → AreBytes j.bytes → Inside i j → Stays i (known_at f i.at o j)
 known_stays f code None i j is are h = (omega arith, omega arith)
-known_stays f code (Some opcode) i j is are h =
-    stays-then i (form_at (form_of f opcode) j) (judged i.at) (form_stays (form_of f opcode) i j (form_wide f code opcode is) are h) (λ x e k. judged_stays i x k)
+known_stays f code (Some opcode) i j is are h = stays-then i (form_at (form_of f opcode) j) (judged i.at) (form_stays (form_of f opcode) i j (form_wide f code opcode is) are h) (λ x e k. judged_stays i x k)
 
 -- an instruction's fault has a place from its opcode to the program's end
 pub instr_stays : (f : Factors) (i : Input) → AreBytes i.bytes → Stays i (instr_at f i)

@@ -35,8 +35,7 @@ module _ {Rule : Type 0} (change : Instr → Rule → Rule) (initial : Rule) whe
   passed (i ∷ between) before inner h = passed between before inner (rest_between i inner inner refl between h)
 
 pub restores_matched : RestoresMatched
-restores_matched between before h =
-    ((λ initial. passed cfa_change initial between before 0 h), (λ initial r. passed (rule_change r initial) initial between before 0 h))
+restores_matched between before h = ((λ initial. passed cfa_change initial between before 0 h), (λ initial r. passed (rule_change r initial) initial between before 0 h))
 
 -- ---- each has one
 
@@ -53,8 +52,7 @@ match_of (RememberState ∷ earlier) (suc inner) lt =
     found_more RememberState (suc inner) inner earlier (omega arith) (λ e z. omega (arith, z)) (match_of earlier inner (omega (arith, lt, more_restored RememberState earlier, more_remembered RememberState earlier)))
 match_of (RestoreState ∷ earlier) inner lt =
     found_more RestoreState inner (suc inner) earlier (omega arith) (λ e z. cc) (match_of earlier (suc inner) (omega (arith, lt, more_restored RestoreState earlier, more_remembered RestoreState earlier)))
-match_of (i ∷ earlier) inner lt =
-    found_more i inner inner earlier refl (λ e z. cc) (match_of earlier inner (omega (arith, lt, more_restored i earlier, more_remembered i earlier)))
+match_of (i ∷ earlier) inner lt = found_more i inner inner earlier refl (λ e z. cc) (match_of earlier inner (omega (arith, lt, more_restored i earlier, more_remembered i earlier)))
 
 -- the instruction behind k others
 onto_next : (earlier instrs : List Instr) (k : ℕ) (i : Instr) → slice_get instrs k ≡ Some i → (k < length instrs) × (onto earlier instrs (suc k) ≡ i ∷ onto earlier instrs k)

@@ -6,8 +6,7 @@ abs_below (pos n) h = omega (arith, h)
 abs_below (negsuc n) h = omega (arith, h)
 
 product_fits : (operand factor : ℤ) → unsigned_abs operand < 2 ^ 64 → FitsSigned w64 factor → FitsSigned w128 (operand *ℤ factor)
-product_fits operand factor small fits =
-    fits_signed_mul w128 operand factor 18446744073709551615 9223372036854775808 (omega (arith, small)) (abs_below factor fits) (omega arith)
+product_fits operand factor small fits = fits_signed_mul w128 operand factor 18446744073709551615 9223372036854775808 (omega (arith, small)) (abs_below factor fits) (omega arith)
 
 wide_fits : (factor : ℤ) → FitsSigned w64 factor → FitsSigned w128 factor
 wide_fits (pos n) h = record { sfits = omega (arith, h) }

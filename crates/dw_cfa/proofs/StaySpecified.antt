@@ -60,8 +60,7 @@ walk_keeps p l fde m s row is e h same =
 
 -- whatever comes: the CIE's row specifies what a row does, or no row is to come
 pub cie_keeps : (p : Progress) (l : Leading) (fde : Input) (m : Machine) (s : Stepping) (initial : Option Rules) (row : Rules) → walk_of p l fde m ≡ s → initial_of p m.initial ≡ initial → WalkKeeps p l fde m → KeptWhere s row initial → AllKeep row s.outcome.rows
-cie_keeps progress.Running l fde m s initial row e same h all =
-    walk_keeps progress.Running l fde m s row refl e h (subst (λ (o : Option Rules). KeptWhere s row o) (sym same) all)
+cie_keeps progress.Running l fde m s initial row e same h all = walk_keeps progress.Running l fde m s row refl e h (subst (λ (o : Option Rules). KeptWhere s row o) (sym same) all)
 cie_keeps p l fde m s initial row e same h all =
     let none : s.outcome ≡ finished = subst (λ (o : Option Rules). KeptWhere s row o) (sym same) all in
     subst (λ (o : Outcome). AllKeep row o.rows) (sym none) tt

@@ -8,8 +8,7 @@ use Rattle.dw_cfa.proofs.{CodeForms.form_known, Divided.input, Expressions.expre
 
 -- what is spelled at the front is read
 read_taken : {X : Type 0} (read : Input → Read X) (x : X) (front : List ℕ) (i new : Input) → Takes i front new → Again i.target read x front → read i ≡ done (x, new)
-read_taken read x front i new t again =
-    ap (λ (l : List ℕ). read (input i.at l i.target)) t.bytes ∙ again i.at new.bytes ∙ ap (λ (j : Input). done (x, j)) (taken_is i new front t)
+read_taken read x front i new t again = ap (λ (l : List ℕ). read (input i.at l i.target)) t.bytes ∙ again i.at new.bytes ∙ ap (λ (j : Input). done (x, j)) (taken_is i new front t)
 
 -- ---- operands
 

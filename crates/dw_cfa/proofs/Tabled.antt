@@ -56,8 +56,7 @@ unfolding operands_at rare_at other_at set_loc_at advance_at def_cfa_register_at
 form_is f at (opcodes.Offset r) i = with_offset at (uleb_at i) (λ n. pos n *ℤ f.data_factor) (set_offset r) (factored_in f at) (λ x. refl) (λ z. refl)
 form_is f at opcodes.OffsetExtended i =
     behind at (register_at i) _ (then_offset f at false) (λ r. with_offset at (uleb_at r.1) (λ n. pos n *ℤ f.data_factor) (set_offset r.0) (factored_in f at) (λ x. refl) (λ z. refl))
-form_is f at opcodes.OffsetExtendedSf i =
-    behind at (register_at i) _ (then_offset f at true) (λ r. with_offset at (sleb_at r.1) (λ z. z *ℤ f.data_factor) (set_offset r.0) (signed_in f at) (λ x. refl) (λ z. refl))
+form_is f at opcodes.OffsetExtendedSf i = behind at (register_at i) _ (then_offset f at true) (λ r. with_offset at (sleb_at r.1) (λ z. z *ℤ f.data_factor) (set_offset r.0) (signed_in f at) (λ x. refl) (λ z. refl))
 form_is f at opcodes.ValOffset i = sets_offset f at opcodes.ValOffset i uleb_at (λ n. pos n *ℤ f.data_factor) (factored_in f at) rules.ValOffset (λ j. refl) (λ x. refl) (λ r z. refl)
 form_is f at opcodes.ValOffsetSf i = sets_offset f at opcodes.ValOffsetSf i sleb_at (λ z. z *ℤ f.data_factor) (signed_in f at) rules.ValOffset (λ j. refl) (λ x. refl) (λ r z. refl)
 form_is f at opcodes.Register i = sets f at opcodes.Register i register_at rules.Register (λ j. refl) (λ r x. refl)
@@ -66,8 +65,7 @@ form_is f at opcodes.ValExpression i = sets f at opcodes.ValExpression i block_a
 form_is f at opcodes.Undefined i = behind at (register_at i) _ (then_rule f at opcodes.Undefined) (λ r. refl)
 form_is f at opcodes.SameValue i = behind at (register_at i) _ (then_rule f at opcodes.SameValue) (λ r. refl)
 form_is f at opcodes.DefCfa i = behind at (register_at i) _ (then_plain at) (λ r. with_offset at (uleb_at r.1) (λ n. pos n) (DefCfa r.0) (plain_in at) (λ x. refl) (λ z. refl))
-form_is f at opcodes.DefCfaSf i =
-    behind at (register_at i) _ (then_signed DefCfa f at) (λ r. with_offset at (sleb_at r.1) (λ z. z *ℤ f.data_factor) (DefCfa r.0) (signed_in f at) (λ x. refl) (λ z. refl))
+form_is f at opcodes.DefCfaSf i = behind at (register_at i) _ (then_signed DefCfa f at) (λ r. with_offset at (sleb_at r.1) (λ z. z *ℤ f.data_factor) (DefCfa r.0) (signed_in f at) (λ x. refl) (λ z. refl))
 form_is f at opcodes.DefCfaOffset i = with_offset at (uleb_at i) (λ n. pos n) DefCfaOffset (plain_in at) (λ x. refl) (λ z. refl)
 form_is f at opcodes.DefCfaOffsetSf i = with_offset at (sleb_at i) (λ z. z *ℤ f.data_factor) DefCfaOffset (signed_in f at) (λ x. refl) (λ z. refl)
 form_is f at opcodes.Nop i = refl

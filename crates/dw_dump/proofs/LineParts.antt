@@ -22,8 +22,7 @@ len_until-word kind (c ∷ cs) rest lacks = search (rules, len_until-word kind c
 
 -- a text with a word and what ends it is longer than the word
 pub word_within : (kind : ℕ) (prefix text word rest : List ℕ) → prefix ++ text ≡ prefix ++ (word ++ kind ∷ rest) → Lacks kind word → len_until kind text < length text
-word_within kind prefix text word rest is lacks =
-    rw (append_cancel_left prefix text (word ++ kind ∷ rest) is, len_until-word kind word rest lacks, length-append word (kind ∷ rest)) (omega arith)
+word_within kind prefix text word rest is lacks = rw (append_cancel_left prefix text (word ++ kind ∷ rest) is, len_until-word kind word rest lacks, length-append word (kind ∷ rest)) (omega arith)
 
 pub record OneWord (a b c d : List ℕ) : Type 0 where
   pub word : a ≡ c

@@ -112,13 +112,11 @@ module _ (c : Context) where
   Leads op s s' = ((len : ℕ) → s.index < len → TargetWithin len (branch_target op) → s'.index ≤ len) × (StateInSpace c s → StateInSpace c s')
 
   piece_tells : (op : Op) (part : Part) (s : PlaceState) → Leads op s (with_piece part s)
-  piece_tells op part s =
-      (λ len lt within. omega (arith, lt), λ h. record { stack = tt; pending = tt; pieces = pieces_more c s.pieces _ h.pieces (here_in_space c s.pending s.stack h.pending h.stack) })
+  piece_tells op part s = (λ len lt within. omega (arith, lt), λ h. record { stack = tt; pending = tt; pieces = pieces_more c s.pieces _ h.pieces (here_in_space c s.pending s.stack h.pending h.stack) })
 
   value_tells : (s : PlaceState) (stack : List ℕ) → s.stack ≡ stack → StepTells c (Leads StackValue s) (with_value stack s)
   value_tells s [] e = tt
-  value_tells s (t ∷ below) e =
-      (λ len lt within. omega (arith, lt), λ h. let all : InSpace c (t ∷ below) = subst (InSpace c) e h.stack in record { stack = all.1; pending = all.0; pieces = h.pieces })
+  value_tells s (t ∷ below) e = (λ len lt within. omega (arith, lt), λ h. let all : InSpace c (t ∷ below) = subst (InSpace c) e h.stack in record { stack = all.1; pending = all.0; pieces = h.pieces })
 
   free_tells : (op : Op) (s : PlaceState) → StepTells c (Leads op s) (free_step c op s)
   free_tells (Reg r) s = (λ len lt within. omega (arith, lt), λ h. record { stack = h.stack; pending = tt; pieces = h.pieces })

@@ -93,8 +93,7 @@ place_low target s index is k fs are lt = omega (arith, lt, ap (λ (l : List Fde
 
 entry_is : (target : Target) (s : List ℕ) (index : List Ranged) → IsTable target s index → (k : ℕ) (e : Ranged) → k < length index
     → (fs : List Fde) → AreFdes target s fs → (d : Fde) → fde_in (get_or index k e) ≡ get_or fs k d
-entry_is target s index is k e lt fs are d =
-    sym (get_or-map fde_in index k e d lt) ∙ ap (λ (l : List Fde). get_or l k d) (listed_are target s index is fs are)
+entry_is target s index is k e lt fs are d = sym (get_or-map fde_in index k e d lt) ∙ ap (λ (l : List Fde). get_or l k d) (listed_are target s index is fs are)
 
 -- the FDE at a place covers an address, and its changes were written
 pub covering_told : (target : Target) (s : List ℕ) (index : List Ranged) → IsTable target s index → (a k : ℕ) (e : Ranged) → k < length index

@@ -51,8 +51,7 @@ ops_bad profile i j find ops x h e is =
     sym h.found ∙ ap (λ (y : Walk). put_before ops (resolve find y.items)) w ∙ ap (λ (o : Option Op). put_before ops (put_first o j.at more)) is
 
 pub ops_all : (profile : Profile) (i j : Input) (find : ℕ → Option ℕ) (ops : List Op) → OpsSo profile i j find ops → length j.bytes ≡ 0 → resolve find (walk profile i).items ≡ Ok ops
-ops_all profile i j find ops h e =
-    sym h.found ∙ ap (λ (y : Walk). put_before ops (resolve find y.items)) (walk_end profile j e) ∙ ap (λ (l : List Op). Ok l) (append-nil ops)
+ops_all profile i j find ops h e = sym h.found ∙ ap (λ (y : Walk). put_before ops (resolve find y.items)) (walk_end profile j e) ∙ ap (λ (l : List Op). Ok l) (append-nil ops)
 
 -- ---- the operations of a block are in range
 

@@ -125,8 +125,7 @@ pub accepted_read : (t : Target) (bytes : List ℕ) → IsAccepted t bytes → (
 accepted_read t bytes h = let i = block_input t bytes in located_none Frame i (read_whole Frame i h.0 h.1)
 
 pub same_input : (t : Target) (bytes : List ℕ) (w : Walker) → w.here ≡ block_input t bytes → w.bytes.now ≡ bytes → block_of w ≡ block_input t bytes
-same_input t bytes w here same =
-    ap (λ (i : Input). block_input i.target w.bytes.now) here ∙ ap (λ (l : List ℕ). block_input t l) same
+same_input t bytes w here same = ap (λ (i : Input). block_input i.target w.bytes.now) here ∙ ap (λ (l : List ℕ). block_input t l) same
 
 -- all of them, by their numbers
 pub accepted_all : (t : Target) (bytes : List ℕ) → IsAccepted t bytes → let i = block_input t bytes in resolve (index_in Location i) (walk Location i).items ≡ answered (ops_of t bytes)

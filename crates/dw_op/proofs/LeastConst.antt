@@ -113,8 +113,7 @@ module _ (limit : ℕ) (wide : 2 ^ 32 ≤ limit) (o : Order) (v : ℕ) (z : ℤ)
   below n is = let same : v ≡ n % limit = rw is at e in let small : n % limit ≤ n = mod-le n limit in omega arith
 
   natural_reach : (code n : ℕ) → Code code (Unsigned (Fixed o n) z) bytes → (length bytes ≡ suc n) × (get_or bytes 0 0 ≡ code) × (v < 256 ^ n)
-  natural_reach code n h =
-      rw (h.whole, h.operands.spelled.bytes, length-fixed o n h.operands.number) (refl, refl, omega (arith, below h.operands.number h.operands.is, h.operands.spelled.fits))
+  natural_reach code n h = rw (h.whole, h.operands.spelled.bytes, length-fixed o n h.operands.number) (refl, refl, omega (arith, below h.operands.number h.operands.is, h.operands.spelled.fits))
 
   signed_reach : (code : ℕ) (w : Width) → Code code (FixedSigned o w z) bytes → (length bytes ≡ suc (byte_len w)) × (get_or bytes 0 0 ≡ code) × Near limit (half w) v
   signed_reach code w h = rw (h.whole, h.operands.bytes, length-fixed o (byte_len w) (cast_unsigned w z)) (refl, refl, near limit (half w) v z (omega arith) e (within w z h.operands.fits))

@@ -28,8 +28,7 @@ framed Frame op e = e
 framed Location op e = refl
 
 pub any_code : (t : Target) (branch : Branch) (part : List ℕ) (h : Code (branch_code branch) AnyTwo part) → Spelled Location t (Jump branch (fixed_number t.order 2 h.rest)) part
-any_code t branch part h =
-    spelled Location t (Jump branch (fixed_number t.order 2 h.rest)) part (record { rest = h.rest; operands = any_fixed t.order h.rest h.operands; whole = h.whole }) refl
+any_code t branch part h = spelled Location t (Jump branch (fixed_number t.order 2 h.rest)) part (record { rest = h.rest; operands = any_fixed t.order h.rest h.operands; whole = h.whole }) refl
 
 with_profile : (profile : Profile) (t : Target) (branch : Branch) (n : ℕ) (part : List ℕ) → Spelled Location t (Jump branch n) part → Spelled profile t (Jump branch n) part
 with_profile Frame t branch n part h = record { spells = h.spells; allowed = refl; some = h.some }
@@ -121,5 +120,4 @@ pub stands_step : (profile : Profile) (t : Target) (all : List (List ℕ)) (find
     → (step : Step) × Spelled profile t step part × (op_of find (start all k) step ≡ Some op)
 stands_step profile t all find k (ops.Bra i) part f placed h allowed = stands_jump profile t all find k i Bra part f placed (by_table t (ops.Bra i) part h.spells) h.displaced
 stands_step profile t all find k (ops.Skip i) part f placed h allowed = stands_jump profile t all find k i Skip part f placed (by_table t (ops.Skip i) part h.spells) h.displaced
-stands_step profile t all find k op part f placed h allowed =
-    (Plain op, spelled profile t (Plain op) part (h.spells, refl) (plain_allows profile op ∙ allowed), refl)
+stands_step profile t all find k op part f placed h allowed = (Plain op, spelled profile t (Plain op) part (h.spells, refl) (plain_allows profile op ∙ allowed), refl)

@@ -53,8 +53,7 @@ pub record Split (profile : Profile) (i : Input) (w : Walk) : Type 0 where
   pub ends : Ends profile (input (i.at + length (joined parts)) rest i.target) w.fault
 
 pub new_is : (i new : Input) (b : List ℕ) → Takes i b new → new ≡ input (i.at + length b) new.bytes i.target
-new_is i new b t =
-    ap (λ (n : ℕ). input n new.bytes new.target) t.at ∙ ap (λ (g : Target). input (i.at + length b) new.bytes g) t.target
+new_is i new b t = ap (λ (n : ℕ). input n new.bytes new.target) t.at ∙ ap (λ (g : Target). input (i.at + length b) new.bytes g) t.target
 
 same_place : (i : Input) → i ≡ input (i.at + 0) i.bytes i.target
 same_place i = ap (λ (n : ℕ). input n i.bytes i.target) (omega arith)
@@ -127,15 +126,13 @@ end_walk_by profile (suc n) at t = refl
 ends_walk_by : (profile : Profile) (n at : ℕ) (rest : List ℕ) (t : Target) (f : Option Refusal) → length rest ≤ n → Ends profile (input (at + 0) rest t) f → walk_by profile n (input at rest t) ≡ ended f
 ends_walk_by profile n at rest t None le h = subst (λ (l : List ℕ). walk_by profile n (input at l t) ≡ ended None) (sym h) (end_walk_by profile n at t)
 ends_walk_by profile zero at rest t (Some r) le h = absurd (omega (arith, h.0))
-ends_walk_by profile (suc n) at rest t (Some r) le h =
-    stuck_walk_by profile n (input at rest t) r h.0 (subst (λ (j : Input). step_at profile j ≡ Err r) (sym (same_place (input at rest t))) h.1)
+ends_walk_by profile (suc n) at rest t (Some r) le h = stuck_walk_by profile n (input at rest t) r h.0 (subst (λ (j : Input). step_at profile j ≡ Err r) (sym (same_place (input at rest t))) h.1)
 
 pub joined_walk_by : (profile : Profile) (t : Target) (steps : List Step) (parts : List (List ℕ)) (n at : ℕ) (rest : List ℕ) (f : Option Refusal) → EachSpells profile t steps parts
     → length (joined parts ++ rest) ≤ n → Ends profile (input (at + length (joined parts)) rest t) f
     → walk_by profile n (input at (joined parts ++ rest) t) ≡ record { items = items_from at steps parts; fault = f }
 joined_walk_by profile t [] [] n at rest f h le ends = ends_walk_by profile n at rest t f le ends
-joined_walk_by profile t (step ∷ steps) (part ∷ parts) zero at rest f h le ends =
-    absurd (omega (arith, h.0.some, length-append (part ++ joined parts) rest, length-append part (joined parts)))
+joined_walk_by profile t (step ∷ steps) (part ∷ parts) zero at rest f h le ends = absurd (omega (arith, h.0.some, length-append (part ++ joined parts) rest, length-append part (joined parts)))
 joined_walk_by profile t (step ∷ steps) (part ∷ parts) (suc n) at rest f h le ends =
     let more = joined parts ++ rest in
     let same : (part ++ joined parts) ++ rest ≡ part ++ more = append_assoc part (joined parts) rest in

@@ -25,8 +25,7 @@ starts_here : (f : Step → ℕ) (j : Input) → AreBytes j.bytes → (walk Loca
 starts_here f j h read = go j.bytes refl (step_at Location j) refl
   where
     go : (l : List ℕ) → j.bytes ≡ l → (r : Result (Step × Input) Refusal) → step_at Location j ≡ r → starts_at f (end_of j) j j.at ≡ Some 0
-    go [] empty r e =
-        ap (λ (w : Walk). passed f w.items (end_of j) j.at) (walk_end Location j (ap length empty)) ∙ rw (eq-eqb j.at (end_of j) (omega (arith, ap length empty))) refl
+    go [] empty r e = ap (λ (w : Walk). passed f w.items (end_of j) j.at) (walk_end Location j (ap length empty)) ∙ rw (eq-eqb j.at (end_of j) (omega (arith, ap length empty))) refl
     go (b ∷ l) full (Ok x) e = ap (λ (w : Walk). passed f w.items (end_of j) j.at) (walk_step Location j x h e) ∙ rw (eq-eqb j.at j.at refl) refl
     go (b ∷ l) full (Err r) e = absurd (omega (arith, ap length full, never_stuck j r read e))
 

@@ -20,8 +20,7 @@ front_rule l rest x e = ap (λ (m : List Entry). rule_in m x.0) e ∙ first_rule
 
 -- the first of a list, to which another one that has no register before it gives another rule
 front_differs : (xs ys rest : List Entry) (x : Entry) → xs ≡ x ∷ rest → AreSpecified 0 xs → AreSpecified x.0 ys → (x.1 ≡ rule_in ys x.0 → ⊥) → DiffersFirst 0 xs ys x.0
-front_differs xs ys rest x e up up' differ =
-    (omega arith, (λ r le lt. unlisted r x.0 xs (above x.0 e up (omega arith)) lt ∙ sym (unlisted r x.0 ys up' lt)), λ same. differ (sym (front_rule xs rest x e) ∙ same))
+front_differs xs ys rest x e up up' differ = (omega arith, (λ r le lt. unlisted r x.0 xs (above x.0 e up (omega arith)) lt ∙ sym (unlisted r x.0 ys up' lt)), λ same. differ (sym (front_rule xs rest x e) ∙ same))
 
 -- the first of a list, which another one lacks
 front_alone : (xs ys rest : List Entry) (x : Entry) → xs ≡ x ∷ rest → AreSpecified 0 xs → AreSpecified (suc x.0) ys → DiffersFirst 0 xs ys x.0

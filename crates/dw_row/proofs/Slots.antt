@@ -164,8 +164,7 @@ at_set_other near r q s ne = ap₂ (λ (kind : Slot) (n : ℤ). (kind, n)) (get_
 module _ (used : ℕ) (near : Slots) (expressions expressions' : List Entry) (r : ℕ) (s : Slot × ℤ) (lt : r < 128) (b : ℕ) (bit : b ≡ 1 * 2 ^ r % 2 ^ 128) (room : HasRoom near)
     (others : (q : ℕ) → (q ≡ r → ⊥) → rule_in expressions' q ≡ rule_in expressions q) where
   pub put_rule_is : near_rule (bit_or used b) (set_at near r s) expressions' r ≡ slot_rule s (rule_in expressions' r)
-  put_rule_is =
-      set_rule (bit_or used b) (set_at near r s) expressions' r (bit_set_same used r b lt bit) ∙ ap (λ (x : Slot × ℤ). slot_rule x (rule_in expressions' r)) (at_set near r s room lt)
+  put_rule_is = set_rule (bit_or used b) (set_at near r s) expressions' r (bit_set_same used r b lt bit) ∙ ap (λ (x : Slot × ℤ). slot_rule x (rule_in expressions' r)) (at_set near r s room lt)
 
   pub other_rule_is : (q : ℕ) → (q ≡ r → ⊥) → near_rule (bit_or used b) (set_at near r s) expressions' q ≡ near_rule used near expressions q
   other_rule_is q ne =
@@ -246,8 +245,7 @@ module _ (e : Entries) (so : EntriesSo e) (r : ℕ) (lt : r < 128) (b : ℕ) (bi
       (λ q low ne. ap (λ (n : ℕ). rule_if n (slot_at near q) (rule_in x q)) (bit_clear_other e.used r b lt bit q low ne))
 
   pub dropped_holds : Holds (bit_and e.used (bit_not w128 b)) e.slots e.expressions.entries
-  dropped_holds =
-      fewer_holds e.used dropped e.slots e.expressions.entries so.used (λ q one. omega (arith, one, bit_at_and e.used (bit_not w128 b) q, bit_at-lt e.used q))
+  dropped_holds = fewer_holds e.used dropped e.slots e.expressions.entries so.used (λ q one. omega (arith, one, bit_at_and e.used (bit_not w128 b) q, bit_at-lt e.used q))
 
 -- ---- the registers one after another
 
@@ -356,8 +354,7 @@ skip_many (suc j) k m (suc c) n f far e e' none =
 same_from : (k n : ℕ) (f g : ℕ → RegRule) (far : List Entry) → ((q : ℕ) → k ≤ q → f q ≡ g q) → listed_from k n f far ≡ listed_from k n g far
 unfolding listed_from
 same_from k zero f g far same = refl
-same_from k (suc n) f g far same =
-    ap (λ (x : RegRule). listed k x (listed_from (suc k) n f far)) (same k (omega arith)) ∙ ap (listed k (g k)) (same_from (suc k) n f g far (λ q le. same q (omega arith)))
+same_from k (suc n) f g far same = ap (λ (x : RegRule). listed k x (listed_from (suc k) n f far)) (same k (omega arith)) ∙ ap (listed k (g k)) (same_from (suc k) n f g far (λ q le. same q (omega arith)))
 
 one_from : (k c m : ℕ) (f : ℕ → RegRule) (far : List Entry) → c ≡ suc m → listed_from k c f far ≡ listed k (f k) (listed_from (suc k) m f far)
 unfolding listed_from

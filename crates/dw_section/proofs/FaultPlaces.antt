@@ -47,8 +47,7 @@ stuck_within {X} fs target s p r stands fault =
 
 pub headers_within : (target : Target) (s : List ℕ) (r : Refusal) → HeadersFault target s r → IsWithin s r
 headers_within target s r (inl (inl h)) = cut_within target s r h
-headers_within target s r (inl (inr (ps, cut, w))) =
-    stuck_within (cie_fields target.size w.it.form) target s w.it r (stands_in target s ps w.it cut (stuck_among (CieHolds target) (CieStuck target) ps r w)) w.stuck.1
+headers_within target s r (inl (inr (ps, cut, w))) = stuck_within (cie_fields target.size w.it.form) target s w.it r (stands_in target s ps w.it cut (stuck_among (CieHolds target) (CieStuck target) ps r w)) w.stuck.1
 headers_within target s r (inr (ps, cies, w)) =
     stuck_within (fde_fields target.size (cie_places ps) w.it.form) target s w.it r (stands_in target s ps w.it cies.0 (stuck_among (FdeHolds target (cie_places ps)) (FdeStuck target (cie_places ps)) ps r w)) w.stuck.1
 

@@ -98,8 +98,7 @@ fields_found (empty_string rest) are i new x h e =
 -- ---- what is spelled is read
 
 empty_again : {X : Type 0} (t : Target) (read : Input → Read X) (x : X) (b : List ℕ) → Again t read x b → Again t (λ i. judged (string_fault (position (λ c. c == 0) i.bytes)) i.at (read (behind 1 i))) x (0 ∷ b)
-empty_again t read x b again at more =
-    rw (lt-ltb 0 (length (0 ∷ (b ++ more))) (omega arith)) (again (at + 1) more ∙ ap (λ (n : ℕ). done (x, record { at = n; bytes = more; target = t })) (omega arith))
+empty_again t read x b again at more = rw (lt-ltb 0 (length (0 ∷ (b ++ more))) (omega arith)) (again (at + 1) more ∙ ap (λ (n : ℕ). done (x, record { at = n; bytes = more; target = t })) (omega arith))
 
 pub fields_again : {X : Type 0} (t : Target) (fs : Fields X) (x : X) (b : List ℕ) → FieldsSpell t fs x b → Again t (fields_at fs) x b
 fields_again t (end y) x b s at more = rw (s.1, s.0) (ap (λ (n : ℕ). done (y, record { at = n; bytes = more; target = t })) (omega arith))

@@ -146,8 +146,7 @@ one_walk order (z ∷ xs) (u ∷ ys) x y h k s t e =
     (ap (λ (i : Item). i ∷ xs) p.0 ∙ ap (λ (l : List Item). u ∷ l) q.0, q.1)
 
 pub one_cut : (order : Order) (s : List ℕ) (xs ys : List Item) → Cut order s xs → Cut order s ys → xs ≡ ys
-one_cut order s xs ys p q =
-    (one_walk order xs ys [] [] p.each q.each (none_stops order) (none_stops order) (append-nil (all_bytes order xs) ∙ sym p.whole ∙ q.whole ∙ sym (append-nil (all_bytes order ys)))).0
+one_cut order s xs ys p q = (one_walk order xs ys [] [] p.each q.each (none_stops order) (none_stops order) (append-nil (all_bytes order xs) ∙ sym p.whole ∙ q.whole ∙ sym (append-nil (all_bytes order ys)))).0
 
 -- where two are stuck they are one
 pub one_stuck : (target : Target) (s : List ℕ) (r q : Refusal) → IsStuck target s r → IsStuck target s q → r ≡ q

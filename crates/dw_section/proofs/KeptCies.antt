@@ -20,8 +20,7 @@ module _ (target : Target) where
 
   pub piece_places : (ps : List Piece) → map (λ (q : Piece). q.at) (cie_pieces ps) ≡ cie_places ps
   piece_places [] = refl
-  piece_places (p ∷ ps) =
-      by_kind p.kind p refl (λ xs at. map (λ (q : Piece). q.at) xs ≡ at) (cie_pieces ps) (cie_places ps) (λ is. ap (λ (l : List ℕ). p.at ∷ l) (piece_places ps)) (λ is. piece_places ps)
+  piece_places (p ∷ ps) = by_kind p.kind p refl (λ xs at. map (λ (q : Piece). q.at) xs ≡ at) (cie_pieces ps) (cie_places ps) (λ is. ap (λ (l : List ℕ). p.at ∷ l) (piece_places ps)) (λ is. piece_places ps)
 
   -- where these hold, all pieces do
   pub all_hold : (ps : List Piece) → AllByRecursion (CieHolds target) (cie_pieces ps) → AllByRecursion (CieHolds target) ps

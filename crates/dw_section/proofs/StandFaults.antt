@@ -22,8 +22,7 @@ pub own_stuck : (target : Target) (s : List ℕ) (own named : Piece) (at : ℕ) 
 own_stuck target s own named at r is stands stuck = inl (is, fde_faulty target (named.at ∷ []) own r (subst (λ (n : ℕ). fde_at target (n ∷ []) own ≡ Err r) (sym stands.2) stuck))
 
 pub named_stuck : (target : Target) (s : List ℕ) (own named : Piece) (at : ℕ) (h : Head) (r : Refusal) → StandsAs target s kind.Cie at named → Has target (at ∷ []) own h → cie_at target named ≡ Err r → BothStuck target own (Some named) r
-named_stuck target s own named at h r stands has stuck =
-    inr (has_fde target (named.at ∷ []) own h (subst (λ (n : ℕ). Has target (n ∷ []) own h) (sym stands.2) has), (stands.1, cie_faulty target named r stuck))
+named_stuck target s own named at h r stands has stuck = inr (has_fde target (named.at ∷ []) own h (subst (λ (n : ℕ). Has target (n ∷ []) own h) (sym stands.2) has), (stands.1, cie_faulty target named r stuck))
 
 -- ---- errors
 
@@ -50,8 +49,7 @@ pub read_here : (target : Target) (s : List ℕ) (at : ℕ) (i new : Input) (r :
     → IfOk r (λ o. IfSome o (λ p. (p.at ≡ at) × StandsIn target.order s (piece_in p))) × IfErr r (IsWithin s) × IfErr r (ItemFault target s at) × IfOk r (λ o. (q : Refusal) → ItemFault target s at q → ⊥)
     × ((q : Piece) → StandsIn target.order s q → q.at ≡ at → MatchResult r (λ o. MatchOption o ⊥ (λ p. piece_in p ≡ q)) (λ _. ⊥))
 read_here target s at i new (Err r) is inside found placed read = (tt, item_within target s at i r is (omega (arith, inside)) read, (inside, rw is at read), tt, λ q stands e. never_stuck target s q at i r is read stands e)
-read_here target s at i new (Ok None) is inside found placed read =
-    (tt, tt, tt, (λ r fault. let bad = sym (rw is at read) ∙ fault.1 in absurd cc), λ q stands e. never_gap target s q at i new is read stands e)
+read_here target s at i new (Ok None) is inside found placed read = (tt, tt, tt, (λ r fault. let bad = sym (rw is at read) ∙ fault.1 in absurd cc), λ q stands e. never_gap target s q at i new is read stands e)
 read_here target s at i new (Ok (Some p)) is inside found placed read =
     let here = placed.0 ∙ ap (λ (j : Input). j.at) is in
     let stands = stands_here target s at i new p is (omega (arith, inside)) found.0 found.1 placed in

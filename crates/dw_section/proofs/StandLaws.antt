@@ -11,15 +11,13 @@ use Rattle.dw_section.specs.declared.entry.Kind.TheVariants as kind
 
 piece_stands : (order : Order) (front : List ℕ) (items : List Item) (p : Piece) → AllByRecursion IsItem items → IsAmong p (pieces order (length front) items) → StandsIn order (front ++ all_bytes order items) p
 piece_stands order front [] p each i = absurd i
-piece_stands order front (gap ∷ items) p each i =
-    rw (← append_assoc front (item_bytes order gap) (all_bytes order items)) (piece_stands order (front ++ item_bytes order gap) items p each.1 (rw length-append i))
+piece_stands order front (gap ∷ items) p each i = rw (← append_assoc front (item_bytes order gap) (all_bytes order items)) (piece_stands order (front ++ item_bytes order gap) items p each.1 (rw length-append i))
 piece_stands order front (entry form body ∷ items) p each (inl is) = record { item = entry form body; front = front; rest = all_bytes order items; is = each.0; whole = refl; piece = ap Some (sym is) }
 piece_stands order front (entry form body ∷ items) p each (inr i) =
     rw (← append_assoc front (item_bytes order (entry form body)) (all_bytes order items)) (piece_stands order (front ++ item_bytes order (entry form body)) items p each.1 (rw (length-append front) i))
 
 pub stands_in : (target : Target) (s : List ℕ) (ps : List Piece) (p : Piece) → Pieces target s ps → IsAmong p ps → StandsIn target.order s p
-stands_in target s ps p cut i =
-    subst (λ (b : List ℕ). StandsIn target.order b p) (sym cut.cut.whole) (piece_stands target.order [] cut.items p cut.cut.each (subst (IsAmong p) cut.are i))
+stands_in target s ps p cut i = subst (λ (b : List ℕ). StandsIn target.order b p) (sym cut.cut.whole) (piece_stands target.order [] cut.items p cut.cut.each (subst (IsAmong p) cut.are i))
 
 pub stands_of : (target : Target) (s : List ℕ) (hs : List Head) (h : Head) (p : Headers target s hs) → IsAmong h hs → (piece : Piece) × StandsIn target.order s piece × Has target (cie_places p.entries) piece h
 stands_of target s hs h p i = let z = zip_right (Has target (cie_places p.entries)) p.entries hs h p.each i in (z.0, stands_in target s p.entries z.0 p.cut z.1, z.2)

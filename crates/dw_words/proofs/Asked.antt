@@ -39,8 +39,7 @@ module _ (a b : App) (word : Text) (h : Stops a word) (k : Stops b word) (sub : 
 
 -- both stop at the word with the same subcommand, and the first is a simple command
 abbrev Alike : App → App → Text → Type 0
-Alike a b word =
-    Stops (built a) word × Stops (built b) word × (found (built a) word ≡ found (built b) word) × ((built a).top ≡ (built b).top) × (is_simple a ≡ true) × (is_simple_and_free a ≡ true)
+Alike a b word = Stops (built a) word × Stops (built b) word × (found (built a) word ≡ found (built b) word) × ((built a).top ≡ (built b).top) × (is_simple a ≡ true) × (is_simple_and_free a ≡ true)
 
 alike : (n : Name) → Alike (asked (Some n)) dwframe (text_of n)
 unfolding clap_on_literals
@@ -49,8 +48,7 @@ alike other = ((refl, refl), (refl, refl), refl, refl, refl, refl)
 
 -- a simple command, which wants a subcommand, reads words as the whole one does
 abbrev pub Reads : App → List Text → Type 0
-Reads a words =
-    (is_simple a ≡ true) × (is_simple_and_free a ≡ true) × (a.top.subcommand_required ≡ true) × (fault_of a words ≡ fault_of dwframe words) × (subcommand_of a words ≡ subcommand_of dwframe words)
+Reads a words = (is_simple a ≡ true) × (is_simple_and_free a ≡ true) × (a.top.subcommand_required ≡ true) × (fault_of a words ≡ fault_of dwframe words) × (subcommand_of a words ≡ subcommand_of dwframe words)
 
 whole : (words : List Text) → Reads dwframe words
 unfolding clap_on_literals

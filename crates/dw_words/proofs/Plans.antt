@@ -31,8 +31,7 @@ accepted a words m name rows made none matches named values =
 -- words that clap takes, with a value that is none
 pub failed : (words : List Text) (name : Text) (values : List Row) (e : PlanError) → fault_of dwframe words ≡ [] → subcommand_of dwframe words ≡ Some (name, values)
     → Fails values (IsSupplied name) (is_run name values ≡ false) e → Planned words (Err e)
-failed words name values (errors.BadValue what) taken is h =
-    (taken, (name, values, is, h.1 (supplied words name values taken is)), λ job asked. none_asked words name values job is h.0 asked)
+failed words name values (errors.BadValue what) taken is h = (taken, (name, values, is, h.1 (supplied words name values taken is)), λ job asked. none_asked words name values job is h.0 asked)
 failed words name values (errors.Words error) taken is h = absurd h
 failed words name values errors.OutOfMemory taken is h = tt
 

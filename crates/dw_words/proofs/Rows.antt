@@ -145,8 +145,7 @@ module _ (c : List Rule) (all : list_all good c ≡ true) (again : Bool) where
       go (Some p) e = by p (arg_by_id c p.0) refl e
 
   reacted_full : (a : Rule) (values : List Text) (h : Held) → good a ≡ true → react_fault c again a values h ≡ [] → Full h.rows → Full (reacted c a values h).rows
-  reacted_full a values h g none full =
-      use_full again a values (settled c h).rows g (then_none (settle_fault c again h) _ none) (settled_full h (first_none (settle_fault c again h) _ none) full)
+  reacted_full a values h g none full = use_full again a values (settled c h).rows g (then_none (settle_fault c again h) _ none) (settled_full h (first_none (settle_fault c again h) _ none) full)
 
   option_full : (a : Rule) (v : Option Text) (h : Held) → good a ≡ true → option_fault c again a v h ≡ [] → Full h.rows → Full (option_met c a v h).0.rows
   option_full a (Some v) h g none full = reacted_full a (v ∷ []) h g none full
@@ -202,8 +201,7 @@ module _ (c : List Rule) (all : list_all good c ≡ true) (again : Bool) where
   short_word_full : (waiting : Waiting) (word : Text) (o : Option Text) (h : Held) → option_map_or (λ flags. bundle_fault c again flags h) o [] ≡ [] → Full h.rows
       → Full (short_or_plain c waiting word o h).0.rows
   short_word_full waiting word None h none full = plain_full waiting word h full
-  short_word_full waiting word (Some flags) h none full =
-      after_full waiting word (bundle c flags h).0 (bundle c flags h).1 (bundle_full (length flags) flags h.skip steps.plain (record h { skip = 0 }) none full)
+  short_word_full waiting word (Some flags) h none full = after_full waiting word (bundle c flags h).0 (bundle c flags h).1 (bundle_full (length flags) flags h.skip steps.plain (record h { skip = 0 }) none full)
 
   flag_word_full : (waiting : Waiting) (word : Text) (o : Option (Text × Option Text)) (h : Held) → flag_word_fault c again o word h ≡ [] → Full h.rows
       → Full (long_or_other c waiting word o h).0.rows
@@ -258,8 +256,7 @@ module _ (s : Shape) (all : list_all good s.rules ≡ true) (names : Names) wher
   walk_full : (words : List Text) (w : Walk) → walk_fault s names w words ≡ [] → Full w.held.rows → Full (fold (walked s.rules names) w words).held.rows
   unfolding walk_fault
   walk_full [] w none full = full
-  walk_full (word ∷ rest) w none full =
-      walk_full rest (walked s.rules names w word) (then_none (turn_fault s names w word) _ none) (turn_full w word (first_none (turn_fault s names w word) _ none) full)
+  walk_full (word ∷ rest) w none full = walk_full rest (walked s.rules names w word) (then_none (turn_fault s names w word) _ none) (turn_full w word (first_none (turn_fault s names w word) _ none) full)
 
 -- ---- what comes after the walk
 

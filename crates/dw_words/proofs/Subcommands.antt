@@ -86,8 +86,7 @@ module _ (s : Shape) (enabled : s.disable_help_subcommand ≡ false) (names : Na
   walk_names : (words : List Text) (w : Walk) → walk_fault s names w words ≡ [] → IsNotHelp w.stopped → IsNotHelp (fold (walked s.rules names) w words).stopped
   unfolding walk_fault
   walk_names [] w none h = h
-  walk_names (word ∷ rest) w none h =
-      walk_names rest (walked s.rules names w word) (then_none (turn_fault s names w word) _ none) (turn_names w word (first_none (turn_fault s names w word) _ none) h)
+  walk_names (word ∷ rest) w none h = walk_names rest (walked s.rules names w word) (then_none (turn_fault s names w word) _ none) (turn_names w word (first_none (turn_fault s names w word) _ none) h)
 
 -- ---- the command
 

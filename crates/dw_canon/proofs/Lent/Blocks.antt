@@ -21,5 +21,4 @@ module _ (t : Target) (block : List Op → List ℕ) (least : (ops : List Op) (b
 
   pub same_program : (instrs : List Instr) → AllByRecursion (InstrFits t) instrs → program_bytes block t instrs ≡ program_bytes (least_block t) t instrs
   same_program [] h = refl
-  same_program (i ∷ instrs) h =
-      ap (λ (b : List ℕ). b ++ program_bytes block t instrs) (same_instr i h.0) ∙ ap (λ (b : List ℕ). instr_with (least_block t) t i ++ b) (same_program instrs h.1)
+  same_program (i ∷ instrs) h = ap (λ (b : List ℕ). b ++ program_bytes block t instrs) (same_instr i h.0) ∙ ap (λ (b : List ℕ). instr_with (least_block t) t i ++ b) (same_program instrs h.1)

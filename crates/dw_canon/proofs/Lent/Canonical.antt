@@ -63,16 +63,14 @@ nonempty t s b ok ms [] are into = tt
 nonempty t s b ok ms (m ∷ xs) are into = ((listed_programs t s b ok (map fde_of ms) (fde_of m) are (into (fde_of m) (inl refl))).0, nonempty t s b ok ms xs are (λ f i. into f (inr i)))
 
 pub one_members : (t : Target) (s : List ℕ) → AreBytes s → Accepted t s → (ms ks : List Member) → AreMembers t s ms → AreMembers t s ks → ms ≡ ks
-one_members t s b ok ms ks h k =
-    one_list t s b ok ms ks (one_fdes t s (map fde_of ms) (map fde_of ks) h.fdes k.fdes) (nonempty t s b ok ms ms h.fdes (λ f i. i)) h.each k.each
+one_members t s b ok ms ks h k = one_list t s b ok ms ks (one_fdes t s (map fde_of ms) (map fde_of ks) h.fdes k.fdes) (nonempty t s b ok ms ms h.fdes (λ f i. i)) h.each k.each
 
 -- ---- members of a section that says the same
 
 members_there : (t : Target) (s n : List ℕ) (fs : List Fde) (xs : List Member) → ((f : Fde) → IsAmong f (map fde_of xs) → IsAmong f fs)
     → ((f : Fde) (changes : List (ℕ × Rules)) → IsAmong f fs → ChangesOf t s f changes → ChangesOf t n f changes) → AllByRecursion (IsMember t s) xs → AllByRecursion (IsMember t n) xs
 members_there t s n fs [] into to h = tt
-members_there t s n fs (m ∷ xs) into to h =
-    (to (fde_of m) (changes_of m) (into (fde_of m) (inl refl)) h.0, members_there t s n fs xs (λ f i. into f (inr i)) to h.1)
+members_there t s n fs (m ∷ xs) into to h = (to (fde_of m) (changes_of m) (into (fde_of m) (inl refl)) h.0, members_there t s n fs xs (λ f i. into f (inr i)) to h.1)
 
 -- ---- the laws
 

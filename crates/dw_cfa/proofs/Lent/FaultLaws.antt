@@ -188,8 +188,7 @@ module _ (f : Factors) (i : Input) (h : AreBytes i.bytes) where
       (there.0, there.1.0, there.1.1)
 
   pub cie_fault_only : (r : Refusal) → CieFault f i r → initial_row (placed f i) blank ≡ Err r
-  cie_fault_only r (instrs, kept, there) =
-      cie_told (placed f i).items (placed f i).fault blank (Some r) (fault_only f i h Rules cie_fault written blank CieKept CieBreaks cie_judges r (instrs, (kept, there)))
+  cie_fault_only r (instrs, kept, there) = cie_told (placed f i).items (placed f i).fault blank (Some r) (fault_only f i h Rules cie_fault written blank CieKept CieBreaks cie_judges r (instrs, (kept, there)))
 
 -- ---- both
 

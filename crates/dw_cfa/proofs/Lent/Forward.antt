@@ -34,13 +34,11 @@ stack_passed initial i past earlier j (row ∷ stack) h =
 
 stack_remembered : (initial : Rules) (earlier : List Instr) (j : ℕ) (stack : List Rules) → StackHolds initial earlier (suc j) stack → StackHolds initial (RememberState ∷ earlier) (suc (suc j)) stack
 stack_remembered initial earlier j [] h = tt
-stack_remembered initial earlier j (row ∷ stack) h =
-    (record { cfa = h.0.cfa; rules = h.0.rules; listed = h.0.listed }, stack_remembered initial earlier (suc j) stack h.1)
+stack_remembered initial earlier j (row ∷ stack) h = (record { cfa = h.0.cfa; rules = h.0.rules; listed = h.0.listed }, stack_remembered initial earlier (suc j) stack h.1)
 
 stack_popped : (initial : Rules) (earlier : List Instr) (j : ℕ) (stack : List Rules) → StackHolds initial earlier (suc (suc j)) stack → StackHolds initial (RestoreState ∷ earlier) (suc j) stack
 stack_popped initial earlier j [] h = tt
-stack_popped initial earlier j (row ∷ stack) h =
-    (record { cfa = h.0.cfa; rules = h.0.rules; listed = h.0.listed }, stack_popped initial earlier (suc j) stack h.1)
+stack_popped initial earlier j (row ∷ stack) h = (record { cfa = h.0.cfa; rules = h.0.rules; listed = h.0.listed }, stack_popped initial earlier (suc j) stack h.1)
 
 -- an instruction that neither remembers nor restores, and has in every column the effect of its change
 module _ (initial : Rules) (begin : ℕ) (i : Instr) (earlier : List Instr) (s : State) (h : Follows initial begin earlier s) where

@@ -285,8 +285,7 @@ leaves_one f cie instrs others row other cb v w =
 -- rows behind an initial row hold the rules at each address
 pub rules_behind : (f : Factors) (initial : Rules) (fde : Input) (begin : ℕ) (o : Outcome) → AreBytes fde.bytes → AreSpecified 0 initial.registers → begin ≤ address_limit fde.target.size
     → RunsBehind f initial fde begin o → o.fault ≡ None → (instrs : List Instr) × RulesBehind f initial fde begin instrs o.rows
-rules_behind f initial fde begin o fb listed le runs none =
-    behind_gives f initial fde begin o.rows fb listed le (sym (runs_behind f initial fde begin fb listed le o runs) ∙ one_outcome o o.rows None refl none)
+rules_behind f initial fde begin o fb listed le runs none = behind_gives f initial fde begin o.rows fb listed le (sym (runs_behind f initial fde begin fb listed le o runs) ∙ one_outcome o o.rows None refl none)
 
 -- ---- what the calls answer
 

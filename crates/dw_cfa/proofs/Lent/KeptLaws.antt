@@ -23,8 +23,7 @@ halves_from [] earlier row h run k i is keeps = absurd cc
 halves_from (item ∷ items) earlier row h run zero i is keeps =
     let same : item.instr ≡ i = cc in
     subst IsRegisterRule h.row.cfa (half_kept item.instr row.cfa (allowed_then item.instr row (in_cie item.instr) refl run.0).1 (subst (λ (x : Instr). IsTrue (keeps_half x)) (sym same) keeps))
-halves_from (item ∷ items) earlier row h run (suc k) i is keeps =
-    halves_from items (item.instr ∷ earlier) (written item.instr row) (written_follows item.instr earlier row h run.0) run.1 k i is keeps
+halves_from (item ∷ items) earlier row h run (suc k) i is keeps = halves_from items (item.instr ∷ earlier) (written item.instr row) (written_follows item.instr earlier row h run.0) run.1 k i is keeps
 
 pub cie_kept : (items : List Placed) → AllRun cie_fault written items blank → CieKept (instrs_of items)
 cie_kept items run = record { allowed = all_allowed items blank run; halves = halves_from items [] blank (begun_follows blank 0 tt) run }

@@ -139,8 +139,7 @@ no_fault_first limit begin initial RestoreState earlier instrs row [] location h
     let matched : restored (RestoreState ∷ earlier) ≤ remembered (RestoreState ∷ earlier) = k.matched 1 (omega arith) in
     absurd (omega (arith, matched, h.balance, more_remembered RestoreState earlier, more_restored RestoreState earlier))
 no_fault_first limit begin initial RestoreState earlier instrs row (top ∷ stack) location h k = refl
-no_fault_first limit begin initial i earlier instrs row stack location h k =
-    keeps_fault i row.cfa (λ keeps. subst IsRegisterRule (sym h.follows.row.cfa) (k.halves 0 i refl keeps))
+no_fault_first limit begin initial i earlier instrs row stack location h k = keeps_fault i row.cfa (λ keeps. subst IsRegisterRule (sym h.follows.row.cfa) (k.halves 0 i refl keeps))
 
 rest_kept : (limit begin : ℕ) (initial : CfaRule) (i : Instr) (earlier instrs : List Instr) → KeptFrom limit begin initial earlier (i ∷ instrs) → KeptFrom limit begin initial (i ∷ earlier) instrs
 rest_kept limit begin initial i earlier instrs h = record {

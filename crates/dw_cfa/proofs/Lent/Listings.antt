@@ -17,8 +17,7 @@ placed_to f i instrs front rest fault h whole p end =
     (ap (λ (l : Placing). instrs_of l.items) all ∙ ap instrs_of (append-nil j.before) ∙ j.are, ap (λ (l : Placing). l.fault) all)
 
 pub program_placed : (f : Factors) (i : Input) (instrs : List Instr) → AreBytes i.bytes → ProgramSpells i.target f instrs i.bytes → (instrs_of (placed f i).items ≡ instrs) × ((placed f i).fault ≡ None)
-program_placed f i instrs h p =
-    placed_to f i instrs i.bytes [] None h (sym (append-nil i.bytes)) p (placed_end f (input (i.at + length i.bytes) [] i.target) refl)
+program_placed f i instrs h p = placed_to f i instrs i.bytes [] None h (sym (append-nil i.bytes)) p (placed_end f (input (i.at + length i.bytes) [] i.target) refl)
 
 pub placed_program : (f : Factors) (i : Input) → AreBytes i.bytes → (placed f i).fault ≡ None → ProgramSpells i.target f (instrs_of (placed f i).items) i.bytes
 placed_program f i h none =

@@ -33,8 +33,7 @@ module _ {Rule : Type 0} (change : Instr → Rule → Rule) (initial : Rule) (ke
       → look_back change initial 0 (onto earlier instrs k) ≡ look_back change initial 0 earlier
   held earlier instrs zero at moves stays = refl
   held earlier [] (suc k) at moves stays = refl
-  held earlier (Nop ∷ instrs) (suc k) at moves stays =
-      held (Nop ∷ earlier) instrs k at moves (λ j le. stays (suc j) (omega (arith, le))) ∙ keeps (look_back change initial 0 earlier)
+  held earlier (Nop ∷ instrs) (suc k) at moves stays = held (Nop ∷ earlier) instrs k at moves (λ j le. stays (suc j) (omega (arith, le))) ∙ keeps (look_back change initial 0 earlier)
   held earlier (Advance delta ∷ instrs) (suc k) at moves stays =
       let past : location_back begin earlier + delta ≤ begin = stays 1 (omega arith) in
       let more : 0 < delta = ltb-true 0 delta moves in

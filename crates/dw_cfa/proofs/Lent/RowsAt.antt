@@ -98,14 +98,12 @@ rows_from limit initial (item ∷ items) fault s =
     (λ stay. subst (λ (n : ℕ). RowsFrom n next) (stays initial item.instr s stay) rest))
 
 pub never_falls : (limit : ℕ) (initial : Rules) (items : List Placed) (s : State) (rows : List LocatedRow) (low : ℕ) → low ≤ s.location → Gives limit initial items s rows → NeverFalls low rows
-never_falls limit initial items s rows low le e =
-    lower low s.location rows le (subst (λ (o : Outcome). NeverFalls s.location o.rows) e (rows_from limit initial items None s).falls)
+never_falls limit initial items s rows low le e = lower low s.location rows le (subst (λ (o : Outcome). NeverFalls s.location o.rows) e (rows_from limit initial items None s).falls)
 
 -- no row starts at or below a where the location has passed it
 pub none_at : (a : ℕ) (low : ℕ) (rows : List LocatedRow) → a < low → NeverFalls low rows → last_at a rows ≡ None
 none_at a low [] past h = refl
-none_at a low (row ∷ rows) past h =
-    rw (none_at a row.location rows (omega (arith, past, h.0)) h.1, not_le row.location a (omega (arith, past, h.0))) refl
+none_at a low (row ∷ rows) past h = rw (none_at a row.location rows (omega (arith, past, h.0)) h.1, not_le row.location a (omega (arith, past, h.0))) refl
 
 pub last_from : (a low : ℕ) (rows : List LocatedRow) (row : Rules) → NeverFalls low rows → last_at a rows ≡ Some row → low ≤ a
 last_from a low rows row h is = elim (cases_lt a low) [ inl below ↦ (let none = none_at a low rows below h in absurd cc) | inr from ↦ from ]

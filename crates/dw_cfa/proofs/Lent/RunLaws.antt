@@ -11,8 +11,7 @@ on_initial_from (Err r) go low h = refused_from low r
 
 pub run_from : (f : Factors) (cie fde : Input) (begin : ℕ) → RowsFrom begin (run_rows f cie fde begin)
 unfolding run_rows
-run_from f cie fde begin =
-    on_initial_from (initial_row (placed f cie) blank) _ begin (λ initial. rows_from (address_limit fde.target.size) initial (placed f fde).items (placed f fde).fault (begun initial begin))
+run_from f cie fde begin = on_initial_from (initial_row (placed f cie) blank) _ begin (λ initial. rows_from (address_limit fde.target.size) initial (placed f fde).items (placed f fde).fault (begun initial begin))
 
 pub left_from : (f : Factors) (i : Input) (m : Machine) → RowsFrom m.location (rows_left f i m)
 unfolding rows_left

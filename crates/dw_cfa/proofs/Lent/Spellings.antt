@@ -58,8 +58,7 @@ RuleSpells t f r (rules.Offset n) bytes =
     ((r < 64) × Code (0x80 + r) (Factored f n) bytes)
     ⊎ (Code 0x05 (Both (Register r) (Factored f n)) bytes
     ⊎ Code 0x11 (Both (Register r) (SignedFactored f n)) bytes)
-RuleSpells t f r (rules.ValOffset n) bytes =
-    Code 0x14 (Both (Register r) (Factored f n)) bytes ⊎ Code 0x15 (Both (Register r) (SignedFactored f n)) bytes
+RuleSpells t f r (rules.ValOffset n) bytes = Code 0x14 (Both (Register r) (Factored f n)) bytes ⊎ Code 0x15 (Both (Register r) (SignedFactored f n)) bytes
 RuleSpells t f r (rules.Register q) bytes = Code 0x09 (Both (Register r) (Register q)) bytes
 RuleSpells t f r (rules.Expression e) bytes = Code 0x10 (Both (Register r) (BlockSpells t e)) bytes
 RuleSpells t f r (rules.ValExpression e) bytes = Code 0x16 (Both (Register r) (BlockSpells t e)) bytes
@@ -69,8 +68,7 @@ abbrev pub IsSpelled : Target → Factors → Instr → List ℕ → Type 0
 IsSpelled t f Nop bytes = Alone 0x00 bytes
 IsSpelled t f (SetLoc a) bytes = Code 0x01 (Address t a) bytes
 IsSpelled t f (Advance distance) bytes = (delta : ℕ) × AdvanceSpells t delta bytes × (distance ≡ delta * f.code_factor)
-IsSpelled t f (DefCfa r n) bytes =
-    Code 0x0c (Both (Register r) (Plain n)) bytes ⊎ Code 0x12 (Both (Register r) (SignedFactored f n)) bytes
+IsSpelled t f (DefCfa r n) bytes = Code 0x0c (Both (Register r) (Plain n)) bytes ⊎ Code 0x12 (Both (Register r) (SignedFactored f n)) bytes
 IsSpelled t f (DefCfaRegister r) bytes = Code 0x0d (Register r) bytes
 IsSpelled t f (DefCfaOffset n) bytes = Code 0x0e (Plain n) bytes ⊎ Code 0x13 (SignedFactored f n) bytes
 IsSpelled t f (DefCfaExpression e) bytes = Code 0x0f (BlockSpells t e) bytes

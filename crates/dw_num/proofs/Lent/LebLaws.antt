@@ -31,8 +31,7 @@ leb_len-front (x ∷ bs) n h e = elim (cases_lt x 128) [
 pub leb_len-spelled : (b rest : List ℕ) → IsLeb b → leb_len (b ++ rest) ≡ Some (length b)
 leb_len-spelled [] rest h = absurd h
 leb_len-spelled (x ∷ []) rest h = rw (lt-ltb x 128 h) refl
-leb_len-spelled (x ∷ y ∷ b) rest h =
-    rw (le-ltb x 128 h.0, leb_len-spelled (y ∷ b) rest h.2) (ap Some (omega arith))
+leb_len-spelled (x ∷ y ∷ b) rest h = rw (le-ltb x 128 h.0, leb_len-spelled (y ∷ b) rest h.2) (ap Some (omega arith))
 
 pub uleb_again : (at : ℕ) (target : Target) (v : ℕ) (b rest : List ℕ) → Uleb v b → uleb_at (record { at = at; bytes = b ++ rest; target = target }) ≡ Ok (v, record { at = at + length b; bytes = rest; target = target })
 unfolding uleb_at

@@ -24,8 +24,7 @@ groups-cons b bytes = omega (arith, turned-cons false b bytes, turned_from-false
 -- a list of k bytes makes less than 128 ^ k
 pub groups_below : (bytes : List ℕ) → groups bytes < 128 ^ length bytes
 groups_below [] = lit< tt
-groups_below (b ∷ bytes) =
-    rw (pow-succ' 128 (length bytes), groups-cons b bytes) (let h = groups_below bytes in let m : b % 128 < 128 = omega arith in omega arith)
+groups_below (b ∷ bytes) = rw (pow-succ' 128 (length bytes), groups-cons b bytes) (let h = groups_below bytes in let m : b % 128 < 128 = omega arith in omega arith)
 
 -- ---- unsigned numbers
 

@@ -23,8 +23,7 @@ value_stays fields.block i = next_stays i (uleb_at i) counted_in (uleb_stays i) 
 form_stays : (form : OpForm) (i : Input) → Stays i (step_of form i)
 form_stays (fields.none made) i = inside_all i
 form_stays (fields.one o make) i = next_stays i (value_at o i) (with_op make) (value_stays o i) (λ x. inside_all x.1)
-form_stays (fields.two o p make) i =
-    next_stays i (value_at o i) (then_value p make) (value_stays o i) (λ x. next_stays x.1 (value_at p x.1) (with_op (make x.0)) (value_stays p x.1) (λ y. inside_all y.1))
+form_stays (fields.two o p make) i = next_stays i (value_at o i) (then_value p make) (value_stays o i) (λ x. next_stays x.1 (value_at p x.1) (with_op (make x.0)) (value_stays p x.1) (λ y. inside_all y.1))
 form_stays (fields.branch to) i = next_stays i (fixed_at 2 i) (with_jump (branch_in to)) (fixed_stays 2 i) (λ x. inside_all x.1)
 
 step_stays : (profile : Profile) (i : Input) → Stays i (step_at profile i)

@@ -84,8 +84,7 @@ abbrev pub expression : Target → List Op → Expression
 expression t ops = record { target = t; ops = ops }
 
 pub expression_is : (a b : Expression) → a.target ≡ b.target → a.ops ≡ b.ops → a ≡ b
-expression_is a b target ops =
-    ap (λ (t : Target). expression t a.ops) target ∙ ap (λ (l : List Op). expression b.target l) ops
+expression_is a b target ops = ap (λ (t : Target). expression t a.ops) target ∙ ap (λ (l : List Op). expression b.target l) ops
 
 -- equal lines, equal operations of frames
 frame_lines : (a b : List Op) → InFrame a → InFrame b → map op_line a ≡ map op_line b → a ≡ b

@@ -90,13 +90,11 @@ module _ (t : Target) where
 
   lit_known : (n : ℕ) → n < 32 → form_of t (0x30 + n) ≡ Some (none (Const n))
   unfolding form_of
-  lit_known n lt =
-      rw (within 0x30 0x50 (0x30 + n) (omega arith) (omega arith)) (ap (λ (m : ℕ). Some (none (Const m))) (omega arith))
+  lit_known n lt = rw (within 0x30 0x50 (0x30 + n) (omega arith) (omega arith)) (ap (λ (m : ℕ). Some (none (Const m))) (omega arith))
 
   reg_known : (n : ℕ) → n < 32 → form_of t (0x50 + n) ≡ Some (none (Reg n))
   unfolding form_of
-  reg_known n lt =
-      rw (above 0x30 0x50 (0x50 + n) (omega arith) (omega arith), within 0x50 0x70 (0x50 + n) (omega arith) (omega arith)) (ap (λ (m : ℕ). Some (none (Reg m))) (omega arith))
+  reg_known n lt = rw (above 0x30 0x50 (0x50 + n) (omega arith) (omega arith), within 0x50 0x70 (0x50 + n) (omega arith) (omega arith)) (ap (λ (m : ℕ). Some (none (Reg m))) (omega arith))
 
   breg_known : (n : ℕ) → n < 32 → form_of t (0x70 + n) ≡ Some (one signed (Breg n))
   breg_known n lt = breg_form t (0x70 + n) (omega arith) (omega arith) ∙ ap (λ (m : ℕ). Some (one signed (Breg m))) (omega arith)

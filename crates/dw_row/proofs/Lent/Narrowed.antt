@@ -62,8 +62,7 @@ module _ (p : Entry → Bool) (old mid : Entries) (before : EntriesSo old) (so :
   slots = near_rule mid.used mid.slots mid.expressions.entries
 
   rule_left : (q : ℕ) → rule_in (listed_from 0 128 slots far') q ≡ left p q (rule_in (entries_of old) q)
-  rule_left q =
-      grind (arith, nat_tests, below q, filter_rule p 128 mid.far.entries q so.far, row_rule slots far' far_left q, row_rule slots mid.far.entries so.far q)
+  rule_left q = grind (arith, nat_tests, below q, filter_rule p 128 mid.far.entries q so.far, row_rule slots far' far_left q, row_rule slots mid.far.entries so.far q)
 
   pub all_left : listed_from 0 128 slots far' ≡ filter p (entries_of old)
   all_left =
@@ -90,5 +89,4 @@ module _ (e f : Entries) (so : EntriesSo e) (so' : EntriesSo f) where
   ]
 
   pub kept_below : LeavesBelow (is_kept (entries_of f)) 128 (entries_of e) (listed_near 0 (bit_and e.used f.used) e.slots e.expressions.entries e.far.entries)
-  kept_below q =
-      grind (arith, nat_tests, row_rule (near_rule (bit_and e.used f.used) e.slots e.expressions.entries) e.far.entries so.far q, kept_near q, behind_slots e so q)
+  kept_below q = grind (arith, nat_tests, row_rule (near_rule (bit_and e.used f.used) e.slots e.expressions.entries) e.far.entries so.far q, kept_near q, behind_slots e so q)

@@ -77,8 +77,7 @@ module _ (initial instrs : List Instr) (begin end : ℕ) where
   -- the changes behind an address from which on a row was shown
   found : (rows : List LocatedRow) (low s : ℕ) (shown : Rules) (changes : List (ℕ × Rules)) → NeverFalls low rows → Hold rows → Before end s rows
       → ((a : ℕ) → s ≤ a → Before end a rows → HasRow a shown) → Among end (Some shown) rows changes → ChangesBehind initial instrs begin end s changes
-  found [] low s shown changes falls h before held is =
-      subst (ChangesBehind initial instrs begin end s) (sym is) (stay_from s end shown held)
+  found [] low s shown changes falls h before held is = subst (ChangesBehind initial instrs begin end s) (sym is) (stay_from s end shown held)
   found (row ∷ rows) low s shown changes falls h before held (inl (passed, rest)) =
       found rows row.location s shown changes falls.1 (hold_more row rows falls.1 h) (before_more s row rows falls.1 before.0 before.1) (passes row rows s shown falls.1 h passed held) rest
   found (row ∷ rows) low s shown changes falls h before held (inr (shows, (more, is, rest))) =

@@ -10,8 +10,7 @@ one_change_list target s b ok f xs ys some v w =
 
 -- programs of the same FDEs agree
 abbrev pub AllAgree : Target → List ℕ → List ℕ → List Fde → Type 0
-AllAgree target s t fs =
-    (f : Fde) → IsAmong f fs → (i j k l : List Instr) → FdeSays target s f.begin f.end i j → FdeSays target t f.begin f.end k l → Agree f.begin f.end i j k l
+AllAgree target s t fs = (f : Fde) → IsAmong f fs → (i j k l : List Instr) → FdeSays target s f.begin f.end i j → FdeSays target t f.begin f.end k l → Agree f.begin f.end i j k l
 
 pub all_agree_sym : (target : Target) (s t : List ℕ) (fs : List Fde) → AllAgree target s t fs → AllAgree target t s fs
 all_agree_sym target s t fs h f listed i j k l p q a le lt = agree_sym f.begin a k l i j (h f listed k l i j q p a le lt)

@@ -38,8 +38,7 @@ module _ (i j : List Instr) (begin end : ℕ) where
 
   pub held_all : (changes : List (ℕ × Rules)) → begin < end → AreChanges i j begin end changes → AllByRecursion Held changes
   held_all [] lt c = absurd c
-  held_all (first ∷ changes) lt c =
-      ((omega (arith, c.0), omega (arith, c.0), subst (λ (a : ℕ). HoldsAt i j begin a first.1) (sym c.0) c.1), held_behind begin changes (omega arith) c.2)
+  held_all (first ∷ changes) lt c = ((omega (arith, c.0), omega (arith, c.0), subst (λ (a : ℕ). HoldsAt i j begin a first.1) (sym c.0) c.1), held_behind begin changes (omega arith) c.2)
 
   steps_behind : (low : ℕ) (row : Rules) (changes : List (ℕ × Rules)) → begin ≤ low → HoldsAt i j begin low row → ChangesBehind i j begin end low changes → Steps low row changes
   steps_behind low row [] le h c = tt

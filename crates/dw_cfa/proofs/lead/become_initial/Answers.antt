@@ -2,8 +2,7 @@ use Rattle.dw_cfa.proofs.{Words.{Ok, Err, IfOk-weaker, IfErr-weaker, program_inp
 use Rattle.dw_cfa.proofs.lead.become_initial.Goals as goal
 
 pub returns-clause-ok : goal.returns-clause-ok
-returns-clause-ok c =
-    IfOk-weaker c.run_initial.result _ _ (λ u e. leaves_to c.args.factors (program_input c.args.cie_program c.args.target) c.are_bytes.ensures (Ok c.run_initial.new.row) e) c.run_initial.ensures.ok
+returns-clause-ok c = IfOk-weaker c.run_initial.result _ _ (λ u e. leaves_to c.args.factors (program_input c.args.cie_program c.args.target) c.are_bytes.ensures (Ok c.run_initial.new.row) e) c.run_initial.ensures.ok
 
 pub returns-clause-err : goal.returns-clause-err
 returns-clause-err c =

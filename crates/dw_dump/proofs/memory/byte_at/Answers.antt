@@ -20,8 +20,7 @@ begun c = IsPartitionPoint-from_clause (λ (r : Range). nat_le r.address c.args.
 
 pub overflow_sub-offset : goal.overflow_sub-offset
 unfolding no_range
-overflow_sub-offset c =
-    last c.args.ranges.now c.args.address c.partition_point-begun.result (begun (goal.at.overflow_sub-offset c).After-partition_point-begun) c.if-begun-eq0.false
+overflow_sub-offset c = last c.args.ranges.now c.args.address c.partition_point-begun.result (begun (goal.at.overflow_sub-offset c).After-partition_point-begun) c.if-begun-eq0.false
 
 pub returns-then-begun-eq0 : goal.returns-then-begun-eq0
 returns-then-begun-eq0 c =

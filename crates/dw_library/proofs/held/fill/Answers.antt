@@ -2,8 +2,7 @@ use Rattle.dw_library.proofs.Words.{length, arith, sym, byte_among, bytes_missin
 use Rattle.dw_library.proofs.held.fill.Goals as goal
 
 pub returns-in_default : goal.returns-in_default
-returns-in_default c =
-    bytes_missing (byte_among c.args.bytes.now c.args.windows.now) c.args.address (length c.args.buffer.now) c.loop-i.i (omega arith) (rw (c.from.ensures) at (sym c.in_default.ensures))
+returns-in_default c = bytes_missing (byte_among c.args.bytes.now c.args.windows.now) c.args.address (length c.args.buffer.now) c.loop-i.i (omega arith) (rw (c.from.ensures) at (sym c.in_default.ensures))
 
 pub returns : goal.returns
 returns c =

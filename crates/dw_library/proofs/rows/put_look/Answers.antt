@@ -2,8 +2,7 @@ use Rattle.dw_library.proofs.Words.{List, map, [], refl, rules, sym, ap, ◌∙�
 use Rattle.dw_library.proofs.rows.put_look.Goals as goal
 
 pub returns-in_default-clause-look : goal.returns-in_default-clause-look
-returns-in_default-clause-look c =
-    (record { row = c.default.result; rules = [] }, inr (λ fs are. rw c.in_default.is at (c.in_ok-found.ensures.found fs are), search rules, refl), refl, refl, refl)
+returns-in_default-clause-look c = (record { row = c.default.result; rules = [] }, inr (λ fs are. rw c.in_default.is at (c.in_ok-found.ensures.found fs are), search rules, refl), refl, refl, refl)
 
 pub returns-clause-look : goal.returns-clause-look
 returns-clause-look c =

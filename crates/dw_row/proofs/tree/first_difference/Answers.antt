@@ -13,12 +13,10 @@ returns-then-other_register-register c =
     let h = c.rules.invariant in right_differs h c.in-Some-next.ensures.steps (above _ c.in-Some.ensures.steps h.left (omega (arith, c.if-other_register-register.true)))
 
 pub returns-then-not-is_same : goal.returns-then-not-is_same
-returns-then-not-is_same c =
-    both_differ c.rules.invariant c.in-Some.ensures.steps c.in-Some-next.ensures.steps c.if-other_register-register.false c.if-register-other_register.false (not_one c.if-not-is_same.ensures)
+returns-then-not-is_same c = both_differ c.rules.invariant c.in-Some.ensures.steps c.in-Some-next.ensures.steps c.if-other_register-register.false c.if-register-other_register.false (not_one c.if-not-is_same.ensures)
 
 pub rules-preserved : goal.rules-preserved
-rules-preserved c =
-    both_same c.rules.invariant c.in-Some.ensures.steps c.in-Some-next.ensures.steps c.if-other_register-register.false c.if-register-other_register.false (c.if-not-is_same.ensures.0 refl)
+rules-preserved c = both_same c.rules.invariant c.in-Some.ensures.steps c.in-Some-next.ensures.steps c.if-other_register-register.false c.if-register-other_register.false (c.if-not-is_same.ensures.0 refl)
 
 pub returns : goal.returns
 returns c = right_differs c.rules.invariant c.in-Some-next-2.ensures.steps (none_above _ c.in_default.ensures.steps.0)
