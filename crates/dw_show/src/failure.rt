@@ -8,10 +8,11 @@ use dw_num::{ReadError, Refusal};
 use dw_unwind::{Column, DumpError, DumpFault, UnwindError};
 use dw_words::PlanError;
 use std::alloc::AllocError;
+use std::fmt;
 use thiserror::Error;
 
-/// Why a run ends without its answer. Its text is the line that the command prints.
-#[derive(Debug, Drop, Error)]
+/// Why a run ends without its answer. Its text is the line that the command prints, also for `{:?}`.
+#[derive(Drop, Error)]
 pub enum Failure<'a> {
     /// A section or a block is refused, or a normal form passes its cap.
     #[error("refused: {} at {:#x}", .0.code, .0.at)]
@@ -52,6 +53,12 @@ pub enum Failure<'a> {
     /// What is wrong with the words: a text of several lines, which ends the last of them.
     #[error("{0}")]
     Words(clap::Error),
+}
+
+impl fmt::Debug for Failure<'_> {
+    fn fmt<W: fmt::Write>(&self, f: &mut fmt::Formatter<W>) -> fmt::Result {
+        fmt::Display::fmt(self, f)
+    }
 }
 
 impl From<AllocError> for Failure<'_> {

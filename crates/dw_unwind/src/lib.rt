@@ -1,5 +1,4 @@
-//! Unwinding of one frame (6.4.1). `unwind` answers the caller's frame that the rules at an address give, or the first fault; `Device` exactly where the
-//! memory's count of failures grew. Read `specs/Unwound.antt` first.
+//! Unwinding of one frame (6.4.1): `unwind` answers the caller's frame by the rules at an address, or the first fault. Read `specs/Unwound.antt` first.
 #![tactic(auto)]
 
 mod by_index;
