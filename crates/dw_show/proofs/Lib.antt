@@ -1,6 +1,5 @@
 mod Words
 pub mod AddressLines
-pub mod Blocks
 pub mod Digits
 pub mod Endings
 pub mod HexLines

@@ -1,7 +1,7 @@
 -- The words of specs and of std that the proofs cite, passed on from one place. Declares nothing.
 unfoldable pub use Rattle.std.specs.Fmt.{digits}
 pub use Rattle.std.specs.{Fmt.{digit_glyph, digits_onto}, Io.KnownBytes.{Appends, Keeps, append_known}, List.{AllByRecursion, AllZip}}
-pub use Rattle.std.proofs.Common.{Bool, Err, IfErr, IsOk, List, None, Ok, OnOk, Option, Result, Some, [], ap, append-nil, append_assoc, arith, codes, decimal, drop, eq-or-lt_of_le, eqb-true, false, get_or, if◌then◌else◌, inl, inr, length}
+pub use Rattle.std.proofs.Common.{Bool, Err, IsOk, List, None, Ok, OnOk, Option, Result, Some, [], ap, append-nil, append_assoc, arith, codes, decimal, drop, eq-or-lt_of_le, eqb-true, false, get_or, if◌then◌else◌, inl, inr, length}
 pub use Rattle.std.proofs.Common.{length-drop, length-take, length-take-le, map, min, pow-suc, refl, rules, slice_index, subst, suc, sym, take, take-add, take-append-drop, true, zero, ℕ, ⊎_elim, ◌%◌, ◌*◌, ◌++◌, ◌+◌, ◌-◌, ◌/◌, ◌<◌, ◌==◌}
 pub use Rattle.std.proofs.{Common.{◌^◌, ◌∙◌, ◌∷◌, ◌≡◌, ◌≤◌, ◌⊎◌, ◌&&◌}, KnownBytes.{Appends-kept, Appends-nil, Appends-trans, Keeps-refl, append_known-moved}, Math.Seq.take-append_seam}
 pub use Rattle.std.proofs.lemmas.{List.{drop-take, drop_min, drop_more, length-map, take_min, take_rest}, Nat.leading_top, Result.err_from_is_err_and}
@@ -9,7 +9,7 @@ pub use Rattle.clap.specs.Words.{Text}
 pub use Rattle.hex.specs.Hex.{encode_lower, lower_digits}
 pub use Rattle.itoa.proofs.Decimal.{PAIRS_at, decimal_pair, decimal_two}
 pub use Rattle.dw_num.specs.{Input.AreBytes, declared.target.{Size.Size, Target.Target}}
-pub use Rattle.dw_op.specs.{Faults.IsBlock, declared.{op.Op.{Op, TheVariants.{Addr, Implicit}}, profile.Profile.TheVariants.Location}}
+pub use Rattle.dw_op.specs.declared.op.Op.{Op, TheVariants.{Addr, Implicit}}
 pub use Rattle.dw_row.specs.Rows.{Rules, blank}
 pub use Rattle.dw_section.specs.{Accepted.Accepted, Among.IsAmong, Meaning.{AreFdes, ChangesOf, RowStarts, total}, Table.Section, declared.lookup.Fde.Fde}
 pub use Rattle.dw_canon.specs.Members.{AreMembers, IsMember, Member, changes_of, fde_of}

@@ -1,7 +1,7 @@
 //! The subcommands over an expression: `expr`, its operations and its least spelling, and `eval`, its value.
 
 ghost use Rattle.std.specs.Prelude.{◌≡◌, false};
-ghost use Rattle.dw_show.specs.{Answers.{EvalEnds, OverBlock}, Texts.{least_text, numbered}, Listing.{Adds, output_of}};
+ghost use Rattle.dw_show.specs.{Answers.{Before, EvalEnds, OverBlock, Prints, Values}, Texts.{least_text, numbered, value_text}, Listing.{Adds, output_of}};
 
 use crate::failure::Failure;
 use crate::files::load_text;
@@ -10,7 +10,7 @@ use crate::texts::{put_hex, put_op};
 use dw_eval::{Env, evaluate};
 use dw_files::Load;
 use dw_num::Target;
-use dw_op::{EncodeError, Op, OpList, Profile, decode, encode};
+use dw_op::{Op, OpList, Profile, decode, encode};
 use dw_unwind::Dump;
 use dw_words::Evaluation;
 use std::alloc::Global;
@@ -56,14 +56,40 @@ pub fn run_expr<'a, W: Write>(
     ensures { OverBlock (output_of W.contents out.old) (output_of W.contents out.new) target profile block.now result }
 {
     let list = decode(alloc, block, target, profile)?;
-    let least = match encode(alloc, &list) {
-        Ok(least) => least,
-        Err(EncodeError::OutOfMemory) => return Err(Failure::OutOfMemory),
-        // What has a block has a least one.
-        Err(EncodeError::BranchTooFar { index: _ }) => unreachable!(),
+    // What has a block has a least one.
+    let Ok(least) = encode(alloc, &list) else {
+        return Err(Failure::OutOfMemory);
     };
     put_lines(out, list.ops());
     put_least(out, &least);
+    out.finish()
+}
+
+// Puts the value, apart from the text: what is owned beside ways out is proved for long.
+fn put_evaluated<'a, W: Write>(
+    alloc: Global,
+    list: &OpList<'_>,
+    dump: &mut Dump,
+    evaluation: &Evaluation<'_>,
+    out: &mut Listing<W>,
+) -> Result<(), Failure<'a>>
+    requires works { out.old.failed ≡ false }
+    ensures { Before (output_of W.contents out.old) (output_of W.contents out.new) (Values list.now.target list.now.ops evaluation.now.start dump.old
+        evaluation.now.steps) (λ v. Prints (output_of W.contents out.old) (output_of W.contents out.new) (value_text v) tt) result }
+{
+    let env = Env {
+        target: list.target(),
+        registers: &dump.registers,
+        frame_base: None,
+        cfa: None,
+        object: None,
+    };
+    let Evaluation { start, steps, .. } = *evaluation;
+    let value = evaluate(alloc, list, start, &env, &mut dump.memory, steps)?;
+    out.make_room();
+    out.text(b"0x");
+    out.hex(value);
+    out.text(b"\n");
     out.finish()
 }
 
@@ -81,18 +107,5 @@ pub fn run_eval<'a, L: Load, W: Write>(
     let text = load_text(alloc, files, evaluation.dump)?;
     let list = decode(alloc, &evaluation.block, target, Profile::Location)?;
     let mut dump = Dump::parse(alloc, &text, target)?;
-    let env = Env {
-        target,
-        registers: &dump.registers,
-        frame_base: None,
-        cfa: None,
-        object: None,
-    };
-    let (start, steps) = (evaluation.start, evaluation.steps);
-    let value = evaluate(alloc, &list, start, &env, &mut dump.memory, steps)?;
-    out.make_room();
-    out.text(b"0x");
-    out.hex(value);
-    out.text(b"\n");
-    out.finish()
+    put_evaluated(alloc, &list, &mut dump, evaluation, out)
 }

@@ -359,6 +359,5 @@ pub fn put_help<W: Write>(
 {
     let text = format!(in alloc; "{text}")?;
     out.long_text(text.as_bytes());
-    out.finish()?;
-    Ok(0)
+    out.finish().map(|()| 0)
 }

@@ -5,7 +5,7 @@ ghost use Rattle.dw_row.specs.Rows.{Rules};
 ghost use Rattle.dw_section.specs.{Meaning.AreFdes, declared.lookup.Fde.{Fde as TheFde}};
 ghost use Rattle.dw_canon.specs.Members.{AreMembers, Member};
 ghost use Rattle.dw_dump.specs.Lines.{lines_of};
-ghost use Rattle.dw_show.specs.{Addresses.{RefusesLine, addresses_of, lines_in}, Answers.{AtEnds, ListsFdes, PrintsOf, Tells, TellsOf}, Inner.Lines.line_len};
+ghost use Rattle.dw_show.specs.{Addresses.{RefusesLine, addresses_of, lines_in}, Answers.{AtEnds, ListsFdes, Prints, PrintsOf, Tells, TellsOf}, Inner.Lines.line_len};
 ghost use Rattle.dw_show.specs.{RowTexts.{At, at_text, member_text, row_text}, Texts.lines, Listing.{Adds, Breaks, TellsOfFile, output_of}};
 
 use crate::failure::Failure;
@@ -47,8 +47,9 @@ fn put_fdes<'a, W: Write>(
     changes: &mut Changes<'a>,
 ) -> Result<(), Failure<'static>>
     requires section { changes.old.section ≡ table.now }
-    ensures told { IfErr result (Breaks out.new) }
-    ensures put { OnOk result ((ms : List Member) → AreMembers table.now.target table.now.bytes ms → Adds W.contents out.old out.new (lines member_text ms)) }
+    requires works { out.old.failed ≡ false }
+    ensures { (ms : List Member) → AreMembers table.now.target table.now.bytes ms →
+        Prints (output_of W.contents out.old) (output_of W.contents out.new) (lines member_text ms) tt result }
 {
     table.accepted();
     for place in 0..table.fde_count() {
@@ -57,7 +58,7 @@ fn put_fdes<'a, W: Write>(
         table.go_on(changes, fde);
         put_changes(out, changes)?;
     }
-    Ok(())
+    out.finish()
 }
 
 /// Prints the rows of the section in a file: a line for each nonempty FDE by begin, and under it one for each address
@@ -78,8 +79,7 @@ pub fn run_rows<'a, L: Load, W: Write>(
     let mut changes = table.no_changes();
     let put = put_fdes(out, &table, &mut changes);
     drop(changes);
-    put?;
-    out.finish()
+    put
 }
 
 fn put_at<'a, W: Write>(

@@ -107,8 +107,7 @@ pub fn put_verdict<W: Write>(out: &mut Listing<W>, is_same: bool) -> Result<u8, 
 {
     out.make_room();
     out.text(if is_same { b"same\n" } else { b"different\n" });
-    out.finish()?;
-    Ok(u8::from(!is_same))
+    out.finish().map(|()| u8::from(!is_same))
 }
 
 fn count_changes(changes: &mut Changes<'_>) -> Result<u64, AllocError>
@@ -123,11 +122,7 @@ fn count_changes(changes: &mut Changes<'_>) -> Result<u64, AllocError>
 }
 
 // How many changes all FDEs have, by changes that are gone on in. There are no more than rows that are started, so they fit.
-fn count_all<'a>(
-    table: &Table<'a>,
-    changes: &mut Changes<'a>,
-    starts: u64,
-) -> Result<u64, AllocError>
+fn tally<'a>(table: &Table<'a>, changes: &mut Changes<'a>, starts: u64) -> Result<u64, AllocError>
     requires section { changes.old.section ≡ table.now }
     requires starts { RowStarts table.now.target table.now.bytes starts }
     ensures { IfOk result (ChangeCount table.now.target table.now.bytes) }
@@ -160,7 +155,7 @@ pub fn count_changes_of(table: &Table<'_>, starts: u64) -> Result<u64, AllocErro
     ensures { IfOk result (ChangeCount table.now.target table.now.bytes) }
 {
     let mut changes = table.no_changes();
-    let count = count_all(table, &mut changes, starts);
+    let count = tally(table, &mut changes, starts);
     drop(changes);
     count
 }

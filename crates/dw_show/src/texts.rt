@@ -3,7 +3,7 @@
 ghost use Rattle.std.specs.Prelude.{◌≡◌, ◌+◌, ◌++◌, ◌^◌, ◌≤◌, codes, length, None};
 ghost use Rattle.hex.specs.Hex.{encode_lower};
 ghost use Rattle.dw_show.specs.{OpTexts.{bytes_text, number_text, op_name, op_text, operands_text, signed_text}, RowTexts.{at_text, cfa_text, column_text}};
-ghost use Rattle.dw_show.specs.{RowTexts.{fde_text, operations_text, row_text, rule_text}, declared.listing.TheConstants.{PIECE, ROOM}, Listing.Adds};
+ghost use Rattle.dw_show.specs.{RowTexts.{fde_text, operations_text, row_text, rule_text}, declared.listing.TheConstants.ROOM, Listing.Adds};
 
 use crate::listing::Listing;
 use dw_op::{ExprRef, Op};
@@ -142,19 +142,22 @@ pub fn put_op<W: Write>(listing: &mut Listing<W>, op: &Op<'_>)
     put_operands(listing, op);
 }
 
-// The operations of an expression. Room is made behind them.
-fn put_operations<W: Write>(listing: &mut Listing<W>, expression: &ExprRef<'_>)
-    ensures put { Adds W.contents listing.old listing.new (operations_text expression.now.ops) }
-    ensures made { listing.new.len + PIECE ≤ ROOM }
+// The operations of an expression between two texts.
+fn put_expr<W: Write>(out: &mut Listing<W>, front: &[u8], expression: &ExprRef<'_>, behind: &[u8])
+    requires room { out.old.len + length front.now ≤ ROOM }
+    requires short { length behind.now ≤ 2 }
+    ensures { Adds W.contents out.old out.new (front.now ++ operations_text expression.now.ops ++ behind.now) }
 {
+    out.text(front);
     let mut between = b"".as_slice();
     for op in expression.steps() {
-        listing.make_room();
-        listing.text(between);
-        put_op(listing, &op);
+        out.make_room();
+        out.text(between);
+        put_op(out, &op);
         between = b"; ".as_slice();
     }
-    listing.make_room();
+    out.make_room();
+    out.text(behind);
 }
 
 #[inline(always)]
@@ -170,11 +173,7 @@ fn put_cfa<W: Write>(listing: &mut Listing<W>, rule: &CfaRule<'_>)
             listing.decimal(u64::from(*register));
             listing.offset(*offset);
         }
-        CfaRule::Expression(expression) => {
-            listing.text(b" cfa=expr(");
-            put_operations(listing, expression);
-            listing.text(b")");
-        }
+        CfaRule::Expression(expression) => put_expr(listing, b" cfa=expr(", expression, b")"),
     }
 }
 
@@ -202,16 +201,8 @@ fn put_rule<W: Write>(listing: &mut Listing<W>, rule: &RegRule<'_>)
             listing.text(b"=r");
             listing.decimal(u64::from(*other));
         }
-        RegRule::Expression(expression) => {
-            listing.text(b"=[expr(");
-            put_operations(listing, expression);
-            listing.text(b")]");
-        }
-        RegRule::ValExpression(expression) => {
-            listing.text(b"=expr(");
-            put_operations(listing, expression);
-            listing.text(b")");
-        }
+        RegRule::Expression(expression) => put_expr(listing, b"=[expr(", expression, b")]"),
+        RegRule::ValExpression(expression) => put_expr(listing, b"=expr(", expression, b")"),
     }
 }
 

@@ -1,12 +1,6 @@
 use Rattle.dw_op.specs.Least.{LeastBlock}
-use Rattle.dw_show.proofs.{Words.{◌++◌, ◌∙◌, ℕ, List, ap, inl, subst, sym, Adds, Target, least_text, numbered}, Blocks.{is_block, same_target, not_memory}, OpLines.numbered_bare, Lent.Endings.{on, printed}}
+use Rattle.dw_show.proofs.{Words.{◌++◌, ◌∙◌, ℕ, List, ap, inl, subst, sym, Adds, Target, least_text, numbered}, OpLines.numbered_bare, Lent.Endings.{on, printed}}
 use Rattle.dw_show.proofs.expression.run_expr.Goals as goal
-
-pub unreachable-requires : goal.unreachable-requires
-unreachable-requires g c =
-    let found = c.in_ok-list.ensures.found in
-    let block = same_target _ c.args.target _ c.args.block.now found.0 (is_block c.args.profile c.args.target _ c.args.block.now found.1) in
-    not_memory c.encode.result c.in-Err-BranchTooFar.field-0 c.in-Err-BranchTooFar.field-0-0 c.in-Err-BranchTooFar.is c.in-Err-BranchTooFar.field-0-is (c.encode.ensures.only c.args.block.now block)
 
 pub returns : goal.returns
 returns g c =

@@ -1,5 +1,6 @@
-use Rattle.dw_show.proofs.Words.{◌∙◌, ◌≤◌, ◌<◌, ◌^◌, ℕ, List, length, subst, sym, AllByRecursion, Rules, Fde, members_exist, Adds, fde_text, member_text, row_text, lines}
-use Rattle.dw_show.proofs.{Members.{IsLow, as_many, changes_low, come_all, end_low, fde_is, no_member}, Lent.Endings.on, TextLines.lines_more}
+use Rattle.std.proofs.lemmas.List.{take_all}
+use Rattle.dw_show.proofs.Words.{◌≡◌, ◌∙◌, ◌≤◌, ◌<◌, ◌^◌, ℕ, List, length, take, arith, subst, sym, err_from_is_err_and, AllByRecursion, Rules, Fde, members_exist, Adds, fde_text, member_text, row_text, lines}
+use Rattle.dw_show.proofs.{Members.{IsLow, as_many, changes_low, come_all, end_low, fde_is, no_member}, Lent.Endings.{on, printed}, TextLines.lines_more}
 use Rattle.dw_show.proofs.rows.put_fdes.Goals as goal
 
 pub put_fde-requires : goal.put_fde-requires
@@ -48,3 +49,15 @@ loop-place-preserved g c =
           let all = on g.W.Write.contents _ _ _ _ _ (c.loop-place.invariant.1 ms are) (on g.W.Write.contents _ _ _ _ _ p1 p2) in
           subst (λ (x : List ℕ). Adds g.W.Write.contents c.args.out.now new x) (sym (lines_more member_text ms k no_member lt)) all,
     )
+
+pub returns-in_err-put_changes : goal.returns-in_err-put_changes
+returns-in_err-put_changes g c =
+    let p = err_from_is_err_and c.from_residual.result c.from_residual.ensures.1 in
+    λ ms are. rw (p.1, p.2) (rw c.requires.works c.in_err-put_changes.ensures.told)
+
+pub returns : goal.returns
+returns g c = λ ms are.
+    let many = as_many c.args.table.now.target c.args.table.now.bytes ms c.fde_count-place-end.result are c.fde_count-place-end.ensures in
+    let all : take c.loop-place.place ms ≡ ms = take_all c.loop-place.place ms (omega (arith, many, c.loop-place-test.false)) in
+    let put = rw all at (c.loop-place.invariant.1 ms are) in
+    printed g.W.Write.contents c.args.out.now c.loop-place.out _ (lines member_text ms) c.finish.result c.requires.works put c.finish.ensures.ends

@@ -1,5 +1,5 @@
 use Rattle.dw_show.proofs.Words.{◌≡◌, ◌-◌, ◌^◌, List, map, min, take, total, AreMembers, Member, change_count}
-use Rattle.dw_show.proofs.section.count_all.Given as goal
+use Rattle.dw_show.proofs.section.tally.Given as goal
 
 abbrev pub invariant-loop-place : goal.invariant-loop-place
 invariant-loop-place l =

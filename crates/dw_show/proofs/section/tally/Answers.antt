@@ -1,6 +1,6 @@
 use Rattle.std.proofs.lemmas.List.{take_all}
 use Rattle.dw_show.proofs.{Words.{◌≡◌, ◌∙◌, ℕ, ◌+◌, ◌<◌, arith, map, length, subst, ap, get_or, take, total, members_exist, change_count}, Members.{as_many, changes_few, come_all, counted_more, no_member}, TextLines.total_more}
-use Rattle.dw_show.proofs.section.count_all.Goals as goal
+use Rattle.dw_show.proofs.section.tally.Goals as goal
 
 pub loop-place-preserved : goal.loop-place-preserved
 loop-place-preserved c =
