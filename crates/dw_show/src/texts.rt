@@ -104,6 +104,7 @@ fn put_bytes<W: Write>(listing: &mut Listing<W>, bytes: &[u8])
     put_hex(listing, bytes);
 }
 
+#[tactic(auto, using(crate::proofs::Lent::Endings::on))]
 fn put_operands<W: Write>(listing: &mut Listing<W>, op: &Op<'_>)
     ensures { Adds W.contents listing.old listing.new (operands_text op.now) }
 {
@@ -178,6 +179,7 @@ fn put_cfa<W: Write>(listing: &mut Listing<W>, rule: &CfaRule<'_>)
 }
 
 // The rule of a register. One that reads memory stands in brackets.
+#[tactic(auto, using(crate::proofs::Lent::Endings::on))]
 #[inline(always)]
 fn put_rule<W: Write>(listing: &mut Listing<W>, rule: &RegRule<'_>)
     requires made { listing.old.len + 64 ≤ ROOM }
