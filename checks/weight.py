@@ -17,25 +17,25 @@ import sys
 
 # Lines of sources, and of proofs.
 BUDGET = {
-    "dw_num": (969, 1167),
+    "dw_num": (969, 1164),
     "dw_index": (68, 147),
-    "dw_op": (1512, 3999),
-    "dw_eval": (1156, 1097),
-    "dw_row": (2347, 2076),
-    "dw_cfa": (2405, 3582),
-    "dw_section": (2224, 5328),
-    "dw_canon": (80, 3322),
+    "dw_op": (1512, 3986),
+    "dw_eval": (1153, 1096),
+    "dw_row": (2342, 2073),
+    "dw_cfa": (2396, 3573),
+    "dw_section": (2224, 5321),
+    "dw_canon": (80, 3315),
     "dw_normal": (1974, 2944),
-    "dw_dump": (611, 1348),
-    "dw_frame": (579, 900),
-    "dw_unwind": (195, 295),
+    "dw_dump": (611, 1346),
+    "dw_frame": (575, 807),
+    "dw_unwind": (193, 295),
     "dw_files": (340, 38),
     "dw_values": (83, 55),
-    "dw_words": (728, 1018),
-    "dw_show": (1403, 1434),
+    "dw_words": (728, 1011),
+    "dw_show": (1399, 1415),
     "dw_command": (288, 298),
     "dwframe": (165, 0),
-    "dw_library": (1600, 788),
+    "dw_library": (1600, 783),
 }
 # How many characters a line of sources may have.
 LONGEST = 160
