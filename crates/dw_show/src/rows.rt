@@ -5,8 +5,8 @@ ghost use Rattle.dw_row.specs.Rows.{Rules};
 ghost use Rattle.dw_section.specs.{Meaning.AreFdes, declared.lookup.Fde.{Fde as TheFde}};
 ghost use Rattle.dw_canon.specs.Members.{AreMembers, Member};
 ghost use Rattle.dw_dump.specs.Lines.{lines_of};
-ghost use Rattle.dw_show.specs.{Addresses.{RefusesLine, addresses_of, lines_in}, Answers.{AtEnds, ListsFdes, Prints, PrintsOf, Tells, TellsOf}, Inner.Lines.line_len};
-ghost use Rattle.dw_show.specs.{RowTexts.{At, at_text, member_text, row_text}, Texts.lines, Listing.{Adds, Breaks, TellsOfFile, output_of}};
+ghost use Rattle.dw_show.specs.{Addresses.{RefusesLine, addresses_of, lines_in}, Answers.{AtEnds, ListsFdes, Prints, PrintsOf, Tells, TellsOf}, Texts.lines};
+ghost use Rattle.dw_show.specs.{Inner.Lines.line_len, RowTexts.{At, at_text, member_text, row_text}, Listing.{Adds, Breaks, TellsOfFile, output_of}};
 
 use crate::failure::Failure;
 use crate::files::{load_file, load_text};
