@@ -146,7 +146,7 @@ pub(crate) fn block<'a>(cursor: &mut Cursor<'a>) -> Result<ExprRef<'a>, Refusal>
     let target = cursor.target();
     let len = cursor.uleb()?;
     let at = cursor.at();
-    let block = cursor.take(len as usize)?;
+    let block = cursor.take(len)?;
     accept_at(block, at, target)
 }
 

@@ -35,7 +35,7 @@ impl<W: Write> Write for Lent<'_, W> {
 
     fn write(&mut self, bytes: &[u8]) -> io::Result<usize> {
         // No run writes so much that the count passes 64 bits, which no clause knows.
-        let most = bytes.len().min((u64::MAX - self.given) as usize);
+        let most = (bytes.len() as u64).min(u64::MAX - self.given) as usize;
         let n = self.out.write(&bytes[..most])?;
         self.given += n as u64;
         Ok(n)

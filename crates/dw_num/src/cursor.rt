@@ -157,14 +157,14 @@ impl<'a> Cursor<'a> {
     /// The next `n` bytes. `Truncated` at the first of them where fewer are left.
     #[tactic(auto, unfolding(crate::specs::Front::take_at))]
     #[inline(always)]
-    pub fn take(&mut self, n: usize) -> Result<&'a [u8], Refusal>
+    pub fn take(&mut self, n: u64) -> Result<&'a [u8], Refusal>
         ensures found { IfOk result (λ s. (length s.now ≡ n) × Takes self.old s.now self.new) }
         ensures exact { Reads (λ s. s.now) result self.old (take_at n self.old) self.new }
     {
-        if self.bytes.len() < n {
+        if (self.bytes.len() as u64) < n {
             return Err(self.refuse(Code::Truncated));
         }
-        let (front, rest) = self.bytes.split_at(n);
+        let (front, rest) = self.bytes.split_at(n as usize);
         self.bytes = rest;
         Ok(front)
     }

@@ -168,7 +168,7 @@ fn read_high<'a>(cursor: &mut Cursor<'a>, code: u8, at: u64) -> Result<Step<'a>,
         0x9d => Op::BitPiece(cursor.uleb()?, cursor.uleb()?),
         0x9e => {
             let len = cursor.uleb()?;
-            Op::Implicit(cursor.take(len as usize)?)
+            Op::Implicit(cursor.take(len)?)
         }
         0x9f => Op::StackValue,
         _ => return refused(Code::UnknownOperation, at),

@@ -100,7 +100,7 @@ pub(crate) fn next_item<'a>(cursor: &mut Cursor<'a>) -> Result<Option<Placed<'a>
         return Ok(None);
     }
     let place = cursor.at();
-    let Ok(bytes) = cursor.take(unit.length as usize) else {
+    let Ok(bytes) = cursor.take(unit.length) else {
         return Err(refusal(Code::EntryPastEnd, at));
     };
     if bytes.len() < width_of(form) {
