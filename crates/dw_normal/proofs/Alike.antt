@@ -1,8 +1,9 @@
 -- Two tables whose normal forms are compared, entry by entry.
-use Rattle.dw_normal.proofs.Words.{◌≡◌, ℕ, ◌+◌, ◌<◌, ◌++◌, Bool, true, false, not, refl, Decides, IfOk, List, length, take, drop, get_or, Result, Ok, Err, sym, ap, ◌∙◌, fixed_bytes, length-fixed, Target, Rules, Member, contents, entry_bytes}
-use Rattle.dw_normal.proofs.{Words.{canon, initial_rows, cies_bytes, fdes_bytes, fde_with, Likens}, Entries.{canon_both, fdes_then}}
+use Rattle.dw_normal.proofs.Words.{◌≡◌, ◌⊎◌, ℕ, ◌+◌, ◌<◌, ◌++◌, Bool, true, false, not, inl, inr, refl, subst, arith, Decides, IfOk, IfErr, IsErrAnd, List, length, length-append, take, drop, get_or, Result, Ok, Err, sym, ap, ◌∙◌, fixed_bytes, length-fixed, Target, Rules, Member, contents, entry_bytes}
+use Rattle.dw_normal.proofs.{Words.{canon, initial_rows, cies_bytes, fdes_bytes, fde_with, unsized, AreMembers, Likens, Output, Section, Stop, Full, Place, Puts}, Entries.{canon_both, fdes_at, fdes_then}, Grouped.no_member, Joined.sized_long}
 use Rattle.std.proofs.{Math.Dec.eqb, lemmas.List.drop_at, lemmas.Bool.{eq-eqb, eqb-true}, lemmas.Slice.Eq.slice_eq-Decides}
 use Rattle.std.specs.Cmp.Lexicographic.{pointwise}
+use Rattle.dw_normal.specs.Inner.Writing.{FillsListed}
 use Rattle.dw_num.specs.declared.target.Form.TheVariants.{Dwarf32}
 use Rattle.dw_section.specs.Cut.{entry, item_bytes}
 
@@ -47,6 +48,45 @@ canon_like t u ms ns rows others is is' cies fdes =
 pub if_likens : {E : Type 0} (A B C : Type 0) (r : Result Bool E) → (B → C) → IfOk r (Likens A B) → IfOk r (Likens A C)
 if_likens A B C (Ok b) f h = (h.0, λ yes. f (h.1 yes))
 if_likens A B C (Err e) f h = tt
+
+-- ---- where there is no room
+
+-- an error that `?` hands on
+pub lacks_on : {A : Type 0} (r : Result A Stop) (e : Stop) (P : Type 0) → IsErrAnd r (λ (x : Stop). x ≡ e) → (e ≡ Full → P) → IfErr r (λ stop. stop ≡ Full → P)
+lacks_on (Ok x) e P is h = tt
+lacks_on (Err x) e P is h = λ full. h (sym is ∙ full)
+
+-- that there is no room has another reason too
+pub if_lacks : {A B C D : Type 0} {T : Type 0} (r : Result T Stop) → (A → C) → (B → D) → IfErr r (λ stop. stop ≡ Full → A ⊎ B) → IfErr r (λ stop. stop ≡ Full → C ⊎ D)
+if_lacks (Ok x) f g h = tt
+if_lacks (Err x) f g h = λ full. elim (h full) [ inl a ↦ inl (f a) | inr b ↦ inr (g b) ]
+
+-- for an FDE of a table, and so for all of them
+fde_lacks : (t : Target) (ms : List Member) (k : ℕ) (d : Member) (room : ℕ) → k < length ms → room < length (unsized t (fde_with t ms (get_or ms k d))) → room < length (fdes_bytes t ms ms)
+fde_lacks t ms k d room lt over =
+    let own = fde_with t ms (get_or ms k d) in
+    let behind = fdes_bytes t ms (drop (k + 1) ms) in
+    omega (arith, over, sized_long t.order (length (contents t own)) (contents t own), ap length (fdes_at t ms k d lt), length-append (fdes_bytes t ms (take k ms)) (entry_bytes t own ++ behind), length-append (entry_bytes t own) behind)
+
+pub fdes_over : (now table : Section) (k room : ℕ) (e : Stop) (old new : Output) → now ≡ table → old.room ≡ room → FillsListed now k (Err e) old new → e ≡ Full
+    → (ms : List Member) → AreMembers table.target table.bytes ms → k < length ms → room < length (fdes_bytes table.target ms ms)
+fdes_over now table k room e old new same left fills full ms are lt =
+    let here : FillsListed table k (Err Full) old new =
+    subst (λ (x : Stop). FillsListed table k (Err x) old new) full (subst (λ (s : Section). FillsListed s k (Err e) old new) same fills) in
+    fde_lacks table.target ms k no_member room lt (subst (λ (n : ℕ). n < length (unsized table.target (fde_with table.target ms (get_or ms k no_member)))) left (here ms are no_member))
+
+-- for the CIEs, or for the FDEs behind them, and so for the normal form
+module _ (t : Target) (ms : List Member) (rows : List (ℕ × Rules)) (is : rows ≡ initial_rows ms) where
+  whole_long : length (cies_bytes t rows) + length (fdes_bytes t ms ms) ≡ length (canon t ms)
+  whole_long = sym (length-append (cies_bytes t rows) (fdes_bytes t ms ms)) ∙ ap length (canon_both t ms rows is)
+
+  pub cies_lack : (counts : Bool) (e : Stop) (old new : Place) (room : ℕ) → old.room ≡ room → Puts counts (cies_bytes t rows) (Err e) old new → e ≡ Full → room < length (canon t ms)
+  cies_lack counts e old new room left puts full =
+      let over : old.room < length (cies_bytes t rows) = subst (λ (x : Stop). Puts counts (cies_bytes t rows) (Err x) old new) full puts in
+      omega (arith, over, left, whole_long)
+
+  pub fdes_lack : (all room : ℕ) → room + length (cies_bytes t rows) ≡ all → room < length (fdes_bytes t ms ms) → all < length (canon t ms)
+  fdes_lack all room left over = omega (arith, over, left, whole_long)
 
 -- ---- bytes that are compared
 

@@ -48,7 +48,7 @@ module _ (counts : Bool) (xs ys : List ℕ) (old mid new : Place) where
   -- what stops among bytes stops among more of them
   pub put_begins : (e : Stop) → Puts counts xs (Err e) old new → Puts counts (xs ++ ys) (Err e) old new
   put_begins Full h = omega (arith, h, length-append xs ys)
-  put_begins Failed h = (h.0, takes_more h.1)
+  put_begins Failed h = (h.0, h.1, takes_more h.2)
   put_begins Memory h = (h.0, takes_more h.1)
 
   module _ (before : Sends counts xs old mid) where
@@ -68,7 +68,7 @@ module _ (counts : Bool) (xs ys : List ℕ) (old mid new : Place) where
     pub puts_both : (r : Result Unit Stop) → Puts counts ys r mid new → Puts counts (xs ++ ys) r old new
     puts_both (Ok x) p = sends_both p
     puts_both (Err Full) p = omega (arith, before.1, p, length-append xs ys)
-    puts_both (Err Failed) p = (omega (arith, before.0, p.0), takes_behind p.1)
+    puts_both (Err Failed) p = (p.0, omega (arith, before.0, p.1), takes_behind p.2)
     puts_both (Err Memory) p = (p.0 ∙ before.0, takes_behind p.1)
 
 -- what stops a step stops the whole, where `?` hands it on

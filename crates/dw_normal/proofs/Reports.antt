@@ -1,7 +1,7 @@
 -- From what is known of a section's members to what the calls over normal forms answer.
-use Rattle.dw_normal.proofs.Words.{◌≡◌, ◌⊎◌, ℕ, ◌+◌, ◌-◌, ◌<◌, ◌≤◌, Bool, false, List, [], length, length-append, take, take-append_seam, Option, Some, Result, Ok, Err, refl, sym, ap, ◌∙◌, subst, inl, inr, arith, Decides, Appends, Keeps-refl, AreBytes, Target, Refuses, Accepted}
+use Rattle.dw_normal.proofs.Words.{◌≡◌, ◌⊎◌, ℕ, ◌+◌, ◌-◌, ◌<◌, ◌≤◌, Bool, true, false, true≢false, List, [], length, length-append, take, take-append_seam, Option, Some, Result, Ok, Err, refl, sym, ap, ◌∙◌, subst, inl, inr, arith, Decides, Appends, Keeps-refl, AreBytes, Target, Refuses, Accepted}
 use Rattle.dw_normal.proofs.Words.{CheckFault, canon, Member, AreMembers, members_exist, normal_form_is_one, same_exactly, IsTooLong, FitsCap, NormalFault, SameFault, WentOut, Writes, too_long, Puts, Sends, Takes, Place, Stop, Full, Failed, Memory, First, Second, IfOk}
-use Rattle.dw_normal.proofs.Words.{IfErr, Likens, Refusal, ReadError, IsShort, IsMeasured, LengthFault, blamed, unread, unwritten, SameError, WriteError, Section}
+use Rattle.dw_normal.proofs.Words.{IfErr, LacksRoom, Likens, Refusal, ReadError, IsShort, IsMeasured, LengthFault, blamed, unread, unwritten, SameError, WriteError, Section}
 use Rattle.dw_section.specs.Meanings.{SameMeaning}
 use Rattle.dw_section.proofs.Lent.CheckFirst.{fault_or_accepted}
 use Rattle.dw_canon.specs.{Laws.SameNormalForm, Normal.IsNormalForm}
@@ -20,6 +20,14 @@ is_too_long t s cap counts e old new b ok room full put =
     let found = members_exist t s b ok in
     let long : old.room < length (canon t found.0) = subst (λ (x : Stop). Puts counts (canon t found.0) (Err x) old new) full (put found.0 found.1) in
     (canon t found.0, is_normal t s found.0 b ok found.1, omega (arith, long, room))
+
+-- no sink fails where they are counted alone
+pub none_fails : (t : Target) (s : List ℕ) (counts : Bool) (e : Stop) (old new : Place) → AreBytes s → Accepted t s → counts ≡ true → e ≡ Failed
+    → ((ms : List Member) → AreMembers t s ms → Puts counts (canon t ms) (Err e) old new) → ⊥
+none_fails t s counts e old new b ok counted failed put =
+    let found = members_exist t s b ok in
+    let met : Puts counts (canon t found.0) (Err Failed) old new = subst (λ (x : Stop). Puts counts (canon t found.0) (Err x) old new) failed (put found.0 found.1) in
+    true≢false (sym counted ∙ met.0)
 
 -- there was room for them, and so many bytes were counted
 pub is_measured : (t : Target) (s : List ℕ) (cap old new : ℕ) → AreBytes s → Accepted t s → old ≡ cap → ((ms : List Member) → AreMembers t s ms → new + length (canon t ms) ≡ old) → IsMeasured t cap s (cap - new)
@@ -127,7 +135,7 @@ module _ {t : Target} {cap : ℕ} {s : List ℕ} {end : Result Unit Stop} {old n
       }
 
   pub some_written : {e : Stop} → end ≡ Err e → e ≡ Failed → Writes t cap s (Err (write_error.Write (cap - new.room))) old.failed new.failed old.told new.told
-  some_written is failed = let put : (old.failed < new.failed) × Takes false h.normal old new = so (is ∙ ap Err failed) in (put.0, went_out put.1)
+  some_written is failed = let put : (false ≡ false) × (old.failed < new.failed) × Takes false h.normal old new = so (is ∙ ap Err failed) in (put.1, went_out put.2)
 
   pub some_held : {e : Stop} → end ≡ Err e → e ≡ Memory → Writes t cap s (Err (write_error.Memory (cap - new.room))) old.failed new.failed old.told new.told
   some_held is out = let put : (new.failed ≡ old.failed) × Takes false h.normal old new = so (is ∙ ap Err out) in (put.0, inr (went_out put.1))
@@ -253,3 +261,15 @@ tables_decided law first second one two same e f h k is told =
   where
     here : (ms ns : List Member) → AreMembers first.target first.bytes ms → AreMembers first.target second.bytes ns → Likens (ms ≡ ns) (canon first.target ms ≡ canon first.target ns) is
     here = rw (e, f, sym same) at told
+
+-- there is room for what is written of two that are short
+pub both_fit : {A : Type 0} (first second one two : Section) (r : Result A Stop) (e : Stop) → one ≡ first → two ≡ second → IsShort first.target 2147483647 first.bytes → IsShort second.target 2147483647 second.bytes
+    → r ≡ Err e → e ≡ Full → LacksRoom one two (λ table ms. canon table.target ms) 2147483647 2147483647 r → ⊥
+both_fit {A} first second one two r e same same' h k is full lacks =
+    let w = whole_of first.target 2147483647 first.bytes h in
+    let v = whole_of second.target 2147483647 second.bytes k in
+    let here : LacksRoom {A = A} first second (λ table ms. canon table.target ms) 2147483647 2147483647 (Err e) = rw (same, same', is) at lacks in
+    elim (here w.members v.members w.are v.are full) [
+      | inl long ↦ omega (arith, long, w.within)
+      | inr long ↦ omega (arith, long, v.within)
+    ]

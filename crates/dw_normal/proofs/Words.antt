@@ -16,7 +16,7 @@ pub use Rattle.dw_normal.specs.declared.{output.Stop.TheVariants.{Failed, Full, 
 pub use Rattle.dw_normal.specs.Inner.{Answers.{IsMeasured, IsShort, LengthFault, blamed, unread, unwritten}, Apart.{NotesSame, StandsApart}, Begun.{IsBegun, IsReady, Walks}}
 pub use Rattle.dw_normal.specs.Inner.{ChangeWalk.{BehindFirst, IsShown, ShownBehind, Stand, later_bytes, row_or_blank, shown_row}, Groups.{HasJoined, begun_with, initial_rows, joined_by, row_of, with_member}}
 pub use Rattle.dw_normal.specs.Inner.{Known.{Agree, AgreesAt, AreLess, AreSame, HoldsAt, Notes, NotesAgree}, Lengths.{cie_with, cies_bytes, fdes_bytes}, Places.{RowsRise, cie_place, fde_with, place_in}}
-pub use Rattle.dw_normal.specs.Inner.{Puts.{Fills, Holds, Place, Puts, Sends, Takes, sink_at}, RegisterWalk.{from_on, rules_from}, Writing.{Likens, table_of, unsized}}
+pub use Rattle.dw_normal.specs.Inner.{Puts.{Fills, Holds, Place, Puts, Sends, Takes, sink_at}, RegisterWalk.{from_on, rules_from}, Writing.{LacksRoom, Likens, table_of, unsized}}
 pub use Rattle.dw_num.proofs.Lent.FixedLaws.{length-fixed}
 pub use Rattle.dw_num.specs.{Fixed.fixed_bytes, Input.AreBytes, Refusals.Refuses, Target.{address_limit, byte_count}, declared.error.ReadError.ReadError, declared.refusal.Refusal.Refusal, declared.target.Order.Order, declared.target.Size.Size}
 pub use Rattle.dw_num.specs.declared.target.Target.{Target}
@@ -25,7 +25,7 @@ pub use Rattle.dw_section.specs.{Accepted.{Accepted, CheckFault}, Changes.{Chang
 pub use Rattle.dw_section.specs.{Table.Section, declared.change.Behind.Behind, declared.lookup.Fde.Fde}
 pub use Rattle.std.proofs.Common.{BTreeMap, Bool, Decides, Equal, Err, Greater, IfErr, IfOk, IfSome, IsErrAnd, IsSome, IsTrue, Less, List, None, Ok, OnErr, OnOk, Option, Result, Some, [], ap, append-nil, append_assoc, arith, cond, drop}
 pub use Rattle.std.proofs.Common.{eq-eqb, false, flat_map, get_or, if◌then◌else◌, inl, inr, is_ok, is_some, le-ltb, length, length-append, length-drop, lt-ltb, map, nat_cmp, nat_eq, nat_lt, ne_eqb, not, refl, replicate, rules, subst, suc}
-pub use Rattle.std.proofs.{Common.{sym, take, take-add, take-append-drop, take_all, true, zero, ℕ, ◌↔◌, ◌%◌, ◌*◌, ◌++◌, ◌+◌, ◌-◌, ◌/◌, ◌<◌, ◌^◌, ◌||◌, ◌∙◌, ◌∷◌, ◌≡◌, ◌≤◌, ◌⊎◌}, KnownBytes.{Appends-kept, Appends-nil, Appends-trans, Keeps-refl}}
+pub use Rattle.std.proofs.{Common.{sym, take, take-add, take-append-drop, take_all, true, true≢false, zero, ℕ, ◌↔◌, ◌%◌, ◌*◌, ◌++◌, ◌+◌, ◌-◌, ◌/◌, ◌<◌, ◌^◌, ◌||◌, ◌∙◌, ◌∷◌, ◌≡◌, ◌≤◌, ◌⊎◌}, KnownBytes.{Appends-kept, Appends-nil, Appends-trans, Keeps-refl}}
 pub use Rattle.std.proofs.{Math.ListN.get_or-map, Math.Seq.{take-append-add, take-append_seam}, lemmas.Bool.{cases_Bool, cases_lt}}
 pub use Rattle.std.proofs.lemmas.List.{length-map, length-take-le, nil_from_length, take-append-le, take-replicate, take_more, take_more_same, take_rest}
 pub use Rattle.std.specs.{BTreeMap.{IsUnchanged, Updates, get, insert_entry, is_at}, Io.KnownBytes.Appends, List.AllByRecursion, Map.{keys_of, lookup, set_value}, declared.alloc.AllocError.AllocError}

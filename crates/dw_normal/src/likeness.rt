@@ -2,7 +2,7 @@
 
 ghost use Rattle.std.specs.Prelude.{◌≡◌};
 ghost use Rattle.dw_canon.specs.Inner.Canon.{canon};
-ghost use Rattle.dw_normal.specs.Inner.{Begun.Walks, Listed.{AreInitial, AreListed}, Puts.IsKept, Writing.{Compares, all_fdes, table_of}};
+ghost use Rattle.dw_normal.specs.Inner.{Begun.Walks, Listed.{AreInitial, AreListed}, Puts.IsKept, Writing.{Compares, LacksRoom, all_fdes, table_of}};
 
 use crate::begun::{Begun, room_for};
 use crate::entry::{fill_next, write_cies};
@@ -27,7 +27,8 @@ fn same_over<'r, 'a, 'q, 'b>(
     requires other_count { AreListed (table_of two.old) count }
     requires walks { Walks one.old × Walks two.old }
     requires kept { IsKept mine.old × IsKept other.old }
-    ensures { Compares (table_of one.old) (table_of two.old) all_fdes result }
+    ensures compares { Compares (table_of one.old) (table_of two.old) all_fdes result }
+    ensures full { LacksRoom (table_of one.old) (table_of two.old) all_fdes mine.old.room other.old.room result }
 {
     'fdes: for place in 0..count {
         fill_next(mine, one, FdeRef { place })?;
@@ -44,7 +45,9 @@ pub(crate) fn same_tables(alloc: Global, one: &Ready<'_>, two: &Ready<'_>) -> Re
     requires target { one.now.table.target ≡ two.now.table.target }
     requires rows { AreInitial one.now.table one.now.rows.entries }
     requires other_rows { AreInitial two.now.table two.now.rows.entries }
-    ensures { Compares one.now.table two.now.table (λ table ms. canon table.target ms) result }
+    ensures compares { Compares one.now.table two.now.table (λ table ms. canon table.target ms) result }
+    // There is room for two normal forms within the limit.
+    ensures full { LacksRoom one.now.table two.now.table (λ table ms. canon table.target ms) 2147483647 2147483647 result }
 {
     let count = one.table.fde_count();
     if two.table.fde_count() != count {

@@ -166,7 +166,8 @@ fn compared(alloc: Global, first: Table<'_>, second: Table<'_>) -> Result<bool, 
     drop(two);
     match same {
         Ok(same) => Ok(same),
-        Err(_) => Err(SameError::OutOfMemory),
+        Err(Stop::Full) => unreachable!(),
+        Err(Stop::Failed | Stop::Memory) => Err(SameError::OutOfMemory),
     }
 }
 

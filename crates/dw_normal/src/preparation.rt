@@ -27,7 +27,8 @@ fn measured_within(alloc: Global, ready: &Ready<'_>, cap: u64) -> Result<u64, Re
             code: Code::NormalTooLong,
             at: 0,
         })),
-        Err(_) => Err(ReadError::OutOfMemory),
+        Err(Stop::Failed) => unreachable!(),
+        Err(Stop::Memory) => Err(ReadError::OutOfMemory),
     }
 }
 

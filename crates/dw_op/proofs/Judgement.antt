@@ -1,5 +1,5 @@
 -- Judging a block, and what an accepted one stands for.
-use Rattle.std.specs.{Prelude.MatchOption, Result.result_unwrap_or}
+use Rattle.std.specs.Prelude.{MatchOption}
 use Rattle.dw_op.proofs.Words.{◌≡◌, ℕ, ◌<◌, Bool, true, false, false≢true, List, [], ◌∷◌, ◌++◌, length, Option, Some, None, Result, Ok, Err, refl, sym, ap, subst, ◌∙◌, Refusal, Target, Input, AreBytes, block_input}
 use Rattle.dw_op.proofs.Words.{done, Op, Profile, Frame, Location, Step, Plain, Measure, Operations, Walker, FrameBlock, Expression, bare, step_at, Walk, walk, end_of, sum_in, index_at, index_in, op_of, put_first, resolve, unless}
 use Rattle.dw_op.proofs.{Walkers.walked_block, Words.{decode_at, block_of, WalkSo, Walked, WalkedBad, Walks, Within, IsDecoded, IsAccepted, ok_ops, ops_of, left_of, StepsSo}, Decoded.{within_more, OpsSo, ops_more, ops_bad, ops_all}}
@@ -186,10 +186,9 @@ steps_after w v (Ok (Some op)) h s = left_more w v (bare op) h s
 steps_after w v (Err r) h s = left_bad w r h s
 
 -- what a list of operations has for that
-pub steps_answer : (w v : Walker) (r : Result (Option Op) Refusal) → StepsSo w → Walks w v r → MatchOption (result_unwrap_or r None) ((left_of w ≡ []) × (left_of v ≡ [])) (λ op. left_of w ≡ bare op ∷ left_of v)
-steps_answer w v (Ok None) h s = let none = left_end w s.0 in (none, ap left_of s.1 ∙ none)
-steps_answer w v (Ok (Some op)) h s = left_is w v (bare op) h s
-steps_answer w v (Err r) h s = left_bad w r h s
+pub steps_answer : (w v : Walker) (next : Option Op) → StepsSo w → Walks w v (Ok next) → MatchOption next ((left_of w ≡ []) × (left_of v ≡ [])) (λ op. left_of w ≡ bare op ∷ left_of v)
+steps_answer w v None h s = let none = left_end w s.0 in (none, ap left_of s.1 ∙ none)
+steps_answer w v (Some op) h s = left_is w v (bare op) h s
 
 -- a list that has the expression's block is its list
 pub list_is : (t : Target) (bytes : List ℕ) (e : Expression) → e.target ≡ t → FrameBlock t e.ops bytes → e ≡ record { target = t; ops = ops_of t bytes }

@@ -1,9 +1,9 @@
 -- Least spellings one after another, with where the branches go, and the least block of an accepted one.
 use Rattle.dw_op.proofs.Words.{◌≡◌, ℕ, suc, ◌+◌, ◌<◌, ◌^◌, List, [], ◌∷◌, ◌++◌, length, take, Option, Some, None, refl, sym, ap, subst, ◌∙◌, arith, take-length, Target, Input, AreBytes, Op, Location, Measure, LeastBytes, Walker, walk, Walk}
 use Rattle.dw_op.proofs.Words.{branch_target, start, bits_of, blank_parts, BranchFits, EachFits, least_len, least_bytes, least_block, LeastBlock, IsAppended, weight, sum_in, step_length, IsNear, bits_to, index_in, op_of, StepSpells}
-use Rattle.dw_op.proofs.Words.{resolve, end_of, block_input, block_of, WalkSo, Walked, IsAccepted, ops_of}
+use Rattle.dw_op.proofs.Words.{resolve, end_of, block_input, block_of, WalkSo, Walked, WalkedBad, IsAccepted, ops_of, Refusal}
 use Rattle.dw_op.proofs.Lent.{Blocks.{answered, same_ops, first_of_all}, EncodeLaws.{IsGoing, going_none, going_more, going_all, front_more}, LeastBlocks.{block_fits, least_block_exists}, LeastOne.{least_block_length, least_len_within}}
-use Rattle.dw_op.proofs.{Lent.ReadingLaws.step_found, Judgement.{accepted_block, accepted_all, accepted_read, check_shorter, same_input, left_first}, Splits.walk_end, Sums.{begins, Alike, alike, same_len, sums_are}, Walkers.walked_block}
+use Rattle.dw_op.proofs.{Lent.ReadingLaws.step_found, Judgement.{accepted_block, accepted_all, accepted_read, check_shorter, same_input, left_first}, Splits.walk_end, Sums.{begins, Alike, alike, never_bad, same_len, sums_are}, Walkers.walked_block}
 
 -- ---- the operations of an accepted block
 
@@ -146,6 +146,16 @@ put_end t bytes old w out h e =
     let find = index_in Location (block_input t bytes) in
     let none : answered [] ≡ answered h.rest = sym (ap (λ (y : Walk). resolve find y.items) (walk_end Location w.here (ap length e))) ∙ h.left in
     going_all t (ops_of t bytes) old h.number out (subst (λ (l : List Op). IsGoing t (ops_of t bytes) old h.number l out) (sym (same_ops [] h.rest none)) h.going)
+
+-- no branch of an accepted block leads nowhere
+pub put_bad : (t : Target) (bytes old : List ℕ) (w : Walker) (out : List ℕ) (r : Refusal) → IsAccepted t bytes → Putting t bytes old w out → WalkedBad w r → ⊥
+put_bad t bytes old w out r accepted h s =
+    let i = block_input t bytes in
+    let find = index_in Location i in
+    let first = first_of_all w.here.at (op_of find w.here.at s.step) (resolve find (walk Location s.behind).items) h.rest (left_first find w s.step s.behind h.rest h.so s.read h.left) in
+    let none : op_of (sum_in LeastBytes Location i) w.here.at s.step ≡ None =
+    subst (λ (j : Input). op_of (sum_in LeastBytes Location j) w.here.at s.step ≡ None) h.block (subst (λ (m : Measure). op_of (sum_in m Location (block_of w)) w.here.at s.step ≡ None) h.measure s.bad) in
+    never_bad (blank_parts t (ops_of t bytes)) find (sum_in LeastBytes Location i) w.here.at s.step first.op (accepted_sums t bytes accepted) first.first none
 
 -- what a walk needs that writes
 pub ruleset putting = (accepted_read, check_shorter, put_start, put_next)

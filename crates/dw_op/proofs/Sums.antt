@@ -34,6 +34,19 @@ alike t parts find sum at (Jump branch number) part op other h s e q =
     let goes = goes_to (at + 3) number in
     jump_alike t parts branch (find_at find goes) op other e (ap (λ (o : Option ℕ). branch_to branch o) (sym (find_begins parts find sum goes h)) ∙ q)
 
+jump_never : (parts : List (List ℕ)) (branch : Branch) (o : Option ℕ) (op : Op) → branch_to branch o ≡ Some op → branch_to branch (begins parts o) ≡ None → ⊥
+jump_never parts branch None op e q = cc
+jump_never parts Bra (Some i) op e q = cc
+jump_never parts Skip (Some i) op e q = cc
+
+-- an operation that is found by a number is found by a sum
+pub never_bad : (parts : List (List ℕ)) (find sum : ℕ → Option ℕ) (at : ℕ) (step : Step) (op : Op) → ((place : ℕ) → sum place ≡ begins parts (find place))
+    → op_of find at step ≡ Some op → op_of sum at step ≡ None → ⊥
+never_bad parts find sum at (Plain o) op h e q = cc
+never_bad parts find sum at (Jump branch number) op h e q =
+    let goes = goes_to (at + 3) number in
+    jump_never parts branch (find_at find goes) op e (ap (λ (o : Option ℕ). branch_to branch o) (sym (find_begins parts find sum goes h)) ∙ q)
+
 -- ---- sums
 
 jump_len : (t : Target) (branch : Branch) (o : Option ℕ) (op : Op) → branch_to branch o ≡ Some op → 3 ≡ length (least_bytes t 0 op)

@@ -12,7 +12,7 @@ use crate::list::OpList;
 use crate::op::Op;
 use crate::profile::Profile;
 use crate::walk::{Measure, Walker};
-use dw_num::{Refusal, Target, are_bytes};
+use dw_num::{ReadError, Refusal, Target, are_bytes};
 use std::alloc::{AllocError, Global};
 use std::hash::{Hash, Hasher};
 use std::marker::Model;
@@ -62,7 +62,10 @@ impl<'a> OpSteps<'a> {
     pub(crate) fn step(&mut self) -> Option<Op<'a>>
         ensures { MatchOption result ((self.old ≡ []) × (self.new ≡ [])) (λ op. self.old ≡ bare op ∷ self.new) }
     {
-        self.walker.next_op().unwrap_or(None)
+        let Ok(next) = self.walker.next_op() else {
+            unreachable!();
+        };
+        next
     }
 }
 
@@ -129,7 +132,11 @@ impl<'a> ExprRef<'a> {
     pub fn ops(&self, alloc: Global) -> Result<OpList<'a>, AllocError>
         ensures { IfOk result (λ list. list ≡ self.now) }
     {
-        decode(alloc, self.bytes, self.target, Profile::Frame).map_err(|_| AllocError)
+        match decode(alloc, self.bytes, self.target, Profile::Frame) {
+            Ok(list) => Ok(list),
+            Err(ReadError::OutOfMemory) => Err(AllocError),
+            Err(ReadError::Refused(_)) => unreachable!(),
+        }
     }
 
     /// Whether two expressions (2.5) have equal targets and equal lists of operations, which blocks of

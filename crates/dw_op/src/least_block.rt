@@ -167,6 +167,6 @@ pub(crate) fn put_block(bytes: &[u8], target: Target, out: &mut Vec<u8>) -> Resu
         };
         put_op(out, &op, near_bits(walker.count, &op), target)?;
     }
-    // A branch that leads nowhere, which no accepted block has.
-    Err(AllocError)
+    // No branch of an accepted block leads nowhere.
+    unreachable!()
 }

@@ -10,7 +10,7 @@ use crate::texts::{put_hex, put_op};
 use dw_eval::{Env, evaluate};
 use dw_files::Load;
 use dw_num::Target;
-use dw_op::{Op, OpList, Profile, decode, encode};
+use dw_op::{EncodeError, Op, OpList, Profile, decode, encode};
 use dw_unwind::Dump;
 use dw_words::Evaluation;
 use std::alloc::Global;
@@ -56,9 +56,11 @@ pub fn run_expr<'a, W: Write>(
     ensures { OverBlock (output_of W.contents out.old) (output_of W.contents out.new) target profile block.now result }
 {
     let list = decode(alloc, block, target, profile)?;
-    // What has a block has a least one.
-    let Ok(least) = encode(alloc, &list) else {
-        return Err(Failure::OutOfMemory);
+    let least = match encode(alloc, &list) {
+        Ok(least) => least,
+        Err(EncodeError::OutOfMemory) => return Err(Failure::OutOfMemory),
+        // What has a block has a least one.
+        Err(EncodeError::BranchTooFar { .. }) => unreachable!(),
     };
     put_lines(out, list.ops());
     put_least(out, &least);

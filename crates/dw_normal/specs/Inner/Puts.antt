@@ -49,11 +49,11 @@ pub record Takes (counts : Bool) (bytes : List ℕ) (old new : Place) : Type 0 w
   pub room : new.room + length front ≡ old.room
   pub took : counts ≡ false → Appends old.told new.told front
 
--- all of them were taken, or there was no room for all, or a beginning, up to where the sink failed or memory ran out
+-- all of them were taken, or there was no room for all, or a beginning, up to where the sink failed, which no count meets, or memory ran out
 abbrev pub Puts : Bool → List ℕ → Result Unit Stop → Place → Place → Type 0
 Puts counts bytes (Ok x) old new = Sends counts bytes old new
 Puts counts bytes (Err Full) old new = old.room < length bytes
-Puts counts bytes (Err Failed) old new = (old.failed < new.failed) × Takes counts bytes old new
+Puts counts bytes (Err Failed) old new = (counts ≡ false) × (old.failed < new.failed) × Takes counts bytes old new
 Puts counts bytes (Err Memory) old new = (new.failed ≡ old.failed) × Takes counts bytes old new
 
 -- into a sink, of which this is the count of failures and what it tells

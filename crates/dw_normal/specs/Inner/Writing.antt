@@ -1,9 +1,9 @@
 -- An FDE that is written.
-use Rattle.std.specs.Prelude.{◌≡◌, ◌++◌, ℕ, Bool, List, slice_index_or, IsTrue, IfOk, Result}
+use Rattle.std.specs.Prelude.{◌≡◌, ◌⊎◌, ◌++◌, ◌<◌, ℕ, Bool, List, length, slice_index_or, IsTrue, IfOk, IfErr, Result}
 use Rattle.dw_num.specs.{Fixed.fixed_bytes, declared.target.Target.Target}
 use Rattle.dw_section.specs.Table.{Section}
 use Rattle.dw_canon.specs.{Members.Member, Inner.Written.{Written, contents}}
-use Rattle.dw_normal.specs.declared.{begun.Begun.Begun, output.{Output.Output, Stop.Stop}}
+use Rattle.dw_normal.specs.declared.{begun.Begun.Begun, output.{Output.Output, Stop.Stop, Stop.TheVariants.Full}}
 use Rattle.dw_normal.specs.Inner.{Begun.IsBegun, Lengths.fdes_bytes, Listed.{OfBoth, OfMembers}, Places.{fde_at, fde_with}, Puts.Fills}
 
 -- the table whose FDE it is
@@ -33,3 +33,7 @@ Likens same alike b = (same → IsTrue b) × (IsTrue b → alike)
 -- of two tables: by some bytes of each
 abbrev pub Compares : {E : Type 0} → Section → Section → (Section → List Member → List ℕ) → Result Bool E → Type 0
 Compares one two bytes result = OfBoth one two (λ ms ns. IfOk result (Likens (ms ≡ ns) (bytes one ms ≡ bytes two ns)))
+
+-- where there is no room, those of one table have more than its room
+abbrev pub LacksRoom : {A : Type 0} → Section → Section → (Section → List Member → List ℕ) → ℕ → ℕ → Result A Stop → Type 0
+LacksRoom one two bytes room other result = OfBoth one two (λ ms ns. IfErr result (λ stop. stop ≡ Full → (room < length (bytes one ms)) ⊎ (other < length (bytes two ns))))

@@ -9,4 +9,5 @@ invariant-fdes l = record {
   walks : Walks l.one × Walks l.two;
   ready : (l.one.ready ≡ l.initial.one.ready) × (l.two.ready ≡ l.initial.two.ready);
   kept : IsKept l.mine × IsKept l.other;
+  rooms : (l.mine.room ≡ l.initial.mine.room) × (l.other.room ≡ l.initial.other.room);
 }

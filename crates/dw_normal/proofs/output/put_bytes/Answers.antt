@@ -1,10 +1,11 @@
-use Rattle.dw_normal.proofs.{Words.{Appends-kept, length, take, drop, sym, arith, length-drop, length-take-le, take-append-drop, take_rest}, Taken.{took_more}}
+use Rattle.dw_normal.proofs.{Words.{Appends-kept, length, take, drop, sym, arith, length-drop, length-take-le, take-append-drop, take_rest, refl}, Taken.{took_more}}
 use Rattle.dw_normal.proofs.output.put_bytes.Goals as goal
 
 pub returns-in_default : goal.returns-in_default
 returns-in_default g c =
     let inv = c.bytes.invariant in
     let bytes = c.args.bytes.now in (
+      refl,
       omega (arith, c.in_default.ensures.fault.0, inv.2),
       record {
         front = take c.bytes.done bytes;

@@ -1,6 +1,20 @@
-use Rattle.dw_op.specs.Least.{LeastBlock}
-use Rattle.dw_show.proofs.{Words.{◌++◌, ◌∙◌, ℕ, List, ap, inl, subst, sym, Adds, Target, least_text, numbered}, OpLines.numbered_bare, Lent.Endings.{on, printed}}
+use Rattle.dw_op.specs.{Block.Block, Faults.IsBlock, Least.LeastBlock, declared.op.Op.Op, declared.profile.Profile.{Profile, TheVariants.{Frame, Location}}}
+use Rattle.dw_op.specs.declared.least_block.EncodeError.TheVariants.{BranchTooFar, OutOfMemory}
+use Rattle.dw_show.proofs.{Words.{◌≡◌, ◌++◌, ◌∙◌, ℕ, List, ap, inl, subst, sym, Adds, Target, least_text, numbered}, OpLines.numbered_bare, Lent.Endings.{on, printed}}
 use Rattle.dw_show.proofs.expression.run_expr.Goals as goal
+
+block_so : (profile : Profile) (t : Target) (ops : List Op) (bytes : List ℕ) → IsBlock profile t ops bytes → Block t ops bytes
+block_so Frame t ops bytes h = h.0
+block_so Location t ops bytes h = h
+
+pub unreachable-requires : goal.unreachable-requires
+unreachable-requires g c =
+    let found = c.in_ok-list.ensures.found in
+    let list = c.in_ok-list.list in
+    let block = subst (λ (t : Target). Block t list.ops c.args.block.now) (sym found.0) (block_so c.args.profile c.args.target list.ops c.args.block.now found.1) in
+    let none = c.in-Err-BranchTooFar.ensures.only c.args.block.now block in
+    let far : BranchTooFar c.in-Err-BranchTooFar.field-0-0 ≡ OutOfMemory = sym c.in-Err-BranchTooFar.field-0-is ∙ none in
+    cc
 
 pub returns : goal.returns
 returns g c =
