@@ -47,10 +47,10 @@ pub(crate) struct Apart<'a> {
 }
 
 fn list_differences<'a>(
-    registers: &mut RegisterSet<'a>,
+    differences: Differences<'_, 'a>,
     shared: &Row<'a>,
     first: &Row<'a>,
-    differences: Differences<'_, 'a>,
+    registers: &mut RegisterSet<'a>,
 ) -> Result<(), AllocError>
     requires { Tells differences shared.now first.now }
     ensures { OnOk result (SameBeside registers.new shared.now first.now) }
@@ -105,9 +105,9 @@ impl<'a> Apart<'a> {
             Some(mut among) => {
                 among.add_all(&self.known.changed)?;
                 let differences = Differences::Among(&among);
-                list_differences(&mut self.registers, shared, first, differences)?;
+                list_differences(differences, shared, first, &mut self.registers)?;
             }
-            None => list_differences(&mut self.registers, shared, first, Differences::Rows)?,
+            None => list_differences(Differences::Rows, shared, first, &mut self.registers)?,
         }
         self.known.changed.add_all(&self.registers)?;
         self.known.note(cie_at, register);

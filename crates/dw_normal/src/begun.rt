@@ -15,7 +15,7 @@ use std::collections::BTreeMap;
 /// An FDE of a table, the initial row of its group and the place of its CIE, its changes behind its begin, whose row they lend, and the
 /// registers to which these two rows give different rules. One is lent to a walk over all FDEs, so that no row is moved.
 #[derive(Drop)]
-pub(crate) struct Begun<'r, 'a> {
+pub(crate) struct Begun<'a, 'r> {
     pub(crate) ready: &'r Ready<'a>,
     pub(crate) places: &'r BTreeMap<u16, u64>,
     pub(crate) fde: Fde,
@@ -61,7 +61,7 @@ pub(crate) fn room_for<'r, 'a>(
     alloc: Global,
     ready: &'r Ready<'a>,
     places: &'r BTreeMap<u16, u64>,
-) -> Begun<'r, 'a>
+) -> Begun<'a, 'r>
     requires place { IsListed ready.now.table 0 }
     requires rows { AreInitial ready.now.table ready.now.rows.entries }
     requires places { ArePlaces ready.now.table.target ready.now.rows.entries places.now.entries }
@@ -84,7 +84,7 @@ pub(crate) fn room_for<'r, 'a>(
 }
 
 #[inline(always)]
-pub(crate) fn begin_fde<'r, 'a>(begun: &mut Begun<'r, 'a>, fde: FdeRef) -> Result<(), AllocError>
+pub(crate) fn begin_fde<'r, 'a>(begun: &mut Begun<'a, 'r>, fde: FdeRef) -> Result<(), AllocError>
     requires place { IsListed begun.old.ready.now.table fde.place }
     requires walks { Walks begun.old }
     // It can be spelled.

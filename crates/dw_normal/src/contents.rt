@@ -21,18 +21,18 @@ use std::alloc::AllocError;
 const CHUNK: usize = 65_536;
 
 // Appends what leads from a row without rules to an initial one.
-fn push_initial<'a>(out: &mut Vec<u8>, initial: &Row<'a>, target: Target) -> Result<(), AllocError>
+fn push_initial<'a>(initial: &Row<'a>, out: &mut Vec<u8>, target: Target) -> Result<(), AllocError>
     requires { AllByRecursion (InstrFits target) (cie_instrs initial.now) }
     ensures { OnOk result (out.new.items ≡ out.old.items ++ program_bytes target (cie_instrs initial.now)) }
 {
     let blank = Row::blank(*out.allocator());
-    push_difference(out, &blank, &blank, initial, Differences::Rows, target)
+    push_difference(Differences::Rows, &blank, &blank, initial, out, target)
 }
 
 pub(crate) fn fill_cie<'a>(
+    initial: &Row<'a>,
     out: &mut Output,
     register: u16,
-    initial: &Row<'a>,
     target: Target,
 ) -> Result<(), Stop>
     requires room { out.old.room ≤ 2147483647 }
@@ -47,7 +47,7 @@ pub(crate) fn fill_cie<'a>(
     // Version 4, no augmentation, the factors 1 and -1.
     bytes.extend_from_slice(&[4, 0, target.size.byte_count(), 0, 1, 127])?;
     push_uleb(bytes, u64::from(register))?;
-    push_initial(bytes, initial, target)?;
+    push_initial(initial, bytes, target)?;
     out.gone = 0;
     out.push_nops(target.size)
 }
@@ -99,9 +99,9 @@ fn begin_fde_entry(
 
 // Appends the changes that are still to come behind an address, whose row is shown. Where they are counted alone, few of them are held.
 fn push_changes<'a>(
-    out: &mut Output,
     changes: &mut Changes<'a>,
     shared: &Row<'a>,
+    out: &mut Output,
     begin: u64,
     target: Target,
 ) -> Result<(), Stop>
@@ -114,9 +114,9 @@ fn push_changes<'a>(
     let most = if out.counts { CHUNK } else { usize::MAX };
     let mut at = begin;
     'changes: while let Some(next) = push_later(
-        &mut out.bytes,
         changes,
         shared,
+        &mut out.bytes,
         at,
         target,
         most,
@@ -128,8 +128,8 @@ fn push_changes<'a>(
 }
 
 pub(crate) fn fill_fde(
-    out: &mut Output,
     begun: &mut Begun<'_, '_>,
+    out: &mut Output,
     target: Target,
 ) -> Result<(), Stop>
     requires room { out.old.room ≤ 2147483647 }
@@ -147,8 +147,8 @@ pub(crate) fn fill_fde(
     let begin = u128::from(listed.begin);
     let range = (listed.end - begin) as u64;
     begin_fde_entry(&mut out.bytes, begun.cie_at, listed.begin, range, target)?;
-    push_first(&mut out.bytes, shared, &begun.changes, &begun.apart, target)?;
+    push_first(&begun.apart, shared, &begun.changes, &mut out.bytes, target)?;
     out.gone = 0;
-    push_changes(out, &mut begun.changes, shared, listed.begin, target)?;
+    push_changes(&mut begun.changes, shared, out, listed.begin, target)?;
     out.push_nops(target.size)
 }

@@ -16,10 +16,10 @@ use std::collections::BTreeMap;
 
 /// Puts the CIEs of a table, and keeps where each of them stands.
 pub(crate) fn write_cies<S: Sink>(
+    ready: &Ready<'_>,
     sink: &mut S,
     out: &mut Output,
     places: &mut BTreeMap<u16, u64>,
-    ready: &Ready<'_>,
 ) -> Result<(), Stop>
     requires failures { S.failures sink.old < 2 ^ 64 - 1 }
     requires room { out.old.room ≤ 2147483647 }
@@ -36,7 +36,7 @@ pub(crate) fn write_cies<S: Sink>(
         if places.insert(*register, room - out.room).is_err() {
             return Err(Stop::Memory);
         }
-        fill_cie(out, *register, initial, target)?;
+        fill_cie(initial, out, *register, target)?;
         put_entry(sink, out, target.order)?;
     }
     Ok(())
@@ -44,8 +44,8 @@ pub(crate) fn write_cies<S: Sink>(
 
 /// Makes the entry an FDE of the table.
 pub(crate) fn fill_next<'r, 'a>(
+    begun: &mut Begun<'a, 'r>,
     out: &mut Output,
-    begun: &mut Begun<'r, 'a>,
     fde: FdeRef,
 ) -> Result<(), Stop>
     requires room { out.old.room ≤ 2147483647 }
@@ -59,14 +59,14 @@ pub(crate) fn fill_next<'r, 'a>(
     let table = &begun.ready.table;
     table.accepted();
     begin_fde(begun, fde)?;
-    fill_fde(out, begun, table.target())
+    fill_fde(begun, out, table.target())
 }
 
 // Puts the FDEs of the table one after another.
 fn write_all<'r, 'a, S: Sink>(
+    begun: &mut Begun<'a, 'r>,
     sink: &mut S,
     out: &mut Output,
-    begun: &mut Begun<'r, 'a>,
     count: usize,
 ) -> Result<(), Stop>
     requires failures { S.failures sink.old < 2 ^ 64 - 1 }
@@ -78,17 +78,17 @@ fn write_all<'r, 'a, S: Sink>(
     begun.ready.table.accepted();
     let order = begun.ready.table.target().order;
     'fdes: for place in 0..count {
-        fill_next(out, begun, FdeRef { place })?;
+        fill_next(begun, out, FdeRef { place })?;
         put_entry(sink, out, order)?;
     }
     Ok(())
 }
 
 pub(crate) fn write_entries<'a, S: Sink>(
+    ready: &Ready<'a>,
     alloc: Global,
     sink: &mut S,
     out: &mut Output,
-    ready: &Ready<'a>,
 ) -> Result<(), Stop>
     requires failures { S.failures sink.old < 2 ^ 64 - 1 }
     requires room { out.old.room ≤ 2147483647 }
@@ -97,13 +97,13 @@ pub(crate) fn write_entries<'a, S: Sink>(
 {
     ready.table.accepted();
     let mut places = BTreeMap::new(alloc);
-    write_cies(sink, out, &mut places, ready)?;
+    write_cies(ready, sink, out, &mut places)?;
     let count = ready.table.fde_count();
     if count == 0 {
         return Ok(());
     }
     let mut begun = room_for(alloc, ready, &places);
-    let written = write_all(sink, out, &mut begun, count);
+    let written = write_all(&mut begun, sink, out, count);
     drop(begun);
     written
 }

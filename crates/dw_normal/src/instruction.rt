@@ -123,7 +123,7 @@ pub(crate) fn push_move(out: &mut Vec<u8>, from: u64, to: u64, target: Target) -
     push_far_move(out, from, to, target)
 }
 
-fn push_expression(out: &mut Vec<u8>, expression: &ExprRef<'_>, target: Target) -> Appended
+fn push_expression(expression: &ExprRef<'_>, out: &mut Vec<u8>, target: Target) -> Appended
     requires { HasBlock target expression.now }
     ensures { OnOk result (out.new.items ≡ out.old.items ++ expression_bytes target expression.now) }
 {
@@ -134,17 +134,17 @@ fn push_expression(out: &mut Vec<u8>, expression: &ExprRef<'_>, target: Target) 
 // Appends a code, a register and an expression.
 #[inline(always)]
 fn push_block(
+    block: &ExprRef<'_>,
     out: &mut Vec<u8>,
     code: u8,
     register: u16,
-    block: &ExprRef<'_>,
     target: Target,
 ) -> Appended
     requires { HasBlock target block.now }
     ensures { OnOk result (out.new.items ≡ out.old.items ++ code ∷ (shortest_uleb register ++ expression_bytes target block.now)) }
 {
     push_with(out, code, u64::from(register))?;
-    push_expression(out, block, target)
+    push_expression(block, out, target)
 }
 
 // Appends a code, a register and an unsigned number.
@@ -185,7 +185,7 @@ pub(crate) fn push_offset(out: &mut Vec<u8>, register: u16, offset: i64) -> Appe
 
 /// Appends what gives a register its rule of a row. Out of line: room for a rule is cleared at each register else.
 #[inline(never)]
-pub(crate) fn push_rule(out: &mut Vec<u8>, row: &Row<'_>, register: u16, target: Target) -> Appended
+pub(crate) fn push_rule(row: &Row<'_>, out: &mut Vec<u8>, register: u16, target: Target) -> Appended
     requires { RuleFits target (rule row.now register) }
     ensures { OnOk result (out.new.items ≡ out.old.items ++ rule_bytes target register (rule row.now register)) }
 {
@@ -197,8 +197,8 @@ pub(crate) fn push_rule(out: &mut Vec<u8>, row: &Row<'_>, register: u16, target:
         RegRule::ValOffset(offset) if *offset > 0 => push_signed(out, 0x15, register, -*offset),
         RegRule::ValOffset(offset) => push_both(out, 0x14, register, offset.unsigned_abs()),
         RegRule::Register(other) => push_both(out, 0x09, register, u64::from(*other)),
-        RegRule::Expression(block) => push_block(out, 0x10, register, block, target),
-        RegRule::ValExpression(block) => push_block(out, 0x16, register, block, target),
+        RegRule::Expression(block) => push_block(block, out, 0x10, register, target),
+        RegRule::ValExpression(block) => push_block(block, out, 0x16, register, target),
     }
 }
 
@@ -216,7 +216,7 @@ pub(crate) fn push_cfa_offset(out: &mut Vec<u8>, offset: i64, target: Target) ->
 }
 
 #[inline(always)]
-fn stays(old: &CfaRule<'_>, new: &CfaRule<'_>) -> bool
+fn stays<'a>(old: &CfaRule<'a>, new: &CfaRule<'a>) -> bool
     ensures { result ≡ same_cfa old.now new.now }
 {
     old.is_same(new)
@@ -225,10 +225,10 @@ fn stays(old: &CfaRule<'_>, new: &CfaRule<'_>) -> bool
 /// Appends what leads from one rule of the CFA to another.
 #[inline(never)]
 #[tactic(auto, unfolding(dw_canon::specs::Spelling::instr_bytes))]
-pub(crate) fn push_other_cfa(
+pub(crate) fn push_other_cfa<'a>(
+    old: &CfaRule<'a>,
+    new: &CfaRule<'a>,
     out: &mut Vec<u8>,
-    old: &CfaRule<'_>,
-    new: &CfaRule<'_>,
     target: Target,
 ) -> Appended
     requires { AllByRecursion (InstrFits target) (cfa_difference old.now new.now) }
@@ -241,7 +241,7 @@ pub(crate) fn push_other_cfa(
         CfaRule::Unset => Ok(()),
         CfaRule::Expression(expression) => {
             out.push(0x0f)?;
-            push_expression(out, expression, target)
+            push_expression(expression, out, target)
         }
         CfaRule::Register { register, offset } => match old {
             CfaRule::Register { register: r, .. } if *r == *register => {

@@ -16,8 +16,8 @@ use std::collections::BTreeMap;
 
 // Whether all FDEs of two tables that have as many are written alike. It ends at the first that differs.
 fn same_over<'r, 'a, 'q, 'b>(
-    one: &mut Begun<'r, 'a>,
-    two: &mut Begun<'q, 'b>,
+    one: &mut Begun<'a, 'r>,
+    two: &mut Begun<'b, 'q>,
     mine: &mut Output,
     other: &mut Output,
     count: usize,
@@ -31,8 +31,8 @@ fn same_over<'r, 'a, 'q, 'b>(
     ensures full { LacksRoom (table_of one.old) (table_of two.old) all_fdes mine.old.room other.old.room result }
 {
     'fdes: for place in 0..count {
-        fill_next(mine, one, FdeRef { place })?;
-        fill_next(other, two, FdeRef { place })?;
+        fill_next(one, mine, FdeRef { place })?;
+        fill_next(two, other, FdeRef { place })?;
         if mine.bytes != other.bytes {
             return Ok(false);
         }
@@ -59,8 +59,8 @@ pub(crate) fn same_tables(alloc: Global, one: &Ready<'_>, two: &Ready<'_>) -> Re
     let mut other = Output::new(alloc, LIMIT, false);
     let mut cies = Tape::new(alloc);
     let mut other_cies = Tape::new(alloc);
-    write_cies(&mut cies, &mut mine, &mut places, one)?;
-    write_cies(&mut other_cies, &mut other, &mut others, two)?;
+    write_cies(one, &mut cies, &mut mine, &mut places)?;
+    write_cies(two, &mut other_cies, &mut other, &mut others)?;
     if cies.into_bytes() != other_cies.into_bytes() {
         return Ok(false);
     }

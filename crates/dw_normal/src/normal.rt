@@ -124,7 +124,7 @@ pub fn normalise_to<S: Sink>(
         Err(error) => return Err(unwritten(error)),
     };
     let mut out = Output::new(alloc, cap, false);
-    let end = write_entries(alloc, sink, &mut out, &ready);
+    let end = write_entries(&ready, alloc, sink, &mut out);
     let written = cap.saturating_sub(out.room);
     drop(ready);
     let Err(stop) = end else {

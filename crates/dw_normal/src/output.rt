@@ -11,7 +11,7 @@ use dw_num::{Order, Size};
 use std::alloc::{AllocError, Global};
 
 /// Why bytes were not put to their end: there is no room for all, the sink failed, or memory ran out.
-#[derive(Clone, Copy, Debug, PartialEq, Eq)]
+#[derive(Clone, Copy)]
 pub(crate) enum Stop {
     Full,
     Failed,

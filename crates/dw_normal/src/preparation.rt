@@ -21,7 +21,7 @@ fn measured_within(alloc: Global, ready: &Ready<'_>, cap: u64) -> Result<u64, Re
 {
     ready.table.accepted();
     let mut out = Output::new(alloc, cap, true);
-    match write_entries(alloc, &mut Tape::new(alloc), &mut out, ready) {
+    match write_entries(ready, alloc, &mut Tape::new(alloc), &mut out) {
         Ok(()) => Ok(cap - out.room),
         Err(Stop::Full) => Err(ReadError::Refused(Refusal {
             code: Code::NormalTooLong,

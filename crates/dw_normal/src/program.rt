@@ -16,7 +16,7 @@ use std::alloc::AllocError;
 
 // Appends what leads from the CFA's rule of one row to that of another: mostly another offset from the same register.
 #[inline(always)]
-fn push_cfa(out: &mut Vec<u8>, before: &Row<'_>, after: &Row<'_>, target: Target) -> Appended
+fn push_cfa<'a>(before: &Row<'a>, after: &Row<'a>, out: &mut Vec<u8>, target: Target) -> Appended
     requires { AllByRecursion (InstrFits target) (cfa_difference before.now.cfa after.now.cfa) }
     ensures { OnOk result (out.new.items ≡ out.old.items ++ program_bytes target (cfa_difference before.now.cfa after.now.cfa)) }
 {
@@ -34,13 +34,13 @@ fn push_cfa(out: &mut Vec<u8>, before: &Row<'_>, after: &Row<'_>, target: Target
             }
             push_cfa_offset(out, *n, target)
         }
-        _ => push_other_cfa(out, old, new, target),
+        _ => push_other_cfa(old, new, out, target),
     }
 }
 
 // Whether the rule of a register of a row is the initial one, which `Restore` gives it.
 #[inline(always)]
-fn is_restored(row: &Row<'_>, initial: &Row<'_>, register: u16) -> bool
+fn is_restored<'a>(row: &Row<'a>, initial: &Row<'a>, register: u16) -> bool
     ensures { result ≡ same_rule (rule row.now register) (rule initial.now register) }
 {
     row.has_same_rule(initial, register)
@@ -61,9 +61,9 @@ fn is_saved_at(row: &Row<'_>, register: u16, offset: i64) -> bool
 #[inline(always)]
 #[tactic(auto, unfolding(dw_canon::specs::Spelling::instr_bytes))]
 fn push_register<'a>(
-    out: &mut Vec<u8>,
     shared: &Row<'a>,
     row: &Row<'a>,
+    out: &mut Vec<u8>,
     register: u16,
     target: Target,
 ) -> Appended
@@ -74,7 +74,7 @@ fn push_register<'a>(
         if is_restored(row, shared, register) {
             return push_packed(out, 0xc0, 0x06, register);
         }
-        return push_rule(out, row, register, target);
+        return push_rule(row, out, register, target);
     };
     if is_saved_at(shared, register, offset) {
         return push_packed(out, 0xc0, 0x06, register);
@@ -85,21 +85,21 @@ fn push_register<'a>(
 /// Appends what leads from one row to another, where a third has the initial rules. It may leave some of it where memory runs out.
 #[inline(always)]
 pub(crate) fn push_difference<'a>(
-    out: &mut Vec<u8>,
+    differences: Differences<'_, 'a>,
     shared: &Row<'a>,
     before: &Row<'a>,
     after: &Row<'a>,
-    differences: Differences<'_, 'a>,
+    out: &mut Vec<u8>,
     target: Target,
 ) -> Appended
     requires tells { Tells differences before.now after.now }
     requires fits { CanLead target shared.now before.now after.now }
     ensures { OnOk result (Leads target shared.now before.now after.now out.old.items out.new.items) }
 {
-    push_cfa(out, before, after, target)?;
+    push_cfa(before, after, out, target)?;
     let mut last = None;
     'registers: while let Some(register) = differences.next(before, after, last) {
-        push_register(out, shared, after, register, target)?;
+        push_register(shared, after, out, register, target)?;
         last = Some(register);
     }
     Ok(())
@@ -108,10 +108,10 @@ pub(crate) fn push_difference<'a>(
 /// Appends what leads from an initial row to the one that is shown. Out of line: the loop over an FDE's changes is slower beside it.
 #[inline(never)]
 pub(crate) fn push_first<'a>(
-    out: &mut Vec<u8>,
+    apart: &Apart<'a>,
     shared: &Row<'a>,
     changes: &Changes<'a>,
-    apart: &Apart<'a>,
+    out: &mut Vec<u8>,
     target: Target,
 ) -> Appended
     requires shown { IsShown changes.now }
@@ -122,15 +122,15 @@ pub(crate) fn push_first<'a>(
     let Some(first) = changes.row() else {
         unreachable!();
     };
-    push_difference(out, shared, shared, first, apart.differences(), target)
+    push_difference(apart.differences(), shared, shared, first, out, target)
 }
 
 // Goes on to the next change, appends what leads to it from the row that is shown at an address, and answers its address.
 #[inline(always)]
 fn push_next<'a>(
-    out: &mut Vec<u8>,
     changes: &mut Changes<'a>,
     shared: &Row<'a>,
+    out: &mut Vec<u8>,
     at: u64,
     target: Target,
 ) -> Result<Option<u64>, AllocError>
@@ -147,16 +147,16 @@ fn push_next<'a>(
         unreachable!();
     };
     let altered = Differences::Altered(changes);
-    push_difference(out, shared, before, row, altered, target)?;
+    push_difference(altered, shared, before, row, out, target)?;
     Ok(Some(address))
 }
 
 /// Appends the changes that are still to come behind an address, whose row is shown, up to one behind which there are so many bytes,
 /// and answers its address; or none where all were appended.
 pub(crate) fn push_later<'a>(
-    out: &mut Vec<u8>,
     changes: &mut Changes<'a>,
     shared: &Row<'a>,
+    out: &mut Vec<u8>,
     begin: u64,
     target: Target,
     most: usize,
@@ -166,7 +166,7 @@ pub(crate) fn push_later<'a>(
     ensures section { changes.new.section ≡ changes.old.section }
 {
     let mut at = begin;
-    'changes: while let Some(address) = push_next(out, changes, shared, at, target)? {
+    'changes: while let Some(address) = push_next(changes, shared, out, at, target)? {
         if out.len() >= most {
             return Ok(Some(address));
         }

@@ -49,7 +49,8 @@ pub record Takes (counts : Bool) (bytes : List ℕ) (old new : Place) : Type 0 w
   pub room : new.room + length front ≡ old.room
   pub took : counts ≡ false → Appends old.told new.told front
 
--- all of them were taken, or there was no room for all, or a beginning, up to where the sink failed, which no count meets, or memory ran out
+-- all of them were taken, or there was no room for all, or a beginning, up to where the sink failed or memory ran out; where they are
+-- counted alone no sink fails
 abbrev pub Puts : Bool → List ℕ → Result Unit Stop → Place → Place → Type 0
 Puts counts bytes (Ok x) old new = Sends counts bytes old new
 Puts counts bytes (Err Full) old new = old.room < length bytes

@@ -34,6 +34,6 @@ Likens same alike b = (same → IsTrue b) × (IsTrue b → alike)
 abbrev pub Compares : {E : Type 0} → Section → Section → (Section → List Member → List ℕ) → Result Bool E → Type 0
 Compares one two bytes result = OfBoth one two (λ ms ns. IfOk result (Likens (ms ≡ ns) (bytes one ms ≡ bytes two ns)))
 
--- where there is no room, those of one table have more than its room
+-- where the answer is that there is no room, the bytes of one of them are more than the room for them
 abbrev pub LacksRoom : {A : Type 0} → Section → Section → (Section → List Member → List ℕ) → ℕ → ℕ → Result A Stop → Type 0
 LacksRoom one two bytes room other result = OfBoth one two (λ ms ns. IfErr result (λ stop. stop ≡ Full → (room < length (bytes one ms)) ⊎ (other < length (bytes two ns))))
