@@ -6,5 +6,5 @@ pub mod Marked
 pub mod RegisterSets
 pub mod Copied
 pub mod StatesLaws
-pub mod UndoLaws
+pub mod ChangeLaws
 pub mod Lent

@@ -3,6 +3,7 @@
 
 mod among;
 mod behind;
+mod change_list;
 mod debug;
 mod entries;
 mod equality;
@@ -16,7 +17,6 @@ mod rule;
 mod slot;
 mod states;
 mod tree;
-mod undo;
 
 pub use entries::NEAR;
 pub use near_slots::is_in;

@@ -6,9 +6,10 @@ ghost use Rattle.dw_row.specs.Rows.{is_specified};
 use dw_op::ExprRef;
 
 /// How the canonical frame address is found (6.4.1, 6.4.2.2).
-#[derive(Clone, Debug, Drop, PartialEq, Eq)]
+#[derive(Clone, Debug, Default, Drop, PartialEq, Eq)]
 pub enum CfaRule<'a> {
     /// No instruction has set it.
+    #[default]
     Unset,
     /// A register plus an offset, which is a whole number of bytes: `DW_CFA_def_cfa` and those that change half of it. One that is
     /// read is from -(2^63-1) to 2^63-1.

@@ -1,101 +1,152 @@
 //! The current row and the remembered ones (6.4.2.4).
 
-ghost use Rattle.std.specs.Prelude.{◌≡◌, ◌<◌, ℕ, ℤ, [], length, reverse, None, OnOk, IfOk, OnErr, IsTrue, ◌↔◌, false, true};
+ghost use Rattle.std.specs.Prelude.{◌≡◌, ◌<◌, ◌≤◌, ◌↔◌, ℕ, ℤ, [], length, None, option_copied};
+ghost use Rattle.std.specs.Prelude.{IfOk, IsTrue, OnErr, OnOk, false};
 ghost use Rattle.dw_row.specs.{Difference.{FirstDifference, place_behind}, Rows.{AreSpecified, blank, rule_in, with_cfa, with_rule}};
-ghost use Rattle.dw_row.specs.{Inner.{Kept.KeptSo, States.{TakenBack, rows_before}}, States.{first_if, BeganWith, Restored, remembering, with_row}};
+ghost use Rattle.dw_row.specs.Inner.{Changes.registers_before, Kept.KeptSo};
+ghost use Rattle.dw_row.specs.Inner.States.{SavedAgain, TakenBack, from_of};
+ghost use Rattle.dw_row.specs.States.{first_if, BeganWith, Restored, remembering, with_row};
 
+use crate::change_list::{Change, ChangeList};
 use crate::entries::NEAR;
 use crate::kept_row::KeptRow;
 use crate::row::Row;
 use crate::rule::{CfaRule, RegRule};
-use crate::undo::{Undo, UndoList};
+use smallvec::SmallVec;
 use std::alloc::{AllocError, Global};
 use std::marker::Model;
 
-/// The current row and the remembered ones. Most programs remember one row at a time: that one is saved, and beneath all others.
-/// Of any other, and of the first row where that is tracked, what was changed since is listed, and taken back.
+/// A remembered row: the CFA's rule, and how many changes of registers were listed before it.
+#[derive(Default, Drop)]
+pub(crate) struct Remembered<'a> {
+    cfa: CfaRule<'a>,
+    from: usize,
+}
+
+// How many changes were listed before the row that was remembered last.
+fn from_of(last: Option<&Remembered<'_>>) -> usize
+    ensures { result ≡ from_of (option_copied last.entry) }
+{
+    match last {
+        Some(row) => row.from,
+        None => 0,
+    }
+}
+
+/// The current row and the remembered ones. Most programs remember one row at a time: that one is
+/// saved, and lies beneath all others. Behind any other, and behind the first row where that is
+/// tracked, changes are listed, and taken back.
 #[derive(Drop)]
 pub struct States<'a> {
     row: Row<'a>,
     kept: KeptRow<'a>,
-    undo: UndoList<'a>,
+    changes: ChangeList<'a>,
+    remembered: SmallVec<Remembered<'a>, 3>,
     saved: KeptRow<'a>,
-    depth: usize,
     tracked: bool,
     is_listed: bool,
 }
 
 impl<'a> Model for States<'a> {
-    ghost use Rattle.std.specs.Prelude.{reverse};
     ghost use Rattle.dw_row.specs.{Inner.{Kept.KeptSo, States.{StatesSo, held, rows_before}}, States.Held};
 
     ghost Value = { Held };
 
-    ghost view = { λ s. held s.tracked s.saved s.row s.kept.row s.undo.items };
+    ghost view = { λ s. held s.tracked s.saved s.row s.kept.row
+        s.changes.items s.remembered.items };
 
     ghost invariant = { λ s. KeptSo s.kept s.row.registers
-        × StatesSo s.tracked s.is_listed s.saved s.depth (rows_before s.row.registers (reverse s.undo.items)) s.undo.items };
+        × StatesSo s.tracked s.is_listed s.saved
+        (rows_before s.row.registers s.changes.items s.remembered.items).1
+        s.changes.items s.remembered.items };
 }
 
-// Takes changes back up to the row that was remembered last, and answers the rule that the CFA had there.
+// Remembers no row. Mostly there is none, and a call of `clear` would cost more.
+#[inline(always)]
+fn forget<'a>(remembered: &mut SmallVec<Remembered<'a>, 3>)
+    ensures { remembered.new.items ≡ [] }
+{
+    if !remembered.is_empty() {
+        remembered.clear();
+    }
+}
+
+// Whether changes are listed, or have to be.
+fn is_listing<'a>(
+    tracked: bool,
+    changes: &ChangeList<'a>,
+    remembered: &SmallVec<Remembered<'a>, 3>,
+) -> bool
+    ensures { result ≡ false → (tracked ≡ false)
+        × (changes.now.items ≡ []) × (remembered.now.items ≡ []) }
+{
+    tracked || !remembered.is_empty() || changes.len() > 0
+}
+
+// Takes changes back, up to the first `from`.
 #[inline(never)]
-#[tactic(auto, using(crate::proofs::StatesLaws::change_behind, crate::proofs::StatesLaws::last_first))]
+#[tactic(auto, using(crate::proofs::StatesLaws::taken_on, crate::proofs::StatesLaws::left_on))]
 fn take_back<'a>(
     row: &mut Row<'a>,
     kept: &mut KeptRow<'a>,
-    undo: &mut UndoList<'a>,
-) -> Result<Option<CfaRule<'a>>, AllocError>
-    requires { KeptSo kept.old row.old.registers }
-    ensures ok { IfOk result (λ found. TakenBack found row.old (reverse undo.old.items) row.new (reverse undo.new.items)) }
+    changes: &mut ChangeList<'a>,
+    from: usize,
+) -> Result<(), AllocError>
+    requires from { from ≤ length changes.old.items }
+    requires so { KeptSo kept.old row.old.registers }
+    ensures ok { OnOk result (TakenBack from
+        row.old.registers changes.old.items row.new.registers changes.new.items) }
     ensures kept { kept.new.row ≡ kept.old.row }
     ensures so { KeptSo kept.new row.new.registers }
 {
-    'changes: while let Some(change) = undo.pop() {
-        match change {
-            Undo::Remembered(cfa) => return Ok(Some(cfa)),
-            Undo::Register(register, rule) => kept.set(row, register, rule)?,
-        }
+    'changes: while let Some(Change { register, rule }) = changes.pop_behind(from) {
+        kept.set(row, register, rule)?;
     }
-    Ok(None)
+    Ok(())
 }
 
-// The same, where mostly nothing is listed.
+// Goes back to the row that is saved, and tells whether there is one.
 #[inline(always)]
-fn take_listed<'a>(
-    is_listed: bool,
+fn saved_again<'a>(
     row: &mut Row<'a>,
     kept: &mut KeptRow<'a>,
-    undo: &mut UndoList<'a>,
-) -> Result<Option<CfaRule<'a>>, AllocError>
-    requires listed { is_listed ≡ false → undo.old.items ≡ [] }
+    saved: &mut KeptRow<'a>,
+) -> Result<bool, AllocError>
+    requires saved { KeptSo saved.old row.old.registers }
     requires so { KeptSo kept.old row.old.registers }
-    ensures ok { IfOk result (λ found. TakenBack found row.old (reverse undo.old.items) row.new (reverse undo.new.items)) }
+    ensures again { IfOk result (SavedAgain saved.old row.new) }
+    ensures row { saved.new.row ≡ saved.old.row }
+    ensures watched { saved.new.watched ≡ false }
     ensures kept { kept.new.row ≡ kept.old.row }
     ensures so { KeptSo kept.new row.new.registers }
 {
-    if !is_listed {
-        return Ok(None);
+    if !saved.watched {
+        return Ok(false);
     }
-    take_back(row, kept, undo)
+    let back = kept.go_back(row, saved);
+    saved.watched = false;
+    back?;
+    Ok(true)
 }
 
 // Brings the initial row back.
-#[tactic(auto, using(crate::proofs::Marked::unwatched, crate::proofs::StatesLaws::taken_row, crate::proofs::StatesLaws::all_taken))]
+#[tactic(auto, using(crate::proofs::Marked::unwatched, crate::proofs::StatesLaws::all_taken))]
 fn first_again<'a>(
     tracked: bool,
     row: &mut Row<'a>,
     kept: &mut KeptRow<'a>,
-    undo: &mut UndoList<'a>,
+    changes: &mut ChangeList<'a>,
     initial: &Row<'a>,
 ) -> Result<(), AllocError>
-    requires began { BeganWith initial.now (first_if tracked (rows_before row.old.registers (reverse undo.old.items)).1) }
+    requires began { BeganWith initial.now
+        (first_if tracked (registers_before row.old.registers changes.old.items)) }
     requires so { KeptSo kept.old row.old.registers }
     ensures row { OnOk result (row.new ≡ initial.now) }
     ensures kept { kept.new.row ≡ kept.old.row }
     ensures so { KeptSo kept.new row.new.registers }
 {
     if tracked {
-        'rows: while let Some(_) = take_back(row, kept, undo)? {}
+        take_back(row, kept, changes, 0)?;
         row.set_cfa(initial.cfa());
         return Ok(());
     }
@@ -111,9 +162,9 @@ impl<'a> States<'a> {
         States {
             row,
             kept: KeptRow::none(alloc),
-            undo: UndoList::new(alloc),
+            changes: ChangeList::new(alloc),
+            remembered: SmallVec::new(alloc),
             saved: KeptRow::none(alloc),
-            depth: 0,
             tracked,
             is_listed: tracked,
         }
@@ -187,9 +238,9 @@ impl<'a> States<'a> {
     pub fn track(&mut self, tracked: bool)
         ensures { self.new ≡ record { row = self.old.row; stack = []; first = first_if tracked self.old.row.registers; kept = self.old.kept } }
     {
-        self.undo.clear();
+        self.changes.clear();
+        forget(&mut self.remembered);
         self.saved.watched = false;
-        self.depth = 0;
         self.tracked = tracked;
         self.is_listed = tracked;
     }
@@ -198,7 +249,12 @@ impl<'a> States<'a> {
     pub fn depth(&self) -> usize
         ensures { result ≡ length self.now.stack }
     {
-        self.depth
+        let listed = self.remembered.as_slice().len();
+        if self.saved.watched {
+            listed + 1
+        } else {
+            listed
+        }
     }
 
     pub fn set_cfa(&mut self, cfa: CfaRule<'a>)
@@ -218,7 +274,7 @@ impl<'a> States<'a> {
     }
 
     // Lists the rule that a register has, unless one is listed, and gives it another one.
-    #[tactic(auto, using(crate::proofs::StatesLaws::changed))]
+    #[tactic(auto, using(crate::proofs::StatesLaws::same_held, crate::proofs::StatesLaws::same_so, crate::proofs::StatesLaws::same_states))]
     #[inline(never)]
     fn change(&mut self, register: u16, rule: RegRule<'a>) -> Result<(), AllocError>
         ensures kept { self.new.kept ≡ self.old.kept }
@@ -227,10 +283,8 @@ impl<'a> States<'a> {
     {
         self.is_listed = true;
         self.row.ascends();
-        if !self.undo.has_listed(register) {
-            let older = self.row.rule(register);
-            self.undo.push(Undo::Register(register, older))?;
-        }
+        let from = from_of(self.remembered.last());
+        self.changes.list(from, register, &self.row)?;
         self.kept.set(&mut self.row, register, rule)
     }
 
@@ -263,7 +317,7 @@ impl<'a> States<'a> {
 
     /// Gives a register the rule that a row gives it, or answers want of memory, and is as before then. Out of line, as the loop
     /// that runs a program is large enough.
-    #[tactic(auto, using(crate::proofs::StatesLaws::ruled, crate::proofs::StatesLaws::set_held, crate::proofs::StatesLaws::same_states))]
+    #[tactic(auto, using(crate::proofs::StatesLaws::ruled_row, crate::proofs::StatesLaws::set_held, crate::proofs::StatesLaws::same_states))]
     #[inline(never)]
     pub fn set_as(&mut self, row: &Row<'a>, register: u16) -> Result<(), AllocError>
         ensures kept { self.new.kept ≡ self.old.kept }
@@ -284,7 +338,6 @@ impl<'a> States<'a> {
     }
 
     // Lists the current row as one that is remembered.
-    #[tactic(auto, using(crate::proofs::StatesLaws::listed_held, crate::proofs::StatesLaws::listed_so, crate::proofs::StatesLaws::mark_behind))]
     #[inline(never)]
     fn list_row(&mut self) -> Result<(), AllocError>
         requires { length self.old.stack < 64 }
@@ -292,11 +345,10 @@ impl<'a> States<'a> {
         ensures remembered { OnOk result (self.new ≡ remembering self.old) }
         ensures err { OnErr result (self.new ≡ self.old) }
     {
-        let cfa = self.row.cfa();
         self.is_listed = true;
-        self.undo.push(Undo::Remembered(cfa))?;
-        self.depth += 1;
-        Ok(())
+        let cfa = self.row.cfa();
+        let from = self.changes.len();
+        Ok(self.remembered.push(Remembered { cfa, from })?)
     }
 
     /// Remembers the current row, or answers want of memory, and is as before then.
@@ -308,53 +360,56 @@ impl<'a> States<'a> {
         ensures err { OnErr result (self.new ≡ self.old) }
     {
         // It is saved where nothing is there to go back to, and it is copied without memory.
-        if !self.tracked && self.depth == 0 && self.row.is_narrow() {
-            self.undo.clear();
+        if !self.tracked && self.depth() == 0 && self.row.is_narrow() {
+            self.changes.clear();
             self.is_listed = false;
             self.saved.keep(&self.row)?;
-            self.depth = 1;
             return Ok(());
         }
         self.list_row()
     }
 
-    /// Goes back to the row that was remembered last, and tells whether there was one. Behind want of memory none is remembered.
+    // Goes back to the row that was remembered last, where changes are listed.
+    #[inline(never)]
+    fn restore_listed(&mut self) -> Result<bool, AllocError>
+        ensures kept { self.new.kept ≡ self.old.kept }
+        ensures restored { IfOk result (λ found. Restored found self.old self.new) }
+        ensures none { OnErr result (self.new.stack ≡ []) }
+    {
+        let last = self.remembered.pop();
+        let from = from_of(last.as_ref());
+        match take_back(&mut self.row, &mut self.kept, &mut self.changes, from) {
+            Ok(()) => {}
+            Err(error) => {
+                self.changes.clear();
+                forget(&mut self.remembered);
+                self.saved.watched = false;
+                self.is_listed = self.tracked;
+                return Err(error);
+            }
+        }
+        match last {
+            Some(last) => {
+                self.row.set_cfa(last.cfa);
+                self.is_listed = is_listing(self.tracked, &self.changes, &self.remembered);
+                Ok(true)
+            }
+            None => saved_again(&mut self.row, &mut self.kept, &mut self.saved),
+        }
+    }
+
+    /// Goes back to the row that was remembered last, and tells whether there was one. Behind want
+    /// of memory none is remembered.
     #[inline(never)]
     pub fn restore(&mut self) -> Result<bool, AllocError>
         ensures kept { self.new.kept ≡ self.old.kept }
         ensures restored { IfOk result (λ found. Restored found self.old self.new) }
         ensures none { OnErr result (self.new.stack ≡ []) }
     {
-        match take_listed(
-            self.is_listed,
-            &mut self.row,
-            &mut self.kept,
-            &mut self.undo,
-        ) {
-            Ok(Some(cfa)) => {
-                self.row.set_cfa(cfa);
-                self.depth -= 1;
-                self.is_listed = self.tracked || !self.undo.is_empty();
-                Ok(true)
-            }
-            Ok(None) => {
-                if !self.saved.watched {
-                    return Ok(false);
-                }
-                let back = self.kept.go_back(&mut self.row, &self.saved);
-                self.saved.watched = false;
-                self.depth = 0;
-                back?;
-                Ok(true)
-            }
-            Err(error) => {
-                self.saved.watched = false;
-                self.is_listed = self.tracked;
-                self.undo.clear();
-                self.depth = 0;
-                Err(error)
-            }
+        if self.is_listed {
+            return self.restore_listed();
         }
+        saved_again(&mut self.row, &mut self.kept, &mut self.saved)
     }
 
     /// Goes back to the initial row, which was the first, and remembers none.
@@ -368,13 +423,13 @@ impl<'a> States<'a> {
             self.tracked,
             &mut self.row,
             &mut self.kept,
-            &mut self.undo,
+            &mut self.changes,
             initial,
         );
+        self.changes.clear();
+        forget(&mut self.remembered);
         self.saved.watched = false;
         self.is_listed = self.tracked;
-        self.undo.clear();
-        self.depth = 0;
         taken
     }
 }

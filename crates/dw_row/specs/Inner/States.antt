@@ -1,19 +1,24 @@
--- How the code keeps remembered rows: by what was changed since, the last first. Beneath all others there may be one that is saved.
-use Rattle.std.specs.Prelude.{◌≡◌, ℕ, List, [], ◌∷◌, ◌++◌, Bool, true, false, Option, Some, None, IsTrue, length, nat_eq, reverse, ◌||◌}
-use Rattle.dw_row.specs.{Rows.{Rules, put}, States.{Held, first_if}}
-use Rattle.dw_row.specs.declared.{kept_row.KeptRow.KeptRow, rule.{CfaRule.CfaRule, RegRule.RegRule}, undo.Undo.{Undo, TheVariants.{Remembered, Register}}}
-use Rattle.dw_row.specs.Inner.Kept.{KeptSo}
+-- How the code keeps remembered rows: by the CFA's rule, and by how many changes of registers had
+-- been listed. One row may be saved beneath all others.
+use Rattle.std.specs.Prelude.{◌≡◌, ◌≤◌, ℕ, List, [], ◌∷◌, ◌++◌, Bool, true, false, IsTrue}
+use Rattle.std.specs.Prelude.{Option, Some, None, drop, length, map, reverse}
+use Rattle.dw_row.specs.{Rows.Rules, States.{Held, first_if}}
+use Rattle.dw_row.specs.declared.{change_list.Change.Change, kept_row.KeptRow.KeptRow}
+use Rattle.dw_row.specs.declared.{rule.RegRule.RegRule, states.Remembered.Remembered}
+use Rattle.dw_row.specs.Inner.{Changes.registers_before, Kept.KeptSo}
 
--- the remembered rows and the registers before all changes: what was changed since is taken back from the current registers
-unfoldable pub rows_before : List (ℕ × RegRule) → List Undo → List Rules × List (ℕ × RegRule)
-rows_before registers [] = ([], registers)
-rows_before registers (Remembered cfa ∷ changes) = (record { cfa = cfa; registers = registers } ∷ (rows_before registers changes).0, (rows_before registers changes).1)
-rows_before registers (Register r rule ∷ changes) = rows_before (put r rule registers) changes
+-- a remembered row: what was changed since is taken back from the current registers
+abbrev pub row_at : List (ℕ × RegRule) → List Change → Remembered → Rules
+row_at registers changes r = record {
+  cfa = r.cfa;
+  registers = registers_before registers (drop r.from changes);
+}
 
--- whether a register was changed since a row was remembered last
-unfoldable pub has_register : ℕ → List Undo → Bool
-has_register r (Register q rule ∷ changes) = nat_eq q r || has_register r changes
-has_register r changes = false
+-- the remembered rows, the last first, and the registers before all changes
+unfoldable pub rows_before : List (ℕ × RegRule) → List Change → List Remembered
+    → List Rules × List (ℕ × RegRule)
+rows_before registers changes remembered =
+    (map (row_at registers changes) (reverse remembered), registers_before registers changes)
 
 -- the row that is saved, beneath all others
 abbrev pub saved_if : Bool → Rules → List Rules
@@ -26,18 +31,42 @@ stacked saved rows = rows ++ saved_if saved.watched saved.row
 abbrev pub shown : Bool → KeptRow → Rules → Rules → List Rules × List (ℕ × RegRule) → Held
 shown tracked saved row kept before = record { row = row; stack = stacked saved before.0; first = first_if tracked before.1; kept = kept }
 
-abbrev pub held : Bool → KeptRow → Rules → Rules → List Undo → Held
-held tracked saved row kept undo = shown tracked saved row kept (rows_before row.registers (reverse undo))
+abbrev pub held : Bool → KeptRow → Rules → Rules → List Change → List Remembered → Held
+held tracked saved row kept changes remembered =
+    shown tracked saved row kept (rows_before row.registers changes remembered)
 
--- so many rows are remembered; nothing was listed where no change is; no row is saved where changes are tracked; and before all
--- that is listed no register was set but the changed ones since a row was saved
-pub record StatesSo (tracked is_listed : Bool) (saved : KeptRow) (depth : ℕ) (before : List Rules × List (ℕ × RegRule)) (undo : List Undo) : Type 0 where
-  pub count : depth ≡ length (stacked saved before.0)
-  pub unlisted : is_listed ≡ false → (tracked ≡ false) × (undo ≡ [])
+-- how many changes had been listed when the last row was remembered
+abbrev pub from_of : Option Remembered → ℕ
+from_of (Some r) = r.from
+from_of None = 0
+
+-- of remembered rows, the last first, none has more changes before it than the row above it
+unfoldable pub Ascend : ℕ → List Remembered → Type 0
+Ascend count [] = Unit {0}
+Ascend count (r ∷ rows) = (r.from ≤ count) × Ascend r.from rows
+
+-- nothing is listed unless `is_listed` says so; no row is saved where changes are tracked; and
+-- before all that is listed, only marked registers were set since a row was saved
+pub record StatesSo (tracked is_listed : Bool) (saved : KeptRow) (registers : List (ℕ × RegRule))
+    (changes : List Change) (remembered : List Remembered) : Type 0 where
+  pub unlisted : is_listed ≡ false → (tracked ≡ false) × (changes ≡ []) × (remembered ≡ [])
   pub untracked : IsTrue saved.watched → tracked ≡ false
-  pub since : KeptSo saved before.1
+  pub since : KeptSo saved registers
+  pub ascend : Ascend (length changes) (reverse remembered)
 
--- changes were taken back up to a remembered row, or all: both leave the same rows behind
-abbrev pub TakenBack : Option CfaRule → Rules → List Undo → Rules → List Undo → Type 0
-TakenBack (Some cfa) row changes row' changes' = rows_before row.registers changes ≡ rows_before row'.registers (Remembered cfa ∷ changes')
-TakenBack None row changes row' changes' = (rows_before row.registers changes ≡ rows_before row'.registers []) × (changes' ≡ [])
+-- both have the same registers before each of the changes up to the first `from`
+abbrev pub SameBefore : ℕ → List (ℕ × RegRule) → List Change → List (ℕ × RegRule) → List Change
+    → Type 0
+SameBefore from registers changes registers' changes' = (n : ℕ) → n ≤ from
+    → registers_before registers (drop n changes) ≡ registers_before registers' (drop n changes')
+
+-- changes were taken back, up to the first `from`
+abbrev pub TakenBack : ℕ → List (ℕ × RegRule) → List Change → List (ℕ × RegRule) → List Change
+    → Type 0
+TakenBack from registers changes registers' changes' =
+    SameBefore from registers changes registers' changes' × (length changes' ≡ from)
+
+-- the row that was saved is the current one again, or none was saved
+abbrev pub SavedAgain : KeptRow → Rules → Bool → Type 0
+SavedAgain saved row true = IsTrue saved.watched × (row ≡ saved.row)
+SavedAgain saved row false = saved.watched ≡ false

@@ -1,4 +1,4 @@
-use Rattle.dw_row.proofs.{Words.{rule_in, with_rule}, StatesLaws.{marked_so, since_row}}
+use Rattle.dw_row.proofs.{Words.{rule_in, with_rule}, StatesLaws.{marked_so, ruled_row, set_held, since_row}}
 use Rattle.dw_row.proofs.states.States.set_as.Goals as goal
 
 pub invariant_of-self-in_err-mark-2 : goal.invariant_of-self-in_err-mark-2
@@ -16,3 +16,8 @@ invariant_of-self-2 c =
       c.in_ok-mark.ensures.marked old rule c.ascends.ensures c.self.invariant.0,
       marked_so c.self.view_is so c.mark-2.new.self (with_rule c.args.register rule s.row) c.mark.new.self.row free m.row m.watched (c.in_ok-mark-2.ensures.marked old rule c.ascends.ensures (since_row c.self.view_is so free)),
     )
+
+pub returns-clause-set : goal.returns-clause-set
+returns-clause-set c =
+    let is = c.self.view_is in let so = c.self.invariant.1 in let row' = c.copy_rule.new.self in let kept' = c.mark.new.self.row in
+    ruled_row is so _ row' kept' c.args.register _ c.in_ok-copy_rule.ensures.ok c.mark.ensures.row (set_held is so c.mark-2.new.self row' kept' c.if-self.false c.mark-2.ensures.row c.mark-2.ensures.watched)

@@ -1,5 +1,0 @@
-use Rattle.dw_row.proofs.{Words.refl, UndoLaws.none_listed}
-use Rattle.dw_row.proofs.undo.UndoList.new.Goals as goal
-
-pub returns : goal.returns
-returns c = none_listed _ _ _ 0 c.new.result.items refl c.new.ensures.items
