@@ -272,6 +272,7 @@ impl<'a> RowWalk<'a> {
     }
 
     /// The location (6.4.1) that the next row starts at, which is where the row that is lent ends. None behind the last row, and after an error.
+    #[inline(always)]
     pub fn next_start(&self) -> Option<u128>
         ensures next { (row : LocatedRow) (rows : List LocatedRow) → self.now.steps.outcome.rows ≡ row ∷ rows → result ≡ Some row.location }
         ensures last { self.now.steps.outcome ≡ finished → result ≡ None }

@@ -3,8 +3,10 @@ use Rattle.std.proofs.{Common.ap₂, lemmas.List.nil_from_length}
 use Rattle.dw_row.proofs.Words.{◌≡◌, ℕ, List, refl, sym, ap, ◌∙◌, arith, nat_tests, cases_lt, bit_at, Entries, EntriesSo, entries_of, rule_in, has}
 use Rattle.dw_row.proofs.Words.{CopiedUpTo, SameUnset, ◌<◌, inl, inr, false, is_specified, length, near_rule, subst, IsTrue, RegRule, ◌≤◌, ℤ, pos}
 use Rattle.dw_row.proofs.Words.{SameSlots, Slot, Slots, bit_at-lt, bit_and, bit_at_and, slot_rule, SameOutside, Unspecified, HasRoom, slot_at}
+use Rattle.dw_row.proofs.Words.{◌-◌, ◌^◌, None, Some, FirstBit, bit_at-zero, bit_at_above, cases_eq, if◌then◌else◌, nat_lt, set_at}
+use Rattle.std.proofs.lemmas.Nat.{and_le_r}
 use lib.ListN.{get_or-eq_default}
-use Rattle.dw_row.proofs.{Lent.RowLists.Entry, Slots.{behind_slots, cases_bit, not_set, set_rule, slot_rule_is, unset_rule}}
+use Rattle.dw_row.proofs.{Lent.RowLists.Entry, Slots.{at_set, at_set_other, behind_slots, cases_bit, not_set, rest_bit, set_rule, slot_rule_is, unset_rule}}
 use Rattle.dw_row.specs.declared.slot.Slot.TheVariants.{Undefined}
 
 no_rule : (x : RegRule) → is_specified x ≡ false → x ≡ Unspecified
@@ -20,9 +22,50 @@ beside_blank e so r none = elim (cases_lt r 128) [
 
 -- ---- slots alone
 
--- those of the registers below a place were copied
-abbrev pub SameBelow : ℕ → ℕ → Slots → Slots → Type 0
-SameBelow k mask others near = (q : ℕ) → q < k → bit_at mask q ≡ 1 → slot_at near q ≡ slot_at others q
+-- those of a mask were copied, but for the registers that are left
+pub record CopiedBut (left mask : ℕ) (others old near : Slots) : Type 0 where
+  pub within : (q : ℕ) → bit_at left q ≡ 1 → bit_at mask q ≡ 1
+  pub copied : (q : ℕ) → bit_at mask q ≡ 1 → bit_at left q ≡ 0 → slot_at near q ≡ slot_at others q
+  pub stays : SameOutside mask old near
+
+pub fewer_left : (n r : ℕ) → FirstBit (Some r) n 0 → bit_and n (n - 1) < n
+fewer_left n r first =
+    let some : 0 < n = elim (cases_eq n 0) [
+      | inl zero ↦ absurd (omega (arith, first.2, ap (λ (m : ℕ). bit_at m r) zero, bit_at-zero r))
+      | inr ne ↦ omega (arith, ne)
+    ] in
+    omega (arith, some, and_le_r n (n - 1))
+
+module _ (left rest mask r : ℕ) (others old near near' : Slots) (room : HasRoom near)
+    (before : CopiedBut left mask others old near) (first : FirstBit (Some r) left 0)
+    (is_rest : rest ≡ bit_and left (left - 1)) (set : near' ≡ set_at near r (slot_at others r)) where
+  rest_is : (q : ℕ) → bit_at rest q ≡ (if nat_lt r q then bit_at left q else 0)
+  rest_is q = ap (λ (n : ℕ). bit_at n q) is_rest ∙ rest_bit left r first q
+
+  other : (q : ℕ) → (q ≡ r → ⊥) → slot_at near' q ≡ slot_at near q
+  other q ne = ap (λ (l : Slots). slot_at l q) set ∙ at_set_other near r q (slot_at others r) ne
+
+  pub one_copied : CopiedBut rest mask others old near'
+  one_copied = record {
+    within = λ q one. before.within q (grind (arith, nat_tests, rest_is q, one));
+    copied = λ q one none. elim (cases_eq q r) [
+      | inl e ↦
+          ap (slot_at near') e ∙ ap (λ (l : Slots). slot_at l r) set
+          ∙ at_set near r (slot_at others r) room first.1 ∙ ap (slot_at others) (sym e)
+      | inr ne ↦ other q ne ∙ before.copied q one (grind (arith, nat_tests, rest_is q, none, first.3 q, ne))
+    ];
+    stays = λ q none.
+        let ne : q ≡ r → ⊥ =
+        λ e. absurd (omega (arith, none, ap (bit_at mask) e, before.within r first.2)) in
+        other q ne ∙ before.stays q none;
+  }
+
+pub all_copied : (left mask : ℕ) (others old near : Slots) → mask < 2 ^ 128
+    → CopiedBut left mask others old near → FirstBit None left 0 → SameSlots mask others near
+all_copied left mask others old near fits before none q one = elim (cases_lt q 128) [
+  | inl lt ↦ before.copied q one (none q (omega arith) lt)
+  | inr ge ↦ absurd (omega (arith, one, bit_at_above mask 128 q fits ge))
+]
 
 -- outside there are none
 same_above : (near others : Slots) (q : ℕ) → HasRoom near → HasRoom others → 128 ≤ q → slot_at near q ≡ slot_at others q

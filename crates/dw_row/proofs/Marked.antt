@@ -2,7 +2,10 @@
 use Rattle.dw_row.specs.declared.kept_row.KeptRow.{KeptRow}
 use Rattle.dw_row.proofs.Words.{◌≡◌, ◌↔◌, ◌||◌, ℕ, suc, ◌+◌, ◌<◌, ◌≤◌, Bool, List, [], ◌∷◌, refl, sym, ap, ◌∙◌, subst, arith, inl, inr, ◌*◌, ◌%◌, ◌^◌, bit_or, nat_eq, IsTrue, Result, OnOk, filter, nat_tests, cases_lt, false, on_ok_weaker}
 use Rattle.dw_row.proofs.{Words.{KeptSo, Registers, has, RegRule, Rules, SameValue, AreSpecified, rule_in, put, length, None, DiffersFirst, FirstDifference, SameBetween, CopiedUpTo, SameUnlisted}, Difference.FromOn}
-use Rattle.dw_row.proofs.{Lent.{Narrowed.{filter_keeps, filter_rule}, RowLists.{Entry, lower, put_rule, unlisted}, SameRows.one_row}, Slots.{bit_set_other, bit_set_same}}
+use Rattle.dw_row.proofs.{Lent.{Narrowed.{filter_keeps, filter_rule}, RowLists.{Entry, lower, put_rule, unlisted}, SameRows.one_row}, Slots.{bit_set_other, bit_set_same, cases_bit}}
+use Rattle.dw_row.proofs.Words.{Unspecified, bit_at, bit_at-lt, inl, inr, is_specified, rule}
+use Rattle.dw_row.specs.RegisterSets.{SpecifiesIn}
+use Rattle.std.proofs.lemmas.Nat.Bits.{same_from_bits_below}
 
 -- ---- a register that is put into a set
 
@@ -25,6 +28,38 @@ unwatched k current off on = absurd cc
 
 pub kept_exactly : (a b : Rules) (none : Bool) → a.cfa ≡ b.cfa → IsTrue none ↔ (a.registers ≡ b.registers) → IsTrue none ↔ (a ≡ b)
 kept_exactly a b none cfa both = ((λ t. one_row a b cfa (both.0 t)), (λ e. both.1 (ap (λ (r : Rules). r.registers) e)))
+
+-- a mask has exactly the registers below 128 that a row specifies
+abbrev IsMaskOf : Rules → ℕ → Type 0
+IsMaskOf row mask =
+    SpecifiesIn mask row
+    × ((r : ℕ) → r < 128 → bit_at mask r ≡ 1 → IsTrue (is_specified (rule row r)))
+
+unspecified_not : (rule : RegRule) → rule ≡ Unspecified → IsTrue (is_specified rule) → ⊥
+unspecified_not Unspecified is some = absurd cc
+unspecified_not rule is some = absurd cc
+
+has_too : (row : Rules) (m n r : ℕ) → IsMaskOf row m → IsMaskOf row n → r < 128 → bit_at m r ≡ 1 → bit_at n r ≡ 1
+has_too row m n r own other lt one = elim (cases_bit (bit_at n r) (bit_at-lt n r)) [
+  | inl none ↦ absurd (unspecified_not (rule row r) (other.0 r lt none) (own.1 r lt one))
+  | inr some ↦ some
+]
+
+-- equal rows have one mask
+one_mask : (row : Rules) (m n : ℕ) → IsMaskOf row m → IsMaskOf row n → m < 2 ^ 128 → n < 2 ^ 128 → m ≡ n
+one_mask row m n own other fits fits' = same_from_bits_below 128 m n fits fits' (λ r lt.
+    elim (cases_bit (bit_at m r) (bit_at-lt m r)) [
+      | inl none ↦ elim (cases_bit (bit_at n r) (bit_at-lt n r)) [
+        | inl none' ↦ none ∙ sym none'
+        | inr some ↦ absurd (omega (arith, none, has_too row n m r other own lt some))
+      ]
+      | inr some ↦ some ∙ sym (has_too row m n r own other lt some)
+    ])
+
+pub other_mask : (a b : Rules) (m n : ℕ) → IsMaskOf a m → IsMaskOf b n → m < 2 ^ 128 → n < 2 ^ 128
+    → (m ≡ n → ⊥) → a ≡ b → ⊥
+other_mask a b m n own other fits fits' ne same =
+    ne (one_mask b m n (subst (λ (row : Rules). IsMaskOf row m) same own) other fits fits')
 
 -- ---- copying marked registers
 

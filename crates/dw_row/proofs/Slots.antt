@@ -336,7 +336,7 @@ less_bits (suc t) n one none =
     let at = λ (q : ℕ). ap (λ (m : ℕ). bit_at m q) half in
     (bit_at-suc (n - 1) t ∙ at t ∙ rest.0, λ q lt. half_bit (n - 1) q (omega arith) ∙ at (q - 1) ∙ rest.1 (q - 1) (omega arith) ∙ sym (half_bit n q (omega arith)))
 
-rest_bit : (n r : ℕ) → FirstBit (Some r) n 0 → (q : ℕ) → bit_at (bit_and n (n - 1)) q ≡ (if nat_lt r q then bit_at n q else 0)
+pub rest_bit : (n r : ℕ) → FirstBit (Some r) n 0 → (q : ℕ) → bit_at (bit_and n (n - 1)) q ≡ (if nat_lt r q then bit_at n q else 0)
 rest_bit n r first q = let less = less_bits r n first.2 first.3 in grind (arith, nat_tests, bit_at_and n (n - 1) q, first.3 q, less.0, less.1 q)
 
 -- a bit that neither of two masks has

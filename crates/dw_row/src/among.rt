@@ -184,6 +184,7 @@ impl<'a> Row<'a> {
     }
 
     /// Makes it a copy of another row, in the room that is there, or answers want of memory. It is some row then.
+    #[inline(always)]
     #[tactic(auto, using(crate::proofs::Copied::beside_blank))]
     pub fn become_copy(&mut self, other: &Row<'a>) -> Result<(), AllocError>
         ensures { OnOk result (self.new ≡ other.now) }

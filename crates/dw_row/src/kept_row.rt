@@ -153,6 +153,9 @@ impl<'a> KeptRow<'a> {
         requires { KeptSo self.now current.now.registers }
         ensures { IsTrue result ↔ (self.now.row ≡ current.now) }
     {
+        if self.row.near_mask() != current.near_mask() {
+            return false;
+        }
         self.row.cfa_rule().is_same(current.cfa_rule()) && self.has_same_registers(current)
     }
 }

@@ -94,7 +94,9 @@ pub(crate) fn without_first(mask: u128) -> u128
     u128::from(high & high.wrapping_sub(1)) << 64
 }
 
+// Sets the slots of a mask to those of others.
 #[inline(always)]
+#[tactic(auto, using(crate::proofs::Copied::all_copied, crate::proofs::Copied::fewer_left))]
 pub(crate) fn copy_slots(slots: &mut Slots, others: &Slots, mask: u128)
     requires slots { HasRoom slots.old }
     requires others { HasRoom others.now }
@@ -102,10 +104,10 @@ pub(crate) fn copy_slots(slots: &mut Slots, others: &Slots, mask: u128)
     ensures copied { SameSlots mask others.now slots.new }
     ensures stays { SameOutside mask slots.old slots.new }
 {
-    let mut place = 0;
-    'slots: while let Some(register) = next_in(mask, place) {
+    let mut left = mask;
+    'slots: while let Some(register) = next_in(left, 0) {
         slots.set(register as u16, others.get(register as u16));
-        place = register + 1;
+        left = without_first(left);
     }
 }
 

@@ -315,10 +315,10 @@ impl<'a> States<'a> {
         self.set(register, row.rule(register))
     }
 
-    /// Gives a register the rule that a row gives it, or answers want of memory, and is as before then. Out of line, as the loop
-    /// that runs a program is large enough.
+    /// Gives a register the rule that a row gives it, or answers want of memory, and is as before
+    /// then.
     #[tactic(auto, using(crate::proofs::StatesLaws::ruled_row, crate::proofs::StatesLaws::set_held, crate::proofs::StatesLaws::same_states))]
-    #[inline(never)]
+    #[inline(always)]
     pub fn set_as(&mut self, row: &Row<'a>, register: u16) -> Result<(), AllocError>
         ensures kept { self.new.kept ≡ self.old.kept }
         ensures set { OnOk result (self.new ≡ with_row (with_rule register (rule_in row.now.registers register) self.old.row) self.old) }
