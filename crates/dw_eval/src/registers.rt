@@ -1,6 +1,6 @@
 //! Values of registers.
 
-ghost use Rattle.std.specs.Prelude.{◌≡◌, ℕ, ◌+◌, ◌<◌, ◌≤◌, ◌==◌, Some, None, [], length, max, OnOk, OnErr, if◌then◌else◌};
+ghost use Rattle.std.specs.Prelude.{◌≡◌, ℕ, ◌+◌, ◌<◌, ◌≤◌, ◌==◌, Some, None, [], length, max, IsOk, OnOk, OnErr, if◌then◌else◌};
 ghost use Rattle.dw_eval.specs.{Registers.held, Inner.Registers.{any_held, near_held, IsHeld}};
 
 use std::alloc::{AllocError, Global};
@@ -96,6 +96,7 @@ fn hold(
     ensures err { OnErr result ((known.new ≡ known.old) × (values.new ≡ values.old) × (far.new.items ≡ far.old.items)) }
     ensures known { length known.new ≡ 128 }
     ensures values { length values.new ≡ 128 }
+    ensures near { register < 128 → IsOk result }
 {
     let index = usize::from(register);
     if index < NEAR {
@@ -138,6 +139,7 @@ impl Registers {
         ensures set { OnOk result ((r : ℕ) → held self.new r ≡ (if r == register then Some value else held self.old r)) }
         ensures end { OnOk result (length self.new ≡ max (length self.old) (register + 1)) }
         ensures err { OnErr result (self.new ≡ self.old) }
+        ensures near { register < 128 → IsOk result }
     {
         hold(
             &mut self.known,

@@ -5,7 +5,9 @@ use Rattle.dw_row.proofs.Words.{bit_at-trailing_zeros, bit_at_set_same, bit_at_s
 use Rattle.dw_row.proofs.Words.{entries_of, kind_rule, set_at, slot_at, slot_rule, listed_from, listed_near, near_rule, rule_if, FirstBit, FirstIn, HasRoom, HasSlot, Holds, IsSlotOf, NoneHasSlot, Slots, ℤ, pos, pow-add, shr-shr, bit_at-lt}
 use Rattle.dw_row.proofs.{Words.{bit_at_and, bit_at_cat_low}, Lent.{RowLists.{Entry, lower, listed_is, listed_keeps, listed_rule, other_rule, put_keeps, put_rule, same_rule_set, unlisted}, SameRows.{first_rule, same_entries}}}
 use Rattle.std.proofs.{Common.ap₂, lemmas.{List.nil_from_length, Nat.{and_block, and_le_l, one_shl, or_shifted, Bits.{bit_at-suc, bit_at_lowest}}}}
+use Rattle.dw_row.specs.InPlace.{IsPlain}
 use Rattle.dw_row.specs.declared.slot.Slot.TheVariants as slots
+use Rattle.dw_row.specs.declared.rule.RegRule.TheVariants as rules
 use lib.Bits.{and_self}
 
 -- ---- registers from one on, and those behind them
@@ -111,6 +113,13 @@ not_in n q b is e = grind (arith, nat_tests, is, e, bit_at-lt n q)
 
 pub one_in : (n q : ℕ) (b : Bool) → b ≡ nat_eq (bit_at n q) 1 → b ≡ true → bit_at n q ≡ 1
 one_in n q b is e = grind (arith, nat_tests, is, e)
+
+-- a rule without an expression has a slot
+pub not_plain : (rule : RegRule) → (HasSlot rule → ⊥) → IsTrue (is_specified rule) → IsPlain rule → ⊥
+not_plain rules.Unspecified none some plain = absurd cc
+not_plain (rules.Expression e) none some plain = plain
+not_plain (rules.ValExpression e) none some plain = plain
+not_plain rule none some plain = none tt
 
 pub ruleset looked_up = (is_given, is_set, not_in, not_set, one_in)
 

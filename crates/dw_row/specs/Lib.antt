@@ -1,4 +1,5 @@
 pub mod Rows
+pub mod InPlace
 pub mod Difference
 pub mod Agreement
 pub mod RegisterSets

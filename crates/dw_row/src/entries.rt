@@ -1,6 +1,7 @@
 //! The registers of a row with their rules (6.4.1).
 
-ghost use Rattle.std.specs.Prelude.{◌≡◌, ◌<◌, [], IfSome, OnOk, OnErr, IsTrue, ◌↔◌};
+ghost use Rattle.std.specs.Prelude.{◌≡◌, ◌<◌, [], IfSome, IsOk, OnOk, OnErr, IsTrue, ◌↔◌};
+ghost use Rattle.dw_row.specs.InPlace.{IsPlain};
 ghost use Rattle.dw_row.specs.{Difference.{FirstDifference, place_behind}, Rows.{rule_in, is_specified, put}};
 ghost use Rattle.dw_row.specs.declared.{rule.{RegRule.{RegRule as TheRule, TheVariants.Unspecified}}, slot.Slot.TheVariants.Beside};
 ghost use Rattle.dw_row.specs.Inner.{Difference.{FirstBelow, SameUnset}, Entries.{entries_of, EntriesSo, FindsSlot, HasSlot, IsSlotOf}};
@@ -169,6 +170,7 @@ impl<'a> Entries<'a> {
     }
 
     // Gives a register that may have a slot a rule.
+    #[tactic(auto, using(crate::proofs::Slots::not_plain))]
     #[inline(always)]
     pub(crate) fn set_near(&mut self, register: u16, rule: RegRule<'a>) -> Result<(), AllocError>
         requires so { EntriesSo self.old }
@@ -176,6 +178,7 @@ impl<'a> Entries<'a> {
         ensures ok { OnOk result (entries_of self.new ≡ put register rule.entry (entries_of self.old)) }
         ensures so { EntriesSo self.new }
         ensures err { OnErr result (entries_of self.new ≡ entries_of self.old) }
+        ensures plain { IsPlain rule.entry → IsOk result }
     {
         if let Some(slot) = plain_slot(&rule) {
             self.put_plain(register, slot);

@@ -1,6 +1,6 @@
 //! Sets of registers (6.4.1).
 
-ghost use Rattle.std.specs.Prelude.{◌≡◌, ◌||◌, ◌≤◌, ℕ, false, true, nat_eq, OnOk, OnErr};
+ghost use Rattle.std.specs.Prelude.{◌≡◌, ◌||◌, ◌≤◌, ◌<◌, ℕ, false, true, nat_eq, IsOk, OnOk, OnErr};
 ghost use Rattle.dw_row.specs.{RegisterSets.has, Rows.AreSpecified, Inner.Among.in_tree};
 
 use crate::entries::NEAR;
@@ -63,12 +63,13 @@ impl<'a> RegisterSet<'a> {
         set_in_tree(&mut self.far, register, RegRule::SameValue)
     }
 
-    /// Puts a register in, or answers want of memory.
+    /// Puts a register in, or answers want of memory: one below 128 takes none.
     #[inline(always)]
     #[tactic(auto, using(crate::proofs::Marked::near_added))]
     pub fn add(&mut self, register: u16) -> Result<(), AllocError>
         ensures added { OnOk result ((r : ℕ) → has self.new r ≡ (nat_eq r register || has self.old r)) }
         ensures same { OnErr result (self.new ≡ self.old) }
+        ensures near { register < 128 → IsOk result }
     {
         if register >= NEAR {
             return self.add_far(register);

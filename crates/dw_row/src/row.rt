@@ -1,6 +1,8 @@
 //! Rows of rules (6.4.1).
 
-ghost use Rattle.std.specs.Prelude.{◌≡◌, ◌<◌, ◌≤◌, ℕ, ℤ, ◌∷◌, IfOk, OnOk, OnErr, MatchOption, IsTrue, ◌↔◌, false};
+ghost use Rattle.std.specs.Prelude.{◌≡◌, ◌<◌, ◌≤◌, ℕ, ℤ, ◌∷◌, IfOk, IsOk, OnOk, OnErr, MatchOption};
+ghost use Rattle.std.specs.Prelude.{IsTrue, ◌↔◌, false};
+ghost use Rattle.dw_row.specs.InPlace.{IsInPlace};
 ghost use Rattle.std.specs.{Int.bit_at, Iterator.{YieldsFirst, item_count}};
 ghost use Rattle.dw_row.specs.{Agreement.{kept, without}, Difference.{FirstDifference, place_behind}};
 ghost use Rattle.dw_row.specs.{RegisterSets.SpecifiesIn, Rows.{AreSpecified, BeginsWithOffset, is_specified, rule, rule_in, blank, with_cfa, with_rule}};
@@ -304,12 +306,14 @@ impl<'a> Row<'a> {
         self.cfa = other.cfa.copied();
     }
 
-    /// Gives a register a rule, or answers want of memory.
+    /// Gives a register a rule, or answers want of memory. Registers below 128 take none, but for
+    /// rules with an expression.
     #[inline(always)]
     #[tactic(auto, using(crate::proofs::Slots::far_set, crate::proofs::Slots::put_so, crate::proofs::Lent::RowLists::lower))]
     pub fn set(&mut self, register: u16, rule: RegRule<'a>) -> Result<(), AllocError>
         ensures ok { OnOk result (self.new ≡ with_rule register rule.entry self.old) }
         ensures err { OnErr result (self.new ≡ self.old) }
+        ensures in_place { IsInPlace register rule.entry → IsOk result }
     {
         if register < NEAR {
             return self.entries.set_near(register, rule);
