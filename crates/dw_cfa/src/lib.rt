@@ -21,6 +21,7 @@ mod rows;
 mod steps;
 mod turn;
 
+pub use dw_row::{CfaRule, RegRule, Row};
 pub use execution::LocatedRow;
 pub use instr::{Factors, Instr};
 pub use instructions::Instructions;
