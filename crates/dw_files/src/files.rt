@@ -1,6 +1,6 @@
 //! Where the bytes of a file come from.
 
-ghost use Rattle.std.specs.{Prelude.{◌≡◌, ◌≢◌, ⊤, ℕ, ◌≤◌, List, length, Result, Ok, Err, IfOk, MatchResult}, IoError.error_kind};
+ghost use Rattle.std.specs.{Prelude.{◌≡◌, ◌≢◌, ⊤, ℕ, ◌≤◌, List, length, take, Result, Ok, Err, IfOk, IfSome, MatchResult}, IoError.error_kind};
 ghost use Rattle.dw_files.specs.declared.files.LoadError.{LoadError as TheLoadError};
 
 use std::alloc::Global;
@@ -67,6 +67,8 @@ fn kind_of(error: io::Error) -> LoadError
 // The first bytes that a reader has left, read into so much room at first.
 fn bytes_of<R: Read + Drop>(alloc: Global, reader: R, room: usize) -> io::Result<Vec<u8>>
     ensures bound { IfOk result (λ bytes. length bytes.items ≤ 2_147_483_648) }
+    // Where it is known what the reader has left, it is known what is read.
+    ensures bytes { IfOk result (λ bytes. IfSome (R.remaining reader) (λ left. bytes.items ≡ take 2_147_483_648 left)) }
 {
     let mut bytes = Vec::with_capacity(alloc, room)?;
     let mut reader = reader.take(LIMIT + 1);

@@ -68,7 +68,6 @@ fn reason(kind: ErrorKind) -> &'static str {
         ErrorKind::IsADirectory => "it is a directory",
         ErrorKind::NotADirectory => "a part of its path is no directory",
         ErrorKind::InvalidFilename => "its name is too long",
-        ErrorKind::FilesystemLoop => "its links go in a circle",
         _ => "the system gives an error",
     }
 }
