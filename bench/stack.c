@@ -96,6 +96,14 @@ static void changes(void)
     status = dwframe_changes(&section, address, found, ROOM, rules, ROOM, &totals, &refusal);
 }
 
+static void changes_at(void)
+{
+    static dwframe_change found[ROOM];
+    dwframe_totals totals;
+    status = dwframe_changes_at(
+        &section, table, entries, address, found, ROOM, rules, ROOM, &totals, &refusal);
+}
+
 /* A machine whose registers are all in the middle of its memory. */
 static const dwframe_window window = {0x8000, 0, sizeof memory};
 static const dwframe_machine machine = {registers, GIVEN, &window, 1, memory, sizeof memory};
@@ -126,7 +134,8 @@ static struct {
     const char *name;
     void (*call)(void);
     size_t most;
-} by_index[] = {{"row_at", row_at, 0}, {"expressions_at", expressions_at, 0}, {"unwind_at", unwind_at, 0}},
+} by_index[] = {{"row_at", row_at, 0}, {"expressions_at", expressions_at, 0},
+      {"unwind_at", unwind_at, 0}, {"changes_at", changes_at, 0}},
   whole[] = {{"rows_at", rows_at, 0}, {"changes", changes, 0}, {"unwind", unwind, 0}, {"check", check, 0},
       {"index_size", index_size, 0}, {"index", make_index, 0}, {"normalise", normalise, 0}, {"same", same, 0},
       {"evaluate", evaluate, 0}, {"the names", name, 0}};

@@ -466,7 +466,28 @@ static void call_rows_at(const uint8_t *bytes, size_t len)
     give_back(before);
 }
 
-/* The rows of an FDE are those that a look-up has, by the index of the same bytes, and differ from what is one address before. */
+static int is_told(dwframe_status status)
+{
+    return status == DWFRAME_OK || status == DWFRAME_TOO_SHORT;
+}
+
+/* How many rows and rules there are, and that no other place of either room was written to. */
+static void judge_totals(dwframe_status status, const dwframe_totals *needed,
+    const dwframe_change *changes, size_t changes_room, const dwframe_rule *rules, size_t room)
+{
+    size_t count = needed->changes < changes_room ? needed->changes : changes_room;
+    int fits = needed->changes <= changes_room && needed->rules <= room;
+    int is_right = is_told(status) ? needed->changes && fits == (status == DWFRAME_OK)
+                                   : !needed->changes && !needed->rules;
+    if (!is_right)
+        stop_at("totals that are not so");
+    has_stayed(changes + count, (changes_room - count) * sizeof *changes);
+    if (needed->rules < room)
+        has_stayed(rules + needed->rules, (room - needed->rules) * sizeof *rules);
+}
+
+/* The rows of an FDE are those that a look-up has, by the index of the same bytes, and by that index
+ * the same rows are told. */
 static void call_changes(const uint8_t *bytes, size_t len)
 {
     size_t before = lents, changes_room = below(8), room = below(40), indexed = 0;
@@ -483,9 +504,7 @@ static void call_changes(const uint8_t *bytes, size_t len)
         stop_at("no index");
     dwframe_status status =
         judge(dwframe_changes(copy, address, changes, changes_room, rules, room, needed, refusal));
-    int fits = needed->changes <= changes_room && needed->rules <= room;
-    if (status == DWFRAME_OK ? !needed->changes || !fits : status == DWFRAME_TOO_SHORT ? fits : needed->changes || needed->rules)
-        stop_at("totals that are not so");
+    judge_totals(status, needed, changes, changes_room, rules, room);
     size_t count = needed->changes < changes_room ? needed->changes : changes_room;
     for (size_t i = 0; i < count; i++) {
         size_t at = told < room ? told : room;
@@ -493,11 +512,41 @@ static void call_changes(const uint8_t *bytes, size_t len)
         if (i ? changes[i].address <= changes[i - 1].address : changes[i].address != changes[i].row.begin)
             stop_at("rows that do not ascend from their begin");
     }
-    if (fits && told != needed->rules)
+    if (count == needed->changes && told != needed->rules)
         stop_at("another number of rules");
-    has_stayed(changes + count, (changes_room - count) * sizeof *changes);
-    if (needed->rules < room)
-        has_stayed(rules + needed->rules, (room - needed->rules) * sizeof *rules);
+    dwframe_change *again = block(changes_room * sizeof *again);
+    dwframe_rule *rules_again = block(room * sizeof *rules_again);
+    dwframe_totals *totals = block(sizeof *totals);
+    if ((is_told(status) || status == DWFRAME_NO_FDE) &&
+        (dwframe_changes_at(copy, index, indexed, address, again, changes_room, rules_again, room,
+             totals, refusal) != status ||
+            memcmp(again, changes, changes_room * sizeof *again) ||
+            memcmp(rules_again, rules, room * sizeof *rules) ||
+            memcmp(totals, needed, sizeof *totals)))
+        stop_at("other rows by the index than by the section");
+    give_back(before);
+}
+
+/* Where a damaged index leads, some rows are told or none. */
+static void call_changes_at(const uint8_t *bytes, size_t len)
+{
+    size_t before = lents, changes_room = below(8), room = below(40);
+    const dwframe_section *copy = given(bytes, len);
+    dwframe_entry *index = block(entries * sizeof *index);
+    size_t left = damage_index(index);
+    dwframe_totals *needed = block(sizeof *needed);
+    for (int times = 0; times < 4; times++) {
+        size_t kept = lents;
+        dwframe_change *changes = block(changes_room * sizeof *changes);
+        dwframe_rule *rules = block(room * sizeof *rules);
+        const dwframe_entry *entry = left ? &index[below(left)] : table;
+        uint64_t address = below(8) ? entry->begin + below(entry->range) : number();
+        dwframe_status status = judge(dwframe_changes_at(copy, index, left, address, changes,
+            changes_room, rules, room, needed, refusal));
+        int stays = status != DWFRAME_REFUSED && status != DWFRAME_OUT_OF_MEMORY;
+        judge_totals(status, needed, changes, stays ? changes_room : 0, rules, stays ? room : 0);
+        give_back(kept);
+    }
     give_back(before);
 }
 
@@ -541,6 +590,8 @@ static void call_all(void)
     call_row_at(section, section_len);
     call_changes(copy, len);
     call_changes(section, section_len);
+    call_changes_at(copy, len);
+    call_changes_at(section, section_len);
     call_evaluate();
     give_back(before);
 }

@@ -42,7 +42,7 @@ LINES = {
     "docs/LIBRARY.md": 140,
     "docs/REFUSALS.md": 160,
     "docs/dwframe.1": 420,
-    "docs/dwframe.3": 220,
+    "docs/dwframe.3": 225,
 }
 WIDTH = 120
 # What stands in the folder of a session.

@@ -3,8 +3,9 @@
  *     refused SIZE ORDER FILE
  *
  * FILE is a well formed section. It is linked with --wrap=malloc, --wrap=realloc and --wrap=free. A call whose request is refused
- * answers that it is out of memory, tells nothing and leaves each room as it was (but for dwframe_changes, whose rooms may hold
- * anything then), or answers as it does with ample memory; and it gives back all that it took. */
+ * answers that it is out of memory, tells nothing and leaves each room as it was, or answers as it
+ * does with ample memory; and it gives back all that it took. The rooms of dwframe_changes and
+ * dwframe_changes_at may hold anything after a refused request. */
 #include <stddef.h>
 #include <stdio.h>
 #include <stdlib.h>
@@ -128,6 +129,12 @@ static dwframe_status call_expressions_at(void)
 static dwframe_status call_changes(void)
 {
     return dwframe_changes(&section, address, rooms.changes, CHANGES, rooms.rules, RULES, &told.totals, &told.refusal);
+}
+
+static dwframe_status call_changes_at(void)
+{
+    return dwframe_changes_at(&section, table, entries, address, rooms.changes, CHANGES,
+        rooms.rules, RULES, &told.totals, &told.refusal);
 }
 
 /* A machine whose registers are all in the middle of what is known of its memory. */
@@ -260,7 +267,9 @@ static void each_refused(const char *name, dwframe_status (*call)(void))
                           !memcmp(&rooms, &ordinary_rooms, sizeof rooms);
         if (requests < number && !is_ordinary)
             stop_at(name, "another answer though nothing was refused");
-        if (!is_ordinary && (status != DWFRAME_OUT_OF_MEMORY || !is_nothing(call == call_rows_at, call == call_changes)))
+        int has_changes = call == call_changes || call == call_changes_at;
+        if (!is_ordinary &&
+            (status != DWFRAME_OUT_OF_MEMORY || !is_nothing(call == call_rows_at, has_changes)))
             stop_at(name, "neither out of memory nor the ordinary answer");
         if (requests < number)
             break;
@@ -307,6 +316,7 @@ int main(int argc, char **argv)
         each_refused("dwframe_row_at", call_row_at);
         each_refused("dwframe_expressions_at", call_expressions_at);
         each_refused("dwframe_changes", call_changes);
+        each_refused("dwframe_changes_at", call_changes_at);
         each_refused("dwframe_unwind", call_unwind);
         each_refused("dwframe_unwind_at", call_unwind_at);
         each_refused("dwframe_unwind_at of many registers", call_unwind_wide);

@@ -1,7 +1,8 @@
 /* Looks addresses up, by the library for C:
  *
  *     lookup 4|8 little|big FILE ADDRESS..     prints the row at each address, by one call for all
- *     lookup 4|8 little|big FILE               prints each FDE and its rows, as `dwframe rows`, by one call for each FDE of an index
+ *     lookup 4|8 little|big FILE               prints each FDE and its rows, as `dwframe rows`,
+ *                                              by one call for each entry of the index
  *
  * FILE is a raw .debug_frame. An expression is printed as the shortest block of its operations, in hexadecimal digits: `expr(2301)`. */
 #include <inttypes.h>
@@ -157,7 +158,8 @@ static int print_fde(const dwframe_entry *fde)
     printf(last == UINT64_MAX ? "10000000000000000" : "%" PRIx64, last + 1);
     printf(" ra=r%u\n", fde->return_register);
     dwframe_status status =
-        dwframe_changes(&section, fde->begin, changes, CHANGES, rules, 16 * CHANGES, &needed, &refusal);
+        dwframe_changes_at(&section, table, entries, fde->begin, changes, CHANGES, rules,
+            16 * CHANGES, &needed, &refusal);
     return status == DWFRAME_OK ? print_changes(changes, rules, needed.changes) : tell(status, &refusal);
 }
 

@@ -28,10 +28,10 @@
  *   rules up to the address are for registers below 128 and have no expression, at most four rows are remembered at once and at most
  *   64 registers change behind each, and the frame has at most 64 registers, all below 128. No clause says so: the requests are
  *   counted. Where malloc answers null, the status is DWFRAME_OUT_OF_MEMORY.
- * - There is stack, in KB at most: 4 for dwframe_evaluate, 15 for dwframe_row_at and dwframe_expressions_at, 18 for
- *   dwframe_unwind_at, 26 for dwframe_check, dwframe_index_size, dwframe_index and dwframe_unwind, 31 for dwframe_rows_at, 38 for
- *   dwframe_changes and dwframe_normalise, 66 for dwframe_same, 1 for those that tell a name. This was measured (bench/stack.c) over
- *   tables of compilers, rules with expressions and rows that are remembered one above the other; no bound is proved.
+ * - There is stack, in KB at most: 4 for dwframe_evaluate, 15 for dwframe_row_at, dwframe_expressions_at and dwframe_changes_at, 18
+ *   for dwframe_unwind_at, 26 for dwframe_check, dwframe_index_size, dwframe_index, dwframe_changes and dwframe_unwind, 31 for
+ *   dwframe_rows_at, 38 for dwframe_normalise, 66 for dwframe_same, 1 for those that tell a name. This was measured (bench/stack.c)
+ *   over tables of compilers, rules with expressions and rows that are remembered one above the other; no bound is proved.
  *
  * All else is answered: any bytes, any size, order, number and length of room have a status. No call keeps anything when it has
  * returned, so any number of threads may make calls at once.
@@ -308,8 +308,9 @@ typedef struct dwframe_totals {
 
 /*
  * The rows of the FDE that covers an address, one after another by address, as `dwframe rows` prints them. The section is judged, as
- * dwframe_check does, and the FDE's program is run once. DWFRAME_NO_FDE where no FDE covers the address. For the FDE of an entry of an
- * index `address` is the entry's begin.
+ * dwframe_check does, and the FDE's program is run once. DWFRAME_NO_FDE where no FDE covers the
+ * address. If the rows of more than one FDE are wanted, dwframe_changes_at does not judge the section
+ * each time.
  *
  * The rows are written to `changes`, and the rules of the registers of all of them one after another to `rules`, `changes[i].row.count`
  * for each, of both as many as fit. `needed` says how many there are. DWFRAME_TOO_SHORT where either room has less: then give so much room,
@@ -317,6 +318,22 @@ typedef struct dwframe_totals {
  */
 dwframe_status dwframe_changes(const dwframe_section *section, uint64_t address, dwframe_change *changes, size_t changes_room,
     dwframe_rule *rules, size_t rules_room, dwframe_totals *needed, dwframe_refusal *refusal) DWFRAME_CALL;
+
+/*
+ * The same by an index of the section that the caller keeps (dwframe_index), at the cost of one run of
+ * the FDE's program and of its CIE's: the section is not judged again. For all rows of a section make
+ * this call for each entry of the index, with the entry's begin as `address`.
+ *
+ * By the index that dwframe_index wrote of these bytes it answers what dwframe_changes answers. Any
+ * other index does no harm: it is used as dwframe_row_at uses it. What stands at the entry's place is
+ * read and judged anew, both programs to their ends. A fault behind the end of the FDE is therefore
+ * refused too. Rows that would begin there are not told. After DWFRAME_REFUSED and
+ * DWFRAME_OUT_OF_MEMORY `needed` is 0, and both buffers hold anything.
+ */
+dwframe_status dwframe_changes_at(const dwframe_section *section, const dwframe_entry *index,
+    size_t index_count, uint64_t address, dwframe_change *changes, size_t changes_room,
+    dwframe_rule *rules, size_t rules_room, dwframe_totals *needed,
+    dwframe_refusal *refusal) DWFRAME_CALL;
 
 /* The column of the CFA, beside the numbers of registers. */
 #define DWFRAME_COLUMN_CFA 65536

@@ -11,5 +11,5 @@ pub use Rattle.dw_section.specs.{Accepted.Accepted, Among.IsAmong, Meaning.{AreF
 pub use Rattle.dw_section.specs.{Ranges.{IsTable, Ranged, fde_in, range_in}, declared.lookup.Fde.Fde}
 pub use Rattle.dw_library.specs.{Answers.not_refused, CallerFrame.{IsFrame, IsUnwound, Machine, Told, held_in, no_frame, status_of, told_fault}, Changes.{AreWritten, Fits, change_of}, Expressions.{AreBlocks, expressions_of}}
 pub use Rattle.dw_library.specs.{Expressions.{in_cfa, in_rule, in_rules}, Index.{over, rule_of}, Looks.{IsLook, Look, rules_in}, Registers.{given_in, told_register}, Windows.{byte_among, byte_of, covers}, declared.caller.Stop.Stop}
-pub use Rattle.dw_library.specs.{declared.rows.Change.Change, declared.expressions.Block.Block, declared.index.Rule.Rule, declared.held.Register.Register, Inner.Changes.IsLow}
+pub use Rattle.dw_library.specs.{declared.rows.Change.Change, declared.expressions.Block.Block, declared.index.Rule.Rule, declared.held.Register.Register}
 pub use borrow.Rule.Slice.PartMut.{mid_of, post_of, put_mid}

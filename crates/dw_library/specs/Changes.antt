@@ -2,7 +2,9 @@
 use Rattle.std.specs.{Prelude.{◌≡◌, ◌⊎◌, ◌-◌, ◌^◌, ◌<◌, ◌≤◌, ℕ, List, length, map, min, Option, Some, None}, List.flat_map}
 use Rattle.dw_num.specs.declared.{refusal.Refusal.Refusal, target.Target.Target}
 use Rattle.dw_row.specs.Rows.{Rules}
+use Rattle.dw_op.specs.Faults.{IsWithin}
 use Rattle.dw_section.specs.{Accepted.{Accepted, CheckFault}, Among.IsAmong, Meaning.{AreFdes, ChangesOf, Covers, NoneCovers}, declared.lookup.Fde.Fde}
+use Rattle.dw_section.specs.{Ranges.{IsTable, LeadsTo, Ranged, Uncovered}, StandingChanges.{ChangesFault, StandingChanges}, StandingFde.Misleads}
 use Rattle.dw_library.specs.{Answers.{ok, refused, out_of_memory, bad_argument, too_short, not_refused, told}, Index.{over, row_of, rule_of}}
 use Rattle.dw_library.specs.declared.{answer.Refused.Refused, rows.Change.Change, rows.Totals.Totals, index.Rule.Rule}
 
@@ -64,3 +66,27 @@ AreAllChanges (Some target) s a changes rules t why =
     (Accepted target s × TellsCovering target s a changes rules t × (why ≡ not_refused))
     ⊎ ((r : Refusal) × CheckFault target s r × (t ≡ says refused changes rules) × (why ≡ told 1 r))
     ⊎ ((t ≡ says out_of_memory changes rules) × (why ≡ not_refused))
+
+-- ---- by an index that the caller keeps
+
+-- the changes of the FDE that stands where an index leads
+abbrev pub TellsStanding : Target → List ℕ → List Ranged → ℕ → List Change → List Rule → Told → Type 0
+TellsStanding target s index a changes rules t =
+    (f : Fde) × (at : ℕ) × LeadsTo index a at × Covers a f
+    × ((all : List (ℕ × Rules)) × StandingChanges target s at f all × AreWritten f all changes rules t.changes t.rules t.needed × Fits t.needed (length changes) (length rules) t.status)
+
+-- by the index of an accepted section
+abbrev pub AreOwnChanges : Option Target → List ℕ → List Ranged → ℕ → List Change → List Rule → Told → Refused → Type 0
+AreOwnChanges None s index a changes rules t why = (t ≡ says bad_argument changes rules) × (why ≡ not_refused)
+AreOwnChanges (Some target) s index a changes rules t why = IsTable target s index → TellsCovering target s a changes rules t × (why ≡ not_refused)
+
+-- By any index: those of what stands there, or that the index has no entry, or a bad one; or that memory ran out, or what stands there
+-- is refused, and then the buffers hold anything.
+abbrev pub AreAnyChanges : Option Target → List ℕ → List Ranged → ℕ → List Change → List Rule → Told → Refused → Type 0
+AreAnyChanges None s index a changes rules t why = (t ≡ says bad_argument changes rules) × (why ≡ not_refused)
+AreAnyChanges (Some target) s index a changes rules t why =
+    ((TellsStanding target s index a changes rules t
+    ⊎ (Uncovered index a × (t ≡ says 5 changes rules))
+    ⊎ (Misleads target s index a × (t ≡ says 10 changes rules))
+    ⊎ ((t.status ≡ out_of_memory) × (t.needed ≡ no_totals))) × (why ≡ not_refused))
+    ⊎ ((r : Refusal) × IsWithin s r × ChangesFault target s index a r × (t.status ≡ refused) × (t.needed ≡ no_totals) × (why ≡ told 1 r))

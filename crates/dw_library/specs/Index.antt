@@ -7,7 +7,7 @@ use Rattle.dw_row.specs.declared.rule.RegRule.TheVariants.{Unspecified, Undefine
 use Rattle.dw_row.specs.declared.rule.CfaRule.{CfaRule}
 use Rattle.dw_row.specs.Rows.{Rules}
 use Rattle.dw_row.specs.declared.rule.CfaRule.TheVariants as cfa
-use Rattle.dw_section.specs.{Accepted.CheckFault, Among.IsAmong, Meaning.{AreFdes, NoneCovers, RulesAt}, Ranges.{LeadsTo, Ranged, Uncovered, IsTable}}
+use Rattle.dw_section.specs.{Accepted.CheckFault, Among.IsAmong, Meaning.{AreFdes, Covers, NoneCovers, RulesAt}, Ranges.{LeadsTo, Ranged, Uncovered, IsTable}}
 use Rattle.dw_section.specs.{StandingFde.{LookUpFault, Misleads, Ruled, RulesOf}, declared.lookup.Fde.Fde}
 use Rattle.dw_library.specs.Answers.{AreAtFront, ok, refused, out_of_memory, bad_argument, too_short, not_refused, told}
 use Rattle.dw_library.specs.declared.{answer.Refused.Refused, index.Row.Row, index.Rule.Rule}
@@ -108,10 +108,10 @@ pub record TellsRow (found : Ruled) (old : List Rule) (t : Told) : Type 0 where
   pub rules : t.rules ≡ over (map rule_of found.row.registers) old
   pub status : t.status ≡ (if nat_le (length found.row.registers) (length old) then ok else too_short)
 
--- it tells the rules that a section has at an address, or that no FDE covers it
+-- it tells the FDE that covers an address with the rules that a section has there, or that none does
 abbrev pub TellsRules : Target → List ℕ → ℕ → List Rule → Told → Type 0
 TellsRules target s a old t =
-    ((found : Ruled) × RulesAt target s a found.row × ((fs : List Fde) → AreFdes target s fs → IsAmong found.fde fs) × TellsRow found old t)
+    ((found : Ruled) × Covers a found.fde × RulesAt target s a found.row × ((fs : List Fde) → AreFdes target s fs → IsAmong found.fde fs) × TellsRow found old t)
     ⊎ (((fs : List Fde) → AreFdes target s fs → NoneCovers a fs) × (t ≡ says 5 old))
 
 -- it tells those of the FDE that stands where an index leads, or that the index has none

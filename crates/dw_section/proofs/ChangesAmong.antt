@@ -1,7 +1,11 @@
 -- The list of the changes among rows, and how the code finds one after another.
-use Rattle.dw_section.proofs.Words.{◌≡◌, ◌⊎◌, ℕ, Bool, false, List, [], ◌∷◌, Option, Some, None, Ok, refl, sym, ap, ◌∙◌, subst, inl, inr, ◌&&◌, not, nat_lt, Decides, cases_Bool, Decides-and, Decides-ltb, Decides-not, LocatedRow, Rules}
+use Rattle.dw_section.proofs.Words.{◌≡◌, ◌⊎◌, ◌<◌, ℕ, Bool, arith, length, false, List, [], ◌∷◌, Option, Some, None, Ok, refl, sym, ap, ◌∙◌, subst, inl, inr, ◌&&◌, not, nat_lt, Decides, cases_Bool, Decides-and, Decides-ltb, Decides-not, LocatedRow, Rules}
 use Rattle.dw_section.proofs.Words.{Outcome, Among, Before, Shows, changes_among, kept_by, Stepping, Advances, AllKeep, row_then, is_before, repeats}
 use Rattle.dw_row.proofs.Lent.Equal.{row_test}
+use Rattle.dw_num.specs.declared.error.ReadError.TheVariants.{Refused, OutOfMemory}
+use Rattle.dw_cfa.specs.RowSteps.{Failed}
+use Rattle.dw_section.specs.Inner.Changes.{fault_behind, fault_of}
+use Rattle.dw_section.proofs.Words.{ReadError, Refusal, Refuses}
 
 pub before_tells : (end a : ℕ) (rows : List LocatedRow) → Decides (is_before end a rows) (Before end a rows)
 before_tells end a [] = Decides-ltb a end
@@ -41,6 +45,26 @@ none_dropped shared end shown (row ∷ rows) h = elim (cases_Bool (is_before end
 
 -- ---- as the code finds them
 
+none_left : (e : Option ReadError) (fault : Option Refusal) → fault_behind e fault ≡ None → fault ≡ None
+none_left None fault none = none
+none_left (Some OutOfMemory) fault none = none
+none_left (Some (Refused r)) fault none = absurd cc
+
+-- what has no fault has none to come
+pub none_to_come : (x : Stepping) → fault_of x ≡ None → x.outcome.fault ≡ None
+none_to_come x none = none_left x.error x.outcome.fault none
+
+-- an error is the fault, or memory ran out
+pub failed_judged : (old new : Stepping) (e : ReadError) → Failed old e new → Refuses (λ r. fault_of old ≡ Some r) e
+failed_judged old new OutOfMemory h = tt
+failed_judged old new (Refused r) (error, ended, inl again) = let same = ap (λ (s : Stepping). s.error) again ∙ error in rw same refl
+failed_judged old new (Refused r) (error, ended, inr (first, fault)) = rw first (ap (λ (o : Outcome). o.fault) fault)
+
+-- behind an error nothing is to come
+pub none_behind : (old new : Stepping) (e : ReadError) → Failed old e new → fault_of old ≡ None → fault_of new ≡ None
+none_behind old new OutOfMemory h none = rw (h.0, ap (λ (o : Outcome). o.fault) h.1) refl
+none_behind old new (Refused r) h none = let bad = sym (failed_judged old new (Refused r) h) ∙ none in absurd cc
+
 module _ (start : ℕ) (old new : Stepping) (o : Option ℕ) (advances : Advances old (Ok o) new) (some : o ≡ Some start) where
   abbrev row : LocatedRow
   row = record { location = start; row = new.current }
@@ -48,8 +72,14 @@ module _ (start : ℕ) (old new : Stepping) (o : Option ℕ) (advances : Advance
   moved : old.outcome ≡ row_then row new.outcome
   moved = (subst (λ (p : Option ℕ). Advances old (Ok p) new) some advances).2
 
-  pub no_fault : old.outcome.fault ≡ None → new.outcome.fault ≡ None
-  no_fault none = sym (ap (λ (o : Outcome). o.fault) moved) ∙ none
+  pub same_fault : new.outcome.fault ≡ old.outcome.fault
+  same_fault = sym (ap (λ (o : Outcome). o.fault) moved)
+
+  pub same_judged : fault_of new ≡ fault_of old
+  same_judged = let errors = subst (λ (p : Option ℕ). Advances old (Ok p) new) some advances in rw (errors.0, errors.1) same_fault
+
+  pub fewer_left : length new.outcome.rows < length old.outcome.rows
+  fewer_left = omega (arith, ap (λ (o : Outcome). length o.rows) moved)
 
   module _ (end : ℕ) (shown : Option Rules) where
     -- a row that an address shows and that is not the one that was shown

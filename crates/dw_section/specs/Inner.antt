@@ -17,6 +17,7 @@ pub mod Places
 pub mod Stage
 pub mod Reads
 pub mod StandingFde
+pub mod StandingChanges
 pub mod Walks
 pub mod Sound
 pub mod Opening

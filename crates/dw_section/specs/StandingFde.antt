@@ -43,10 +43,6 @@ abbrev pub NoneStands : Target → List ℕ → ℕ → ℕ → Type 0
 NoneStands target s at a =
     (own : FdeHead) (named : CieHead) → FdeStands target s own named → own.at ≡ at → own.begin ≤ a → a < own.begin + own.range → ⊥
 
--- an index leads to a place where none stands that covers the address
-abbrev pub Misleads : Target → List ℕ → List Ranged → ℕ → Type 0
-Misleads target s index a = (at : ℕ) × LeadsTo index a at × NoneStands target s at a
-
 -- an FDE, and the rules at an address that it covers
 pub record Ruled : Type 0 where
   pub fde : Fde
@@ -121,6 +117,11 @@ StandingFault target s at a r = Then (ItemFault target s at) (StandsAs target s 
 abbrev pub LookUpFault : Target → List ℕ → List Ranged → ℕ → Refusal → Type 0
 LookUpFault target s index a r =
     ((2147483647 < length s) × (r ≡ record { code = SectionTooLarge; at = 0 })) ⊎ ((length s ≤ 2147483647) × ((at : ℕ) × LeadsTo index a at × StandingFault target s at a r))
+
+-- an index leads to a place where nothing is refused, and no FDE stands that covers the address
+abbrev pub Misleads : Target → List ℕ → List Ranged → ℕ → Type 0
+Misleads target s index a =
+    (at : ℕ) × LeadsTo index a at × NoneStands target s at a × ((r : Refusal) → StandingFault target s at a r → ⊥)
 
 -- an error refuses with such a fault, unless it is no refusal
 abbrev pub RefusesAs : (Refusal → Type 0) → LookUpError → Type 0

@@ -2,18 +2,19 @@
 
 ghost use Rattle.std.specs.Prelude.{◌⊎◌, ◌≡◌, ◌<◌, ◌↔◌, ℕ, List, [], length, slice_index_or, IsTrue, Ok, Some, None, true, false, IsErr, IfOk, IfSome};
 ghost use Rattle.std.specs.Prelude.{OnErr, OnOk, MatchOption};
+ghost use Rattle.dw_num.specs.declared.error.ReadError.TheVariants.{OutOfMemory};
 ghost use Rattle.dw_row.specs.{Agreement.kept, Difference.{FirstDifference, place_behind}, RegisterSets.{SameBeside, has}};
 ghost use Rattle.dw_row.specs.Rows.{AreSpecified, Rules, is_specified, rule};
 ghost use Rattle.dw_cfa.specs.RowWalk.{StandsOn};
 ghost use Rattle.dw_section.specs.{Changes.{GivesAddress, GivesChange, GoesOn, before_then, behind_all, kept_by}, Meaning.{AreFdes, ChangesOf}};
 ghost use Rattle.dw_section.specs.{Opening.{AreChanged, CieLeaves}, declared.lookup.Fde.{Fde as TheFde}};
-ghost use Rattle.dw_section.specs.Inner.{Changes.{Before, FindsChange, FindsFirst, KeepsIf, ShownBehind}, NarrowRow.NarrowedBy, Shown.{shown_if, shown_of}};
+ghost use Rattle.dw_section.specs.Inner.{Changes.{Before, FindsChange, FindsFirst, KeepsIf, ShownBehind, fault_of}, NarrowRow.NarrowedBy, Shown.{shown_if, shown_of}, StandingChanges.JudgesChange};
 
 use crate::lookup::FdeRef;
 use crate::table::Table;
 use crate::walks::Walks;
 use dw_cfa::RowWalk;
-use dw_num::{Target, are_bytes};
+use dw_num::{ReadError, Target, are_bytes};
 use dw_row::{RegisterSet, Row};
 use std::alloc::AllocError;
 use std::marker::Model;
@@ -42,8 +43,8 @@ fn is_shown(steps: &mut RowWalk<'_>, kept: bool) -> bool
 // Whether an address below the end shows the row that is lent, which starts here.
 #[inline(always)]
 fn is_visible(steps: &RowWalk<'_>, start: u128, end: u128) -> bool
-    requires { steps.now.steps.outcome.fault ≡ None }
-    ensures { IsTrue result ↔ Before end start steps.now.steps.outcome.rows }
+    ensures visible { steps.now.steps.outcome.fault ≡ None → (IsTrue result ↔ Before end start steps.now.steps.outcome.rows) }
+    ensures below { IsTrue result → start < end }
 {
     match steps.next_start() {
         Some(next) => start < next && start < end,
@@ -53,9 +54,10 @@ fn is_visible(steps: &RowWalk<'_>, start: u128, end: u128) -> bool
 
 // Goes on to the next row that an address shows and that is not the one that was kept, where one was.
 #[inline(always)]
-fn find_change(steps: &mut RowWalk<'_>, kept: bool, end: u128) -> Result<Option<u128>, AllocError>
-    requires { steps.old.steps.outcome.fault ≡ None }
-    ensures finds { FindsChange end steps.old.steps (shown_if kept steps.old.kept) result steps.new.steps }
+fn find_change(steps: &mut RowWalk<'_>, kept: bool, end: u128) -> Result<Option<u128>, ReadError>
+    ensures finds { fault_of steps.old.steps ≡ None
+        → FindsChange end steps.old.steps (shown_if kept steps.old.kept) result steps.new.steps }
+    ensures judges { JudgesChange end steps.old.steps result steps.new.steps }
     ensures kept { steps.new.kept ≡ steps.old.kept }
     ensures led { steps.new.led ≡ steps.old.led }
     ensures stands { StandsOn steps.new.led steps.new.steps.outcome steps.new.initial }
@@ -64,7 +66,7 @@ fn find_change(steps: &mut RowWalk<'_>, kept: bool, end: u128) -> Result<Option<
         let start = match steps.advance() {
             Ok(Some(start)) => start,
             Ok(None) => return Ok(None),
-            Err(_) => return Err(AllocError),
+            Err(error) => return Err(error),
         };
         if !is_visible(steps, start, end) {
             continue;
@@ -75,16 +77,18 @@ fn find_change(steps: &mut RowWalk<'_>, kept: bool, end: u128) -> Result<Option<
     }
 }
 
-// Keeps the row that the walk lends, where it is the one that was shown last, and goes on to the next change.
+/// Keeps the row that the walk lends, where it is the one that was shown last, and goes on to the next change. An error is the fault of
+/// the programs, or want of memory.
 #[inline(always)]
-fn next_change(
+pub(crate) fn next_change(
     steps: &mut RowWalk<'_>,
     kept: &mut bool,
     lent: bool,
     end: u128,
-) -> Result<Option<u128>, AllocError>
-    requires { steps.old.steps.outcome.fault ≡ None }
-    ensures finds { FindsChange end steps.old.steps (shown_of lent steps.old.steps.current (shown_if kept.old steps.old.kept)) result steps.new.steps }
+) -> Result<Option<u128>, ReadError>
+    ensures finds { fault_of steps.old.steps ≡ None →
+        FindsChange end steps.old.steps (shown_of lent steps.old.steps.current (shown_if kept.old steps.old.kept)) result steps.new.steps }
+    ensures judges { JudgesChange end steps.old.steps result steps.new.steps }
     ensures kept { IfOk result (λ _. shown_if kept.new steps.new.kept ≡ shown_of lent steps.old.steps.current (shown_if kept.old steps.old.kept)) }
     ensures led { steps.new.led ≡ steps.old.led }
 {
@@ -93,6 +97,35 @@ fn next_change(
         *kept = true;
     }
     find_change(steps, *kept, end)
+}
+
+// Want of memory, the only error of programs that have no fault.
+fn memory_error(error: ReadError) -> AllocError
+    requires { error ≡ OutOfMemory }
+{
+    match error {
+        ReadError::OutOfMemory => AllocError,
+        ReadError::Refused(_) => unreachable!(),
+    }
+}
+
+// The same of programs that have no fault.
+#[inline(always)]
+fn next_unrefused(
+    steps: &mut RowWalk<'_>,
+    kept: &mut bool,
+    lent: bool,
+    end: u128,
+) -> Result<Option<u128>, AllocError>
+    requires { fault_of steps.old.steps ≡ None }
+    ensures finds { FindsChange end steps.old.steps (shown_of lent steps.old.steps.current (shown_if kept.old steps.old.kept)) result steps.new.steps }
+    ensures kept { IfOk result (λ _. shown_if kept.new steps.new.kept ≡ shown_of lent steps.old.steps.current (shown_if kept.old steps.old.kept)) }
+    ensures led { steps.new.led ≡ steps.old.led }
+{
+    match next_change(steps, kept, lent, end) {
+        Ok(change) => Ok(change),
+        Err(error) => Err(memory_error(error)),
+    }
 }
 
 // Whether a register that the row that is lent specifies is specified in the row that was kept too.
@@ -136,17 +169,21 @@ fn show_behind<'a>(
     end: u128,
     cie_at: u64,
 ) -> Result<(Option<u128>, Option<Behind>), AllocError>
-    requires { steps.old.steps.outcome.fault ≡ None }
+    requires { fault_of steps.old.steps ≡ None }
     ensures finds { FindsFirst end steps.old.steps result steps.new.steps }
     ensures led { steps.new.led ≡ steps.old.led }
     ensures cie { IfOk result (λ found. IfSome found.1 (λ behind. behind.cie_at ≡ cie_at)) }
     ensures beside { IfOk result (λ found. IfSome found.1 (λ _. ShownBehind steps.new changed.new)) }
     ensures keeps { IfOk result (λ found. IfSome found.1 (λ behind. KeepsIf behind.keeps steps.new)) }
 {
-    let Ok(kept) = steps.keep_initial() else {
-        return Err(AllocError);
+    let kept = match steps.keep_initial() {
+        Ok(kept) => kept,
+        Err(error) => return Err(memory_error(error)),
     };
-    let change = find_change(steps, false, end)?;
+    let change = match find_change(steps, false, end) {
+        Ok(change) => change,
+        Err(error) => return Err(memory_error(error)),
+    };
     if !kept || change.is_none() {
         return Ok((change, None));
     }
@@ -260,7 +297,7 @@ impl<'a> Changes<'a> {
             self.kept = false;
             return Ok(None);
         }
-        let change = next_change(&mut self.walks.walk, &mut self.kept, self.lent, self.end);
+        let change = next_unrefused(&mut self.walks.walk, &mut self.kept, self.lent, self.end);
         self.lent = matches!(change, Ok(Some(_)));
         self.failed = change.is_err();
         change

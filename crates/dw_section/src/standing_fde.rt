@@ -81,6 +81,8 @@ fn standing<'a>(bytes: &'a [u8], at: u64, target: Target) -> Result<Option<Found
     ensures found { IfOk result (λ o. IfSome o (λ e. (e.own.at ≡ at) × FoundStands target bytes.now e)) }
     ensures within { IfErr result (IsWithin bytes.now) }
     ensures fault { IfErr result (Then (ItemFault target bytes.now at) (StandsAs target bytes.now kind.Fde at) (PairFault target bytes.now)) }
+    ensures unfaulted { IfOk result (λ _. (r : TheRefusal)
+        → Then (ItemFault target bytes.now at) (StandsAs target bytes.now kind.Fde at) (PairFault target bytes.now) r → ⊥) }
     ensures only { StandsAt target bytes.now at → MatchResult result IsSome (λ _. ⊥) }
 {
     let Some(own) = piece_at(bytes, at, target)? else {
@@ -169,10 +171,10 @@ impl From<ReadError> for LookUpError {
 /// FDE's place in them, and an address that the FDE covers.
 #[derive(Drop)]
 pub struct IndexedFde<'a> {
-    bytes: &'a [u8],
-    target: Target,
-    address: u64,
-    found: FoundFde<'a>,
+    pub(crate) bytes: &'a [u8],
+    pub(crate) target: Target,
+    pub(crate) address: u64,
+    pub(crate) found: FoundFde<'a>,
 }
 
 impl<'a> Model for IndexedFde<'a> {
@@ -207,7 +209,7 @@ pub fn fde_by_index<'a>(
     ensures own { IsTable target bytes.now index.now → MatchResult result (λ o.
         MatchOption o ((fs : List TheFde) → AreFdes target bytes.now fs → NoneCovers address fs)
         (λ f. (fs : List TheFde) → AreFdes target bytes.now fs → IsAmong f.fde fs)) (λ _. ⊥) }
-    // A bad index leads to a place where no FDE that covers the address stands.
+    // A bad index leads to a place where no FDE that covers the address stands, and no fault either.
     ensures bad { IfErr result (λ e. e ≡ LookUpError.BadIndex → Misleads target bytes.now index.now address) }
     ensures memory { IfErr result (λ e. e ≡ LookUpError.OutOfMemory → ⊥) }
     // A refusal has its place in the bytes or at their end.

@@ -1,6 +1,7 @@
 -- What the code and its proofs say beside Changes.
 use Rattle.std.specs.Prelude.{◌≡◌, ◌⊎◌, ℕ, ◌<◌, nat_lt, ◌&&◌, not, if◌then◌else◌, List, [], ◌∷◌, Option, Some, None, Result, Ok, Err, Bool, false, IsTrue}
-use Rattle.dw_num.specs.Input.{AreBytes}
+use Rattle.dw_num.specs.{Input.AreBytes, declared.{error.ReadError.ReadError, refusal.Refusal.Refusal}}
+use Rattle.dw_num.specs.declared.error.ReadError.TheVariants.{Refused, OutOfMemory}
 use Rattle.dw_row.specs.{RegisterSets.Registers, Rows.Rules}
 use Rattle.dw_row.proofs.Lent.Equal.{row_test}
 use Rattle.dw_cfa.specs.{Behind.LeavesTo, RowSteps.Stepping, RowWalk.{AllKeep, Walking}, declared.execution.LocatedRow.LocatedRow}
@@ -47,6 +48,15 @@ changes_among end shown (row ∷ rows) =
 
 -- ---- how the code finds them
 
+-- the fault that was answered, or that is still to come
+abbrev pub fault_behind : Option ReadError → Option Refusal → Option Refusal
+fault_behind None fault = fault
+fault_behind (Some (Refused r)) fault = Some r
+fault_behind (Some OutOfMemory) fault = fault
+
+abbrev pub fault_of : Stepping → Option Refusal
+fault_of s = fault_behind s.error s.outcome.fault
+
 -- the changes that a walk shows, by whether it lends the row that was shown last, and whether it kept one
 abbrev pub showing : Section → Walking → Bool → Bool → ℕ → Bool → Changing
 showing s walk lent kept end failed = record {
@@ -59,17 +69,17 @@ showing s walk lent kept end failed = record {
 
 -- the rows of a walk that was led by the headers of a section have no fault
 pub record ChangesSo (s : Section) (w : Walks) : Type 0 where
-  pub no_fault : w.walk.steps.outcome.fault ≡ None
+  pub no_fault : fault_of w.walk.steps ≡ None
   pub headers : List Head
   pub are : Headers s.target s.bytes headers
   pub led : AreLed s.target headers w
 
 -- where this row was shown before, the next change
 abbrev pub FindsChange : {E : Type 0} → ℕ → Stepping → Option Rules → Result (Option ℕ) E → Stepping → Type 0
-FindsChange end old shown (Ok None) new = (new.outcome.fault ≡ None) × (changes_among end shown old.outcome.rows ≡ []) × (new.outcome.rows ≡ [])
+FindsChange end old shown (Ok None) new = (fault_of new ≡ None) × (changes_among end shown old.outcome.rows ≡ []) × (new.outcome.rows ≡ [])
 FindsChange end old shown (Ok (Some start)) new =
-    (new.outcome.fault ≡ None) × (changes_among end shown old.outcome.rows ≡ (start, new.current) ∷ changes_among end (Some new.current) new.outcome.rows)
-FindsChange end old shown (Err e) new = new.outcome.fault ≡ None
+    (fault_of new ≡ None) × (changes_among end shown old.outcome.rows ≡ (start, new.current) ∷ changes_among end (Some new.current) new.outcome.rows)
+FindsChange end old shown (Err e) new = fault_of new ≡ None
 
 -- the same of the first change, with what else is answered of it
 abbrev pub FindsFirst : {A E : Type 0} → ℕ → Stepping → Result (Option ℕ × A) E → Stepping → Type 0

@@ -19,7 +19,7 @@ tells c status e =
       λ t.
           let among = rw c.in-Some.is at (c.in_ok-found.ensures.own t) in
           let all = c.in_ok-run.ensures.own c.args.index.now (rw (sym is.0, sym is.1) at t) (rw (sym is.2) at is.3) in
-          inl (found, rw c.row.ensures (rw (is.0, is.1, is.2) at all), rw c.fde.ensures.is among, row),
+          inl (found, rw is.2 at c.fde.ensures.covers, rw c.row.ensures (rw (is.0, is.1, is.2) at all), rw c.fde.ensures.is among, row),
       inl (found, c.in-Some.found.at, is.3, rw (c.row.ensures, c.fde.ensures.is) (rw (is.0, is.1, is.2) at c.in_ok-run.ensures.found), row),
     )
 

@@ -1,24 +1,21 @@
-use Rattle.dw_library.proofs.{Words.{◌<◌, length, arith, get_or}, Changed.{changes_low, covering_told, no_fde, place_low}, rows.put_covering.Goals.After-index}
+use Rattle.dw_library.proofs.{Words.{◌∙◌, sym}, Changed.refused_fault}
 use Rattle.dw_library.proofs.rows.put_covering.Goals as goal
 
-inside : (c : After-index) → c.in-Some.fde.place < length c.index.result.now
-inside c =
-    let fs = c.accepted.ensures.fdes in
-    place_low c.args.table.now.target c.args.table.now.bytes c.index.result.now c.index.ensures c.in-Some.fde.place fs.0 fs.1 (c.in-Some.ensures fs.0 fs.1).0
+pub returns-in-Err-Refused-clause-own : goal.returns-in-Err-Refused-clause-own
+returns-in-Err-Refused-clause-own c = λ t.
+    let is = rw c.in-Some.is at c.in_ok-found.ensures.found in
+    let own = c.changes-changes.ensures.own c.args.index.now (rw (sym is.0, sym is.1) at t) (rw (sym is.2) at is.3) in
+    let fault = refused_fault c.changes-changes.result.fault c.put_changes-totals.result c.in-Err-Refused.field-0 c.in-Err-Refused.refusal c.put_changes-totals.ensures.refused c.in-Err-Refused.is (rw c.in-Err-Refused.is at c.in-Err-Refused.field-0-is) in
+    let bad = sym own.0 ∙ fault in absurd cc
 
-pub bounds-index-fde : goal.bounds-index-fde
-bounds-index-fde c = inside (goal.at.bounds-index-fde c).After-index
+pub returns-in-Err-Refused-clause-within : goal.returns-in-Err-Refused-clause-within
+returns-in-Err-Refused-clause-within c =
+    let is = rw c.in-Some.is at c.in_ok-found.ensures.found in
+    let fault = refused_fault c.changes-changes.result.fault c.put_changes-totals.result c.in-Err-Refused.field-0 c.in-Err-Refused.refusal c.put_changes-totals.ensures.refused c.in-Err-Refused.is (rw c.in-Err-Refused.is at c.in-Err-Refused.field-0-is) in
+    rw (is.1, fault) at c.changes-changes.ensures.within
 
-pub offset_bounds-index-fde : goal.offset_bounds-index-fde
-offset_bounds-index-fde c = omega (arith, inside (goal.at.offset_bounds-index-fde c).After-index, c.index.ensures.indexed.few)
-
-pub put_changes-requires : goal.put_changes-requires
-put_changes-requires c =
-    let fs = c.accepted.ensures.fdes in
-    record { low = changes_low c.args.table.now.target c.args.table.now.bytes c.accepted.ensures.bytes c.accepted.ensures.accepted (get_or fs.0 c.in-Some.fde.place no_fde) c.changes.result.to_come (c.changes.ensures.changes fs.0 fs.1 no_fde) }
-
-pub returns : goal.returns
-returns c =
-    let fs = c.accepted.ensures.fdes in
-    covering_told c.args.table.now.target c.args.table.now.bytes c.index.result.now c.index.ensures c.args.address c.in-Some.fde.place _ (inside (goal.at.returns c).After-index) c.in-Some.ensures
-    fs.0 fs.1 c.changes.result.to_come (λ d. c.changes.ensures.changes fs.0 fs.1 d) c.args.out.now c.args.rules.now _ c.in-Ok.ensures c.fitting.ensures
+pub returns-in-Err-Refused-clause-refused : goal.returns-in-Err-Refused-clause-refused
+returns-in-Err-Refused-clause-refused c =
+    let is = rw c.in-Some.is at c.in_ok-found.ensures.found in
+    let fault = refused_fault c.changes-changes.result.fault c.put_changes-totals.result c.in-Err-Refused.field-0 c.in-Err-Refused.refusal c.put_changes-totals.ensures.refused c.in-Err-Refused.is (rw c.in-Err-Refused.is at c.in-Err-Refused.field-0-is) in
+    rw (is.0, is.1, is.2) at (c.changes-changes.ensures.refused c.args.index.now (rw (sym is.2) at is.3) c.in-Err-Refused.refusal fault)

@@ -7,20 +7,20 @@ seen : (rows : List LocatedRow) (fault : Option Refusal) (next end start : ℕ) 
 seen [] fault next end start none first last = let same : Some next ≡ None = last (ap (λ (f : Option Refusal). let o : Outcome = record { rows = []; fault = f } in o) none) in absurd cc
 seen (row ∷ more) fault next end start none first last = let same : Some next ≡ Some row.location = first row more refl in let is : next ≡ row.location = cc in rw is refl
 
-pub returns-then-start-next : goal.returns-then-start-next
-returns-then-start-next c =
+pub returns-then-start-next-clause-visible : goal.returns-then-start-next-clause-visible
+returns-then-start-next-clause-visible c = λ fault.
     let o = c.args.steps.now.steps.outcome in
     let start = c.args.start in let end = c.args.end in
-    let is = seen o.rows o.fault c.in-Some.next end start c.requires c.in-Some.ensures.next c.in-Some.ensures.last in
+    let is = seen o.rows o.fault c.in-Some.next end start fault c.in-Some.ensures.next c.in-Some.ensures.last in
     subst (λ (b : Bool). Decides b (Before end start o.rows)) (sym (rw (lt-ltb start c.in-Some.next c.if-start-next.true) at is)) (before_tells end start o.rows)
 
-pub returns-else-start-next : goal.returns-else-start-next
-returns-else-start-next c =
+pub returns-else-start-next-clause-visible : goal.returns-else-start-next-clause-visible
+returns-else-start-next-clause-visible c = λ fault.
     let o = c.args.steps.now.steps.outcome in
     let start = c.args.start in let end = c.args.end in
-    let is = seen o.rows o.fault c.in-Some.next end start c.requires c.in-Some.ensures.next c.in-Some.ensures.last in
+    let is = seen o.rows o.fault c.in-Some.next end start fault c.in-Some.ensures.next c.in-Some.ensures.last in
     subst (λ (b : Bool). Decides b (Before end start o.rows)) (sym (le-ltb start c.in-Some.next c.if-start-next.false ∙ rw (le-ltb start c.in-Some.next c.if-start-next.false) at is)) (before_tells end start o.rows)
 
-pub returns-in-None : goal.returns-in-None
-returns-in-None c =
+pub returns-in-None-clause-visible : goal.returns-in-None-clause-visible
+returns-in-None-clause-visible c = λ fault.
     subst (λ (rows : List LocatedRow). Decides (nat_lt c.args.start c.args.end) (Before c.args.end c.args.start rows)) (sym (ap (λ (o : Outcome). o.rows) (c.in-None.ensures.none refl))) (Decides-ltb c.args.start c.args.end)

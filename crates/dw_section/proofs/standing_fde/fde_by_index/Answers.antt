@@ -1,6 +1,6 @@
 use Rattle.dw_section.proofs.Words.{map, get_or, get_or_default, refl, sym, ap, subst, ◌∙◌, ◌≤◌, length, inl, inr, arith, length-map, err_from_is_err_and, Fde, FdeHead, entry_head, initial_head, IsTable, StandsAt, range_in, fde_in, NoneCovers, IsAmong}
-use Rattle.dw_section.proofs.{Lent.FdeLookup.{none, led_to, listed_are, fde_listed, listed_fde, same_fde}, StandLaws.{IsListed, listed_stands, one_stands, stands_listed}, standing_fde.fde_by_index.Goals.{After-from, In-Some-2}}
-use Rattle.dw_section.specs.Ranges.{LeadsTo}
+use Rattle.dw_section.proofs.{Lent.FdeLookup.{none, led_to, listed_are, fde_listed, listed_fde, same_fde}, StandFaults.misled, StandLaws.{IsListed, listed_stands, one_stands, stands_listed}, standing_fde.fde_by_index.Goals.{After-from, In-Some-2}}
+use Rattle.dw_section.specs.{Ranges.LeadsTo, StandingFde.NoneStands}
 use Rattle.dw_section.proofs.standing_fde.fde_by_index.Goals as goal
 
 -- where the index leads
@@ -40,17 +40,22 @@ returns-in_default-2-clause-own c = λ t.
     let some = rw c.in_default-2.is at (c.in_ok-found.ensures.only (stands (goal.at.returns-in_default-2-clause-own c).After-from t)) in
     absurd cc
 
+pub returns-in_default-2-clause-bad : goal.returns-in_default-2-clause-bad
+returns-in_default-2-clause-bad c = λ is.
+    let at = c.from.result in
+    let none : NoneStands c.args.target c.args.bytes.now at c.args.address = λ own named stands place le lt. let some = rw c.in_default-2.is at (c.in_ok-found.ensures.only (own, named, stands, place)) in absurd cc in
+    (at, leads (goal.at.returns-in_default-2-clause-bad c).After-from, none, misled c.args.target c.args.bytes.now at c.args.address none c.in_ok-found.ensures.unfaulted)
+
 pub returns-then-not-covers-clause-bad : goal.returns-then-not-covers-clause-bad
-returns-then-not-covers-clause-bad c = λ is. (
-  c.from.result,
-  leads (goal.at.returns-then-not-covers-clause-bad c).After-from,
-  λ own named stands place le lt.
-      let found = rw c.in-Some-2.is at c.in_ok-found.ensures.found in
-      let e = c.in-Some-2.found in
-      let one = (one_stands c.args.target c.args.bytes.now own (entry_head e.own) named (initial_head e.cie) stands found.1 (place ∙ sym found.0)).0 in
-      let begins = ap (λ (x : FdeHead). x.begin) one in
-      absurd (c.if-not-covers.ensures (omega (arith, begins, le), omega (arith, begins, ap (λ (x : FdeHead). x.range) one, lt))),
-)
+returns-then-not-covers-clause-bad c = λ is.
+    let at = c.from.result in
+    let none : NoneStands c.args.target c.args.bytes.now at c.args.address = λ own named stands place le lt.
+    let found = rw c.in-Some-2.is at c.in_ok-found.ensures.found in
+    let e = c.in-Some-2.found in
+    let one = (one_stands c.args.target c.args.bytes.now own (entry_head e.own) named (initial_head e.cie) stands found.1 (place ∙ sym found.0)).0 in
+    let begins = ap (λ (x : FdeHead). x.begin) one in
+    absurd (c.if-not-covers.ensures (omega (arith, begins, le), omega (arith, begins, ap (λ (x : FdeHead). x.range) one, lt))) in
+    (at, leads (goal.at.returns-then-not-covers-clause-bad c).After-from, none, misled c.args.target c.args.bytes.now at c.args.address none c.in_ok-found.ensures.unfaulted)
 
 pub returns-then-not-covers-clause-own : goal.returns-then-not-covers-clause-own
 returns-then-not-covers-clause-own c = λ t.

@@ -1,5 +1,6 @@
-use Rattle.dw_section.proofs.{Words.{◌≡◌, [], ◌∷◌, ◌∙◌, ap, sym, Some, None, inr, fde, entry_in, piece_in, Piece, Refusal, rules, StandsAs, StandsIn}, Lent.Heads.has_at, StandLaws.{among_first, named_of, fde_from, fde_never, cie_never, stands_joined}}
-use Rattle.dw_section.proofs.{StandFaults.{no_cie, own_stuck, named_stuck, cie_within, fde_within}, Stages.handed_on, standing_fde.standing.Goals.{After-pointer_of-pointer, In-Some-2}}
+use Rattle.dw_section.proofs.{Words.{◌≡◌, ℕ, [], ◌∷◌, ◌∙◌, ap, subst, sym, Some, None, inl, inr, fde, entry_head, entry_in, initial_head, piece_in, FoundFde, FoundStands, Piece, Refusal, rules, StandsAs, StandsIn, Then}, Lent.Heads.has_at, StandLaws.{among_first, named_of, fde_from, fde_never, cie_never, stands_joined}}
+use Rattle.dw_section.proofs.{StandFaults.{never_refused, no_cie, own_stuck, named_stuck, cie_within, fde_within}, Stages.handed_on, standing_fde.standing.Goals.{After-pointer_of-pointer, In-Some-2, In_ok-cie}}
+use Rattle.dw_section.specs.StandingFde.{ItemFault, PairFault}
 use Rattle.dw_section.specs.declared.entry.Kind.TheVariants as kind
 use Rattle.dw_section.proofs.standing_fde.standing.Goals as goal
 
@@ -21,6 +22,15 @@ returns-in_default-kind-clause-only c = λ w.
     let same = rw c.in-Some.is at (c.in_ok-own.ensures.only w.2.piece w.2.stands (sym (has_at c.args.target (w.0.cie_at ∷ []) w.2.piece (fde w.0) w.2.own_is) ∙ w.3)) in
     let fde = (fde_from c.args.target (w.0.cie_at ∷ []) w.2.piece w.0 w.2.own_is).2.0 in
     absurd (c.in_default-kind.not-Fde (ap (λ (q : Piece). q.kind) same ∙ fde))
+
+pub returns-in_default-clause-unfaulted : goal.returns-in_default-clause-unfaulted
+returns-in_default-clause-unfaulted c = λ r fault. elim fault [ inl item ↦ c.in_ok-own.ensures.none r item | inr p ↦ absurd (rw c.in_default.is at (c.in_ok-own.ensures.only p.0 p.1.0 p.1.2)) ]
+
+pub returns-in_default-kind-clause-unfaulted : goal.returns-in_default-kind-clause-unfaulted
+returns-in_default-kind-clause-unfaulted c = λ r fault. elim fault [
+  | inl item ↦ c.in_ok-own.ensures.none r item
+  | inr p ↦ absurd (c.in_default-kind.not-Fde (ap (λ (q : Piece). q.kind) (rw c.in-Some.is at (c.in_ok-own.ensures.only p.0 p.1.0 p.1.2)) ∙ p.1.1))
+]
 
 pub returns-in_err-named-clause-only : goal.returns-in_err-named-clause-only
 returns-in_err-named-clause-only c = λ w.
@@ -59,6 +69,7 @@ returns-in_err-header c =
       found = search rules;
       within = handed _ (fde_within c.args.target (p.result.0 ∷ []) c.args.bytes.now own _ is.0 stuck);
       fault = handed _ (inr (own, is, (p.result.0, p.ensures.names, inr (Some _, cie, own_stuck c.args.target c.args.bytes.now own (piece_in c.in-Some-2.named) p.result.0 _ is.1 cie stuck))));
+      unfaulted = search rules;
       only = λ w. absurd (fde_never c.args.target (p.result.0 ∷ []) own w.0 _ (named_of c.args.target c.args.bytes.now c.args.at own w (here own-here) p.result.0 p.ensures.only).2 stuck);
     }
 
@@ -75,15 +86,27 @@ returns-in_err-cie c =
       found = search rules;
       within = handed _ (cie_within c.args.target c.args.bytes.now (piece_in c.in-Some-2.named) _ cie.0 stuck);
       fault = handed _ (inr (own, own_is own-here, (p.result.0, p.ensures.names, inr (Some _, cie, both))));
+      unfaulted = search rules;
       only = λ w.
           let named = named_of c.args.target c.args.bytes.now c.args.at own w (here own-here) p.result.0 p.ensures.only in
           let same = rw c.in-Some-2.is at (c.in_ok-named.ensures.only w.2.named_piece w.2.named_stands named.0 named.1) in
           absurd (cie_never c.args.target w.2.named_piece w.1 _ w.2.named_is (rw same at stuck));
     }
 
-pub returns-clause-found : goal.returns-clause-found
-returns-clause-found c =
-    let own = here (goal.at.returns-clause-found c).After-pointer_of-pointer in
-    let cie = named_is (goal.at.returns-clause-found c).In-Some-2 in
-    let joined = stands_joined c.args.target c.args.bytes.now (piece_in c.in-Some.own) (piece_in c.in-Some-2.named) c.pointer_of-pointer.result.0 (record { own = c.in_ok-header.header; cie = c.in_ok-cie.cie }) own.1 cie.0 cie.2 (c.in_ok-header.ensures.found (c.pointer_of-pointer.result.0 ∷ []) (among_first c.pointer_of-pointer.result.0 [])) (c.in_ok-cie.ensures.found []) in
+-- both stand
+stands : (c : In_ok-cie) → let e : FoundFde = record { own = c.in_ok-header.header; cie = c.in_ok-cie.cie } in (e.own.at ≡ c.args.at) × FoundStands c.args.target c.args.bytes.now e
+stands c =
+    let own = here (goal.at.In_ok-cie c).After-pointer_of-pointer in
+    let cie = named_is (goal.at.In_ok-cie c).In-Some-2 in
+    let p = c.pointer_of-pointer.result.0 in
+    let joined = stands_joined c.args.target c.args.bytes.now (piece_in c.in-Some.own) (piece_in c.in-Some-2.named) p (record { own = c.in_ok-header.header; cie = c.in_ok-cie.cie }) own.1 cie.0 cie.2 (c.in_ok-header.ensures.found (p ∷ []) (among_first p [])) (c.in_ok-cie.ensures.found []) in
     (joined.0 ∙ own.0, joined.1)
+
+pub returns-clause-found : goal.returns-clause-found
+returns-clause-found c = stands (goal.at.returns-clause-found c).In_ok-cie
+
+pub returns-clause-unfaulted : goal.returns-clause-unfaulted
+returns-clause-unfaulted c =
+    let w = stands (goal.at.returns-clause-unfaulted c).In_ok-cie in
+    let s = c.args.bytes.now in
+    λ r fault. never_refused c.args.target s (entry_head c.in_ok-header.header) (initial_head c.in_ok-cie.cie) w.1 r (subst (λ (n : ℕ). Then (ItemFault c.args.target s n) (StandsAs c.args.target s kind.Fde n) (PairFault c.args.target s) r) (sym w.0) fault)

@@ -9,7 +9,7 @@ returns-in_err-run_to-clause-own c = rw (← c.self.view_is) (λ index t leads.
     let runs = runs_so f.target f.bytes.now t.indexed.headers t.indexed.hold f.found same.found c.are_bytes.ensures in
     let e = err_from_is_err_and c.from_residual.result c.from_residual.ensures.1 in
     let all : Outcome = record { rows = runs.rows; fault = None } in
-    let none = no_refusal c.in_err-run_to.field-0.0 all (c.in_err-run_to.ensures.err all (inr runs.give)) refl in
+    let none = no_refusal c.in_err-run_to.field-0.0 None (c.in_err-run_to.ensures.err all (inr runs.give)) refl in
     rw (e.1, e.2, none) refl)
 
 pub returns-in_err-run_to-clause-refused : goal.returns-in_err-run_to-clause-refused

@@ -1,5 +1,5 @@
 use Rattle.dw_section.proofs.Words.{◌≡◌, ◌+◌, ◌∙◌, ap, arith, subst, sym, AreBytes, Changing, ChangesOf, IsAmong, IsFoundIn, List, LocatedRow, Section, changes_among, fde_of, initial_in, initial_head, led_by, Led, LedTo, None, Option}
-use Rattle.dw_section.proofs.{Words.{Head, Outcome, RunsTo, cie, inr, one_run, program_input, span_of, input_of, ℕ}, Lent.{HeaderLaws.one_headers, Heads.{cie_or, heads_rise, one_among}}, RowLookup.{Runs, runs_so}, table.Table.go_on.Goals.After-are_bytes-2}
+use Rattle.dw_section.proofs.{Words.{Head, Outcome, RunsTo, Stepping, cie, inr, one_run, program_input, span_of, input_of, ℕ}, Lent.{HeaderLaws.one_headers, Heads.{cie_or, heads_rise, one_among}}, RowLookup.{Runs, runs_so}, StandChanges.unanswered, table.Table.go_on.Goals.After-are_bytes-2}
 use Rattle.dw_section.proofs.table.Table.go_on.Goals as goal
 
 module _ (c : After-are_bytes-2) where
@@ -45,7 +45,7 @@ pub invariant_of-changes : goal.invariant_of-changes
 invariant_of-changes c =
     let w = (goal.at.invariant_of-changes c).After-are_bytes-2 in
     record {
-      no_fault = ap (λ (o : Outcome). o.fault) (ran w c.go_to.new.self.steps.outcome c.go_to.ensures.runs);
+      no_fault = unanswered c.go_to.new.self.steps (ap (λ (x : Stepping). x.error) c.go_to.ensures.steps) ∙ ap (λ (o : Outcome). o.fault) (ran w c.go_to.new.self.steps.outcome c.go_to.ensures.runs);
       headers = c.changes.invariant.headers;
       are = c.changes.invariant.are;
       led = rw c.go_to.ensures.led (c.lead.ensures.led c.changes.invariant.headers (among w) c.changes.invariant.led);
