@@ -1,11 +1,12 @@
-//! The plain section's normal form: into sinks that fail, and of each section that has another byte; and what errors say.
+//! The plain section's normal form: into sinks that fail, on a tape, and of each section that has another byte; a long one; and what
+//! errors say.
 
 use crate::runs::PLAIN;
 use dw_normal::{
     SameError, SinkFault, Tape, Through, Which, WriteError, normalise, normalise_to, same,
 };
 use dw_num::{Code, Order, ReadError, Refusal, Size, Target};
-use std::alloc::Global;
+use std::alloc::{AllocError, Global};
 use std::fmt::Display;
 use std::io::{self, ErrorKind, Write};
 use std::test::Fail;
@@ -100,22 +101,56 @@ fn tells_the_write_that_fails(rt: HostRuntime) -> Result<(), Fail> {
     Ok(())
 }
 
+// Fails unless a section is written on a tape where its normal form just fits, and nothing is where the cap is a byte less.
+fn fits_on_a_tape(alloc: Global, section: &[u8], normal: &[u8]) -> Result<(), Fail> {
+    let cap = LIMIT.min(normal.len() as u64);
+    let mut tape = Tape::new(alloc);
+    let answer = normalise_to(alloc, section, LITTLE, cap, &mut tape);
+    if answer != Ok(cap) || tape.into_bytes().as_slice() != normal {
+        return Err(Fail::new(format_args!("within {cap} bytes: {answer:?}")));
+    }
+    let mut short = Tape::new(alloc);
+    let answer = normalise_to(alloc, section, LITTLE, cap.saturating_sub(1), &mut short);
+    if answer != Err(TOO_LONG) || !short.into_bytes().is_empty() {
+        return Err(Fail::new(format_args!("a byte less than {cap}: {answer:?}")));
+    }
+    Ok(())
+}
+
 #[test]
 fn writes_on_a_tape(rt: HostRuntime) -> Result<(), Fail> {
+    fits_on_a_tape(rt.alloc(), PLAIN, NORMAL)
+}
+
+// Appends an FDE of the CIE at 0 that covers 16 addresses and has no instruction.
+fn push_fde(out: &mut Vec<u8>, begin: u64) -> Result<(), AllocError> {
+    out.extend_from_slice(b"\x14\0\0\0\0\0\0\0")?;
+    out.extend_from_slice(&begin.to_le_bytes())?;
+    out.extend_from_slice(b"\x10\0\0\0\0\0\0\0")
+}
+
+// A CIE whose expression has 1,000 nops, by what stands before and behind them, and 1,000 FDEs.
+fn with_nops(alloc: Global, front: &[u8], behind: &[u8]) -> Result<Vec<u8>, AllocError> {
+    let mut out = Vec::from_slice(alloc, front)?;
+    out.extend_from_slice(&[0x96; 1000])?;
+    out.extend_from_slice(behind)?;
+    for i in 0..1000u64 {
+        push_fde(&mut out, 0x1000 + 16 * i)?;
+    }
+    Ok(out)
+}
+
+// The rule of r16 stands before the expression of r3 there, and behind it in the normal form.
+#[test]
+fn writes_a_long_expression_on_a_tape(rt: HostRuntime) -> Result<(), Fail> {
     let alloc = rt.alloc();
-    let mut tape = Tape::new(alloc);
-    assert_eq!(rt;
-        normalise_to(alloc, PLAIN, LITTLE, LIMIT, &mut tape),
-        Ok(64)
-    );
-    assert!(rt; tape.into_bytes().as_slice() == NORMAL);
-    let mut short = Tape::new(alloc);
-    assert_eq!(rt;
-        normalise_to(alloc, PLAIN, LITTLE, 63, &mut short),
-        Err(TOO_LONG)
-    );
-    assert!(rt; short.into_bytes().is_empty());
-    Ok(())
+    let front = b"\xfc\x03\0\0\xff\xff\xff\xff\x04\0\x08\0\x01\x78\x10\x0c\x07\x08\x90\x01\x10\x03\xe8\x07";
+    let normal_front =
+        b"\xfc\x03\0\0\xff\xff\xff\xff\x04\0\x08\0\x01\x7f\x10\x0c\x07\x08\x10\x03\xe8\x07";
+    let section = with_nops(alloc, front, b"")?;
+    let normal = with_nops(alloc, normal_front, b"\x90\x08")?;
+    assert_eq!(rt; (section.len(), normal.len()), (25_024, 25_024));
+    fits_on_a_tape(alloc, &section, &normal)
 }
 
 // Whether a section is refused at a place in it or at its end, or has a normal form, which is its own normal form and says the

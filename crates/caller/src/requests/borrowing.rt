@@ -2,6 +2,7 @@
 
 use super::answers::{say, taken};
 use crate::cfa::TARGET;
+use dw_num::{Order, Size, Target};
 use dw_op::ExprRef;
 use std::hash::{DefaultHasher, Hash, Hasher};
 
@@ -13,6 +14,18 @@ const BLOCKS: &[&[u8]] = &[
     b"\x12",
     b"\x2f\x01\x00\x08\x05",
     b"\x9f",
+];
+
+// Targets of another byte order, and of another size.
+const OTHERS: &[Target] = &[
+    Target {
+        size: Size::Eight,
+        order: Order::Big,
+    },
+    Target {
+        size: Size::Four,
+        order: Order::Little,
+    },
 ];
 
 fn hash_of(expression: &ExprRef<'_>) -> u64 {
@@ -27,15 +40,15 @@ fn print_pair(rt: &HostRuntime, first: &ExprRef<'_>, second: &ExprRef<'_>) {
     say(rt, &(equal, alike, first.least_len(), second.least_len()));
 }
 
-fn beside(rt: &HostRuntime, first: &ExprRef<'_>, block: &[u8]) {
-    if let Some(second) = taken(rt, ExprRef::accept(block, TARGET)) {
+fn beside(rt: &HostRuntime, first: &ExprRef<'_>, block: &[u8], target: Target) {
+    if let Some(second) = taken(rt, ExprRef::accept(block, target)) {
         print_pair(rt, first, &second);
     }
 }
 
 fn beside_each(rt: &HostRuntime, first: &ExprRef<'_>) {
     for block in BLOCKS {
-        beside(rt, first, block);
+        beside(rt, first, block, TARGET);
     }
 }
 
@@ -45,9 +58,19 @@ fn on_block(rt: &HostRuntime, block: &[u8]) {
     }
 }
 
-/// Accepts each block, and compares and hashes it and each other.
+// Equal bytes of two targets, whose operands are of one byte each.
+fn on_others(rt: &HostRuntime, block: &[u8]) {
+    if let Some(first) = taken(rt, ExprRef::accept(block, TARGET)) {
+        for target in OTHERS {
+            beside(rt, &first, block, *target);
+        }
+    }
+}
+
+/// Accepts each block, and compares and hashes it and each other, and itself for other targets.
 pub fn all(rt: &HostRuntime) {
     for block in BLOCKS {
         on_block(rt, block);
     }
+    on_others(rt, b"\x77\x08\x06");
 }
