@@ -1,126 +1,257 @@
 #!/usr/bin/env python3
-"""Proves and builds a crate, and first those below it of which nothing is built, or something older than what it rests on:
+"""Proves and builds a crate, and first those below it of which nothing is built, or something
+older than what it rests on:
 
     build.py CRATE
+    build.py --clear        before the gate: removes the programs, and each library that is not
+                            fresh, for `rt ci` leaves those that it finds in place of its own
 
-Each crate is proved from its text and the statements of those below it, as `rt ci` does, and what is made stands where `rt ci` leaves it, so
-behind the gate nothing is proved again. `rt lib` and `rt run` first read all sources, and then load the proofs of the crates below.
+Each crate is proved from its text and the statements of those below it, as `rt ci` does, and what
+is made stands where `rt ci` leaves it, so behind the gate nothing is proved again. `rt lib` and
+`rt run` first read all sources, and then load the proofs of the crates below. A crate that is
+proved stays so where the run is stopped, and the next run goes on behind it.
 """
 import fcntl
+import hashlib
 import os
+import re
 import shutil
+import signal
 import subprocess
 import sys
-import threading
 import time
-from concurrent.futures import ThreadPoolExecutor
+from concurrent.futures import FIRST_COMPLETED, ThreadPoolExecutor, wait
 from pathlib import Path
 
-ROOT = Path(__file__).resolve().parent.parent
+from crates import CRATES_TXT, ROOT, crates_below, read_crates, toolchain
+from processes import Processes
+from schedule import next_starts
 
-
-def said_by(*command):
-    return subprocess.run(command, check=True, stdout=subprocess.PIPE, text=True).stdout.strip()
-
-
-KIT = Path(said_by("rt", "doc")).parent
-TOOLCHAIN = ["--toolchain", KIT / "toolchain"]
-
-
-class Crate:
-    """A line of crates.txt: a crate, and the libraries of the repository and of the toolchain that it uses."""
-
-    def __init__(self, line):
-        head, _, uses = line.partition(":")
-        self.name, *kind = head.split()
-        self.uses = ["std", *uses.split()]
-        self.folder = ROOT / "crates" / self.name
-        self.is_static = kind == ["staticlib"]
-        self.is_program = (self.folder / "src/main.rt").exists()
-        self.is_library = not self.is_static and not self.is_program
-        place = f"rlib/{self.name}.rlib" if self.is_library else f"lib{self.name}.a" if self.is_static else self.name
-        self.made = self.folder / "out" / place
-        # The file whose time is that of what is made.
-        self.mark = self.made / "format" if self.is_library else self.made
-
-    def is_fresh(self, below):
-        """Whether what is made is no older than the crate's text and what is made of those below it."""
-        texts = [it for part in ("src", "specs", "proofs") for it in (self.folder / part).rglob("*")]
-        times = [it.stat().st_mtime_ns for it in (ROOT / "crates.txt", *texts, *(it.mark for it in below))]
-        return self.mark.exists() and max(times) <= self.mark.stat().st_mtime_ns
-
-    def arguments(self, below):
-        """What rattle is told."""
-        made = {it.name: it.made for it in below}
-        uses = [("--extern", f"{name}={made.get(name, KIT / f'rlibs/{name}.rlib')}") for name in self.uses]
-        places = [("-L", f"dependency={folder}") for folder in (KIT / "rlibs", *(it.made.parent for it in below))]
-        logic = ["--antt-project", KIT / "rattle/logic/antt-project.json", "--logic-built", KIT / "logic_built"]
-        common = ["--crate-name", self.name, "--jobs", "1", *logic, *(word for pair in uses + places for word in pair)]
-        if self.is_program:
-            return ["src/main.rt", *common, *TOOLCHAIN, "-o", f"{self.made}.o"]
-        kind = ["--crate-type", "staticlib", *TOOLCHAIN] if self.is_static else ["--statements"]
-        return ["src/lib.rt", *common, *kind, "-o", self.made]
-
-    def commands(self, below):
-        yield [KIT / "bin/rattle", "build", *self.arguments(below)]
-        if self.is_program:
-            of_c = [KIT / "c/libos_c.a", KIT / "c/liblibc_c.a"]
-            yield [KIT / "bin/rattle-link", "--target", "x86_64-unknown-linux-gnu", *TOOLCHAIN, "-o", self.made, f"{self.made}.o", *of_c]
-
-    def build(self, below, began):
-        """Returns whether the crate is proved and built."""
-        if self.is_library:
-            # rt may have these files under another name as well, so none may be written over. Its stamp goes with them.
-            shutil.rmtree(self.made.parent, ignore_errors=True)
-        self.made.parent.mkdir(parents=True, exist_ok=True)
-        for command in self.commands(below):
-            ran = subprocess.run(command, cwd=self.folder, stdout=subprocess.PIPE, stderr=subprocess.STDOUT, text=True, errors="replace")
-            if ran.returncode:
-                say(*(line for line in ran.stdout.splitlines() if "error" in line), f"{self.name} is not proved")
-                return False
-        # A text that has changed since is newer.
-        os.utime(self.mark, ns=(began, began))
-        say(f"{self.name} is proved")
-        return True
+# A crate that is not urgent takes the processors that the others leave.
+NICE = ["nice", "-n", "5"]
+# So many errors of a crate are told.
+MOST_ERRORS = 20
 
 
 def say(*lines):
     print(*lines, sep="\n", file=sys.stderr, flush=True)
 
 
-def crates_below(name, crates):
-    """The crates that a crate rests on, lowest first."""
-    used = set(crates[name].uses)
-    for it in reversed(crates.values()):
-        used.update(it.uses if it.name in used else ())
-    return [it for it in crates.values() if it.name in used]
+class Product:
+    """What is made of a crate, over what is made of those below it."""
+
+    def __init__(self, crate, below):
+        self.crate, self.below, self.name = crate, below, crate.name
+        self.out = crate.folder / "out"
+        if crate.is_library:
+            self.made = self.out / f"rlib/{crate.name}.rlib"
+        else:
+            self.made = self.out / (f"lib{crate.name}.a" if crate.is_static else crate.name)
+        # The file whose time is that of what is made.
+        self.mark = self.made / "format" if crate.is_library else self.made
+        # A crate is made here first, so that what stands at its place is whole.
+        self.room = self.out / "room"
+        sources = (it for it in crate.texts("src") if it.suffix == ".rt")
+        self.lines = sum(len(it.read_bytes().splitlines()) for it in sources)
+
+    def is_fresh(self):
+        """Whether what is made is the prover's, and no older than the crate's text and what is made
+        of those below it."""
+        if not self.mark.exists() or not all(it.mark.exists() for it in self.below):
+            return False
+        texts = [CRATES_TXT, *self.crate.texts("src", "specs", "proofs")]
+        newest = max(it.stat().st_mtime_ns for it in [*texts, *(it.mark for it in self.below)])
+        is_new = newest <= self.mark.stat().st_mtime_ns
+        return is_new and (self.crate.is_library or is_recorded(self.made))
+
+    def put(self, began):
+        """Puts what was made in the room at its place. A text that has changed since is newer."""
+        if self.crate.is_library:
+            # Files of rt's may be the same under other names, so none is written over. Its stamp
+            # goes with them.
+            made = self.room / self.made.name / "format"
+            os.utime(made, ns=(began, began))
+            shutil.rmtree(self.made.parent, ignore_errors=True)
+            os.rename(self.room, self.made.parent)
+            return
+        for made in self.room.iterdir():
+            os.utime(made, ns=(began, began))
+            record_of(self.out / made.name).write_text(checksum(made, made.name))
+            os.replace(made, self.out / made.name)
+
+
+def record_of(made):
+    """The file that has the checksum of a proved program or library, as `sha256sum` writes it."""
+    return made.with_name(f"{made.name}.proved")
+
+
+def checksum(path, name):
+    return f"{hashlib.sha256(path.read_bytes()).hexdigest()}  {name}\n"
+
+
+def is_recorded(made):
+    record = record_of(made)
+    return record.exists() and record.read_text() == checksum(made, made.name)
+
+
+def is_proved(made):
+    """Whether a program or static library is proved, whatever is left of what it was made of."""
+    return subprocess.run(["sh", ROOT / "checks/proved.sh", made]).returncode == 0
+
+
+class Prover:
+    """The toolchain's prover, which makes the products."""
+
+    def __init__(self, products, processes):
+        self.products, self.processes, self.kit = products, processes, toolchain()
+        self.target = ["--toolchain", self.kit / "toolchain"]
+
+    def arguments(self, product, jobs):
+        """What rattle is told."""
+        crate, made = product.crate, {it.name: it.made for it in product.below}
+        words = ["--crate-name", crate.name, "--jobs", str(jobs)]
+        words += ["--antt-project", self.kit / "rattle/logic/antt-project.json"]
+        words += ["--logic-built", self.kit / "logic_built"]
+        for name in crate.uses:
+            words += ["--extern", f"{name}={made.get(name, self.kit / f'rlibs/{name}.rlib')}"]
+        for folder in (self.kit / "rlibs", *(it.parent for it in made.values())):
+            words += ["-L", f"dependency={folder}"]
+        to = product.room / product.made.name
+        if crate.is_program:
+            return ["src/main.rt", *words, *self.target, "-o", f"{to}.o"]
+        kind = ["--crate-type", "staticlib", *self.target] if crate.is_static else ["--statements"]
+        return ["src/lib.rt", *words, *kind, "-o", to]
+
+    def commands(self, product, jobs):
+        nice = [] if jobs > 1 else NICE
+        yield [*nice, self.kit / "bin/rattle", "build", *self.arguments(product, jobs)]
+        if product.crate.is_program:
+            to = product.room / product.made.name
+            linker = [self.kit / "bin/rattle-link", "--target", "x86_64-unknown-linux-gnu"]
+            of_c = [self.kit / "c/libos_c.a", self.kit / "c/liblibc_c.a"]
+            yield [*linker, *self.target, "-o", to, f"{to}.o", *of_c]
+
+    def build(self, product, jobs, began):
+        """Returns whether the crate is proved and built, by so many copies of the prover."""
+        shutil.rmtree(product.room, ignore_errors=True)
+        product.room.mkdir(parents=True)
+        for command in self.commands(product, jobs):
+            status, said = self.processes.run(command, cwd=product.crate.folder)
+            if self.processes.is_stopped:
+                return False
+            if status == -signal.SIGKILL:
+                say("the prover was killed, most likely for want of memory")
+            if status:
+                say(*errors_in(said, product.crate), f"{product.name} is not proved")
+                return False
+        product.put(began)
+        return True
+
+
+def errors_in(said, crate):
+    """The errors in what the prover said of a crate, with the files named from the top."""
+    place = rf"^(\./)?(?=(src|specs|proofs)/\S+:\d)"
+    lines = [it for it in said.splitlines() if "error" in it] or said.splitlines()[-1:]
+    return [re.sub(place, f"crates/{crate.name}/", it) for it in lines[:MOST_ERRORS]]
+
+
+class Build:
+    """A run that proves what is not fresh of a crate and those below it."""
+
+    def __init__(self, products):
+        self.began, self.products, self.processes = time.time_ns(), products, Processes()
+        self.prover = Prover(products, self.processes)
+        self.proved, self.failed, self.running = set(), set(), {}
+        for product in products.values():
+            if self.proved.issuperset(it.name for it in product.below) and product.is_fresh():
+                self.proved.add(product.name)
+
+    def start(self, pool, processors):
+        sizes = {name: it.lines for name, it in self.products.items() if name not in self.proved}
+        below = {name: [it.name for it in self.products[name].below] for name in sizes}
+        running = set(self.running.values())
+        starts = next_starts(sizes, below, processors, self.proved, running, self.failed)
+        for name, jobs in starts.items():
+            product = self.products[name]
+            self.running[pool.submit(self.prover.build, product, jobs, self.began)] = name
+
+    def end(self, future):
+        name = self.running.pop(future)
+        if not future.result():
+            self.failed.add(name)
+            return
+        self.proved.add(name)
+        spent = duration((time.time_ns() - self.began) / 1e9)
+        say(f"{name} is proved ({len(self.proved)} of {len(self.products)}, {spent})")
+
+    def run(self):
+        """Returns whether all is proved. Where a proof fails those beside it go on to their end."""
+        processors = int(subprocess.check_output(["sh", ROOT / "checks/jobs.sh"]))
+        if self.proved and len(self.proved) < len(self.products):
+            say(f"{len(self.proved)} of {len(self.products)} crates are proved already")
+        with ThreadPoolExecutor(len(self.products)) as pool:
+            self.start(pool, processors)
+            while self.running:
+                for future in wait(self.running, return_when=FIRST_COMPLETED).done:
+                    self.end(future)
+                self.start(pool, processors)
+        return not self.failed
+
+
+def duration(seconds):
+    return f"{seconds:.0f} seconds" if seconds < 90 else f"{seconds / 60:.0f} minutes"
+
+
+def all_products():
+    crates, products = read_crates(), {}
+    for crate in crates.values():
+        below = [products[it.name] for it in crates_below(crate.name, crates)]
+        products[crate.name] = Product(crate, below)
+    return products
+
+
+def products_of(top):
+    """A crate and those below it, lowest first."""
+    products = all_products()
+    if top not in products:
+        sys.exit(f"build: crates.txt has no crate {top}")
+    return {it.name: it for it in [*products[top].below, products[top]]}
+
+
+def clear():
+    for product in all_products().values():
+        if product.crate.is_library and not product.is_fresh():
+            shutil.rmtree(product.made.parent, ignore_errors=True)
+        elif not product.crate.is_library:
+            product.made.unlink(missing_ok=True)
+
+
+def wait_for_others(lock):
+    try:
+        fcntl.flock(lock, fcntl.LOCK_EX | fcntl.LOCK_NB)
+    except BlockingIOError:
+        say("another run proves crates of this tree, and goes first")
+        fcntl.flock(lock, fcntl.LOCK_EX)
 
 
 def main(top):
-    crates_txt = open(ROOT / "crates.txt")
     # One run at a time works in a tree.
-    fcntl.flock(crates_txt, fcntl.LOCK_EX)
-    began = time.time_ns()
-    crates = {it.name: it for it in (Crate(line) for line in crates_txt.read().splitlines() if line and line[0] != "#")}
-    room = threading.Semaphore(int(said_by("sh", ROOT / "checks/jobs.sh")))
-    done = {}
-
-    def work(crate):
-        """Whether the crate is built, once those below it are."""
-        below = crates_below(crate.name, crates)
-        if not all(done[it.name].result() for it in below):
-            return False
-        with room:
-            return crate.is_fresh(below) or crate.build(below, began)
-
-    wanted = [*crates_below(top, crates), crates[top]]
-    with ThreadPoolExecutor(len(wanted)) as pool:
-        for crate in wanted:
-            done[crate.name] = pool.submit(work, crate)
-    if not done[top].result():
-        return 1
-    os.utime(crates[top].mark, ns=(began, began))
+    with open(CRATES_TXT) as lock:
+        wait_for_others(lock)
+        if top == "--clear":
+            clear()
+            return 0
+        products = products_of(top)
+        product = products[top]
+        if product.crate.is_library or not is_proved(product.made):
+            build = Build(products)
+            if not build.run():
+                return 1
+            # No text of any crate that has not changed since is newer.
+            os.utime(product.mark, ns=(build.began, build.began))
+    say(f"{product.made.relative_to(ROOT)} is proved and built")
     return 0
 
 
-sys.exit(main(*sys.argv[1:]))
+if __name__ == "__main__":
+    sys.exit(main(*sys.argv[1:]))
