@@ -59,13 +59,8 @@ echo "scripts: as many proofs side by side as a container may run"
 # ---- a copy of the repository, with what is built, and an rt that proves nothing
 
 mkdir "$copy"
-tar -C "$root" --exclude-vcs --exclude=./crates/*/out --exclude=./bench/out --exclude=./bindings/rust/target -cf - . | tar -C "$copy" -xf -
-for program in dwframe caller; do
-    [ -x "$root/crates/$program/out/$program" ] || continue
-    mkdir "$copy/crates/$program/out"
-    cp "$root/crates/$program/out/$program" "$copy/crates/$program/out/"
-done
-[ ! -f "$root/libdwframe.a" ] || touch "$copy/libdwframe.a"
+tar -C "$root" --exclude-vcs --exclude=./crates/*/out --exclude=./bench/out --exclude=./edition/out \
+    --exclude=./bindings/rust/target --exclude=./out -cf - . | tar -C "$copy" -xf -
 real=$(command -v rt) || real=false
 cat >"$folder/tools/rt" <<SCRIPT
 #!/bin/bash
@@ -110,6 +105,13 @@ echo "scripts: ./check ends what it started"
 
 # ---- the scripts and checks in that copy
 
+for program in dwframe caller; do
+    [ -x "$root/crates/$program/out/$program" ] || continue
+    mkdir -p "$copy/crates/$program/out"
+    cp "$root/crates/$program/out/$program"* "$copy/crates/$program/out/"
+done
+[ ! -f "$root/libdwframe.a" ] || touch "$copy/libdwframe.a"
+
 # in_copy COMMAND..: runs it in the copy, where no proof may be asked for.
 in_copy() {
     (cd "$copy" && PATH=$folder/tools:$PATH "$@") >"$folder/told" 2>&1 || { cat "$folder/told"; fail "$* fails in $copy"; }
@@ -138,7 +140,8 @@ else
     echo "scripts: what links libdwframe.a is left out, for it is not built"
 fi
 if command -v shellcheck >/dev/null; then
-    (cd "$root" && shellcheck check dwframe install library section .ci/run checks/*.sh examples/make.sh completions/dwframe.bash) || fail "shellcheck has something to say"
+    (cd "$root" && shellcheck check dwframe install library prove release section .ci/run checks/*.sh \
+        examples/make.sh completions/dwframe.bash) || fail "shellcheck has something to say"
 else
     echo "scripts: there is no shellcheck"
 fi
