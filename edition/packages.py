@@ -5,6 +5,9 @@ from translate import Translation
 
 HERE = Path(__file__).resolve().parent
 PROGRAM, LIBRARY = "dwframe", "dw_library"
+LICENCES = ("LICENSE-APACHE", "LICENSE-MIT")
+# The sections of `examples/` that the package's tests and documentation read.
+SECTIONS = ("big-endian.bin", "plain.bin", "rules.bin", "scrambled.bin")
 
 PROVED_HEAD = """\
 //! The text that is proved, a module for each crate of dwframe, and `support`, on which it stands.
@@ -91,6 +94,10 @@ def write_package(checkout, out):
     package, proved, head = Package(out), Path("src/proved"), PROVED_HEAD
     package.put_all(HERE / "package")
     package.put_all(HERE / "support", proved / "support")
+    for name in LICENCES:
+        package.put(name, (checkout.folder / name).read_bytes())
+    for name in SECTIONS:
+        package.put(f"tests/data/{name}", (checkout.folder / "examples" / name).read_bytes())
     for name, cfg in checkout.modules():
         module = "program" if name == PROGRAM else name
         is_test = cfg is not None and "test" in cfg
