@@ -3,10 +3,13 @@
 
     build.py command    the program, unproved: dwframe
     build.py library    the library for C, unproved: libdwframe.a
-    build.py package    only writes the package, of the name `dwframe`
+    build.py checked    the program with tests of overflow and of `debug_assert!`
+    build.py package    no more than the text of the package `dwframe`
+    build.py crates     the packages of Debian that have the crates; 1 where they are not here
 
 It needs cargo, and crates: Debian's where all are installed, else those of crates.io.
 """
+import os
 import re
 import shutil
 import subprocess
@@ -19,6 +22,7 @@ from translate import Refusal
 
 OUT = HERE / "out"
 CALLS = OUT / "calls"
+TARGET = OUT / "target"
 DEBIAN = Path("/usr/share/cargo/registry")
 CALL = re.compile(r'extern "C" fn (\w+)')
 # Cargo takes crates from Debian's folder in place of crates.io.
@@ -31,27 +35,34 @@ FROM_DEBIAN = [
 ]
 
 
-def dependencies(manifest):
-    """The names of the crates that a manifest asks for, one a line of its table."""
-    table = re.search(r"(?ms)^\[dependencies\]\n(.*?)(?=^\[|\Z)", manifest.read_text())[1]
+def dependencies():
+    """The names of the crates that the package asks for, one a line of its manifest."""
+    manifest = (OUT / "Cargo.toml").read_text()
+    table = re.search(r"(?ms)^\[dependencies\]\n(.*?)(?=^\[|\Z)", manifest)[1]
     return re.findall(r"(?m)^([\w-]+) *=", table)
+
+
+def debian_packages():
+    return [f"librust-{name}-dev" for name in dependencies()]
+
+
+def is_resolved(words):
+    """Whether cargo has all crates here, without the network."""
+    command = ["cargo", "metadata", "--quiet", "--format-version=1", *words]
+    offline = {**os.environ, "CARGO_NET_OFFLINE": "true"}
+    quiet = {"stdout": subprocess.DEVNULL, "stderr": subprocess.DEVNULL}
+    ran = subprocess.run(command, cwd=OUT, env=offline, **quiet)
+    return ran.returncode == 0
 
 
 def crates_from():
     """The words for cargo that say where crates are."""
-    names = dependencies(OUT / "Cargo.toml")
-    if not all(any(DEBIAN.glob(f"{name}-[0-9]*")) for name in names):
+    if not all(any(DEBIAN.glob(f"{name}-[0-9]*")) for name in dependencies()):
         return []
     # What was locked may have been other versions.
     for folder in (OUT, CALLS):
         (folder / "Cargo.lock").unlink(missing_ok=True)
-    resolved = ["cargo", "generate-lockfile", "--quiet", *FROM_DEBIAN]
-    ran = subprocess.run(resolved, cwd=OUT, stdout=subprocess.DEVNULL, stderr=subprocess.DEVNULL)
-    return [] if ran.returncode else FROM_DEBIAN
-
-
-def needed_version():
-    return re.search(r'(?m)^rust-version = "([\d.]+)"', (OUT / "Cargo.toml").read_text())[1]
+    return FROM_DEBIAN if is_resolved(FROM_DEBIAN) else []
 
 
 def numbers(version):
@@ -59,40 +70,54 @@ def numbers(version):
 
 
 def require_cargo():
-    """Says in a sentence what is missing, and ends."""
+    """Ends in a sentence that says what is missing."""
     if not shutil.which("cargo"):
         sys.exit("edition: cargo is not on the path; it comes with Rust (https://rustup.rs)")
     said = subprocess.run(["cargo", "--version"], stdout=subprocess.PIPE, text=True).stdout
-    found, needed = re.search(r"[\d.]+", said)[0], needed_version()
+    found = re.search(r"[\d.]+", said)[0]
+    needed = re.search(r'(?m)^rust-version = "([\d.]+)"', (OUT / "Cargo.toml").read_text())[1]
     if numbers(found) < numbers(needed):
         sys.exit(f"edition: this is cargo {found}, and {needed} or later is needed")
 
 
-def cargo_build(folder, *words):
-    """Builds a package, or says why not, and ends."""
+def build(folder, *words, target=TARGET):
+    """Builds a package, or ends in a sentence that says why not."""
     require_cargo()
-    source = crates_from()
-    command = ["cargo", "build", "--release", *source, "--target-dir", OUT / "target", *words]
+    crates = crates_from()
+    command = ["cargo", "build", "--release", *crates, "--target-dir", target, *words]
     # What cargo prints is progress.
-    ran = subprocess.run(command, cwd=folder, stdout=sys.stderr)
-    if ran.returncode:
-        hint = "" if source else ", or could not fetch the crates; `apt-get install " + " ".join(
-            f"librust-{name}-dev" for name in dependencies(OUT / "Cargo.toml")
-        ) + "` brings those of Debian"
-        sys.exit(f"edition: cargo could not build it{hint}")
+    if subprocess.run(command, cwd=folder, stdout=sys.stderr).returncode:
+        fetch = f"; where crates.io is not reached, `apt-get install {' '.join(debian_packages())}`"
+        sys.exit(f"edition: cargo could not build it{'' if crates else fetch}")
 
 
 def build_command():
-    cargo_build(OUT, "--bin", "dwframe")
-    return OUT / "target/release/dwframe"
+    build(OUT, "--bin", "dwframe")
+    return TARGET / "release/dwframe"
+
+
+def build_checked():
+    """The program with each test that the compiler can build in."""
+    tests = {"overflow-checks": "true", "debug-assertions": "true"}
+    quick = {"lto": '"off"', "codegen-units": "16", "opt-level": "1"}
+    of_profile = (f"profile.release.{key}={value}" for key, value in {**tests, **quick}.items())
+    config = [word for setting in of_profile for word in ("--config", setting)]
+    build(OUT, "--bin", "dwframe", *config, target=OUT / "checked")
+    return OUT / "checked/release/dwframe"
+
+
+def need_crates():
+    """The packages of Debian that have the crates; a status that says whether they are here."""
+    print(" ".join(debian_packages()))
+    sys.exit(0 if shutil.which("cargo") and (is_resolved(crates_from())) else 1)
 
 
 def build_library():
-    cargo_build(CALLS)
-    made, library = OUT / "target/release/libdwframe_c.a", OUT / "libdwframe.a"
+    build(CALLS, "--config", 'build.rustflags=["-Cforce-unwind-tables=yes"]')
+    made, library = TARGET / "release/libdwframe_c.a", OUT / "libdwframe.a"
     # One object whose only global names are the calls, so it stands beside other code of Rust.
     calls = [f"--undefined={name}" for name in CALL.findall((CALLS / "src/calls.rs").read_text())]
-    piece = OUT / "target/dwframe.o"
+    piece = TARGET / "dwframe.o"
     run("ld", "-r", "--gc-sections", *calls, "-o", piece, made)
     run("objcopy", "--strip-debug", "--wildcard", "--keep-global-symbol=dwframe_*", piece)
     library.unlink(missing_ok=True)
@@ -107,17 +132,25 @@ def run(tool, *words):
         sys.exit(f"edition: {tool} failed")
 
 
+MAKES = {
+    "command": build_command,
+    "library": build_library,
+    "checked": build_checked,
+    "package": lambda: OUT,
+    "crates": need_crates,
+}
+
+
 def main():
-    makes = {"command": build_command, "library": build_library, "package": lambda: OUT}
-    if len(sys.argv) != 2 or sys.argv[1] not in makes:
-        sys.exit("usage: build.py command|library|package")
+    if len(sys.argv) != 2 or sys.argv[1] not in MAKES:
+        sys.exit(f"usage: build.py {'|'.join(MAKES)}")
     checkout = Checkout(HERE.parent)
     try:
         write_package(checkout, OUT)
         write_calls(checkout, CALLS)
     except Refusal as refusal:
         sys.exit(f"edition: {refusal}")
-    print(makes[sys.argv[1]]())
+    print(MAKES[sys.argv[1]]())
 
 
 if __name__ == "__main__":
