@@ -253,7 +253,8 @@ def compare_version(tally):
 
 
 def compare_texts(tally):
-    sources = "\n".join(squeezed(path.read_text()) for path in sorted(ROOT.glob("crates/*/src/*.rt")))
+    files = [*ROOT.glob("crates/*/src/*.rt"), *ROOT.glob("edition/package/examples/*.rs")]
+    sources = "\n".join(squeezed(path.read_text()) for path in sorted(files))
     for name in PAGES:
         compare_quotes(name, sources, tally)
     compare_codes(tally)

@@ -1,10 +1,9 @@
 #!/usr/bin/env python3
-"""Compares include/dwframe.h, and what bindings/rust declares, with the exports of crates/dw_library.
+"""Compares include/dwframe.h with the exports of crates/dw_library.
 
-Each call has to have the same name, answer and parameters in all three, and each struct the same fields in the same order, and the size
+Each call has to have the same name, answer and parameters in both, and each struct the same fields in the same order, and the size
 and the places that the header asserts. Each number of the header (statuses, refusals, faults, rules, orders and the like) has to be the
-one of the library's sources, and those that the crate for Rust has have to be the header's, and mean what their names say. A slice of
-Rattle is a pointer and a length in C, and an `alloc` is nothing.
+one of the library's sources. A slice of Rattle is a pointer and a length in C, and an `alloc` is nothing.
 """
 import pathlib
 import re
@@ -14,25 +13,25 @@ ROOT = pathlib.Path(__file__).resolve().parent.parent
 NUMBERS = {"u8": "uint8_t", "u16": "uint16_t", "u32": "uint32_t", "u64": "uint64_t", "usize": "size_t", "i64": "int64_t"}
 # How many bytes each takes, and is aligned to.
 BYTES = {"uint8_t": 1, "uint16_t": 2, "uint32_t": 4, "uint64_t": 8, "size_t": 8, "int64_t": 8}
-# Structs by their names in Rattle, in C and in the crate for Rust.
+# Structs by their names in Rattle and in C.
 STRUCTS = {
-    "Section": ("dwframe_section", "RawSection"),
-    "Refused": ("dwframe_refusal", "RawRefusal"),
-    "Counts": ("dwframe_counts", "RawCounts"),
-    "Stop": ("dwframe_stop", "RawStop"),
-    "Register": ("dwframe_register", "Register"),
-    "Window": ("dwframe_window", "Window"),
-    "Held": ("dwframe_machine", "RawMachine"),
-    "Frame": ("dwframe_frame", "RawFrame"),
-    "Fault": ("dwframe_fault", "RawFault"),
-    "Ranged": ("dwframe_entry", "Entry"),
-    "Rule": ("dwframe_rule", "RawRule"),
-    "Row": ("dwframe_row", "RawRow"),
-    "Block": ("dwframe_block", "RawBlock"),
-    "Blocks": ("dwframe_blocks", "RawBlocks"),
-    "Context": ("dwframe_context", "RawContext"),
-    "Change": ("dwframe_change", "RawChange"),
-    "Totals": ("dwframe_totals", "RawTotals"),
+    "Section": "dwframe_section",
+    "Refused": "dwframe_refusal",
+    "Counts": "dwframe_counts",
+    "Stop": "dwframe_stop",
+    "Register": "dwframe_register",
+    "Window": "dwframe_window",
+    "Held": "dwframe_machine",
+    "Frame": "dwframe_frame",
+    "Fault": "dwframe_fault",
+    "Ranged": "dwframe_entry",
+    "Rule": "dwframe_rule",
+    "Row": "dwframe_row",
+    "Block": "dwframe_block",
+    "Blocks": "dwframe_blocks",
+    "Context": "dwframe_context",
+    "Change": "dwframe_change",
+    "Totals": "dwframe_totals",
 }
 # Numbers that stand in matches of the library: its file, the lines that have them (groups `name` and `number`; without that they
 # are counted from 1), what C's names begin with, and names that C has otherwise.
@@ -49,10 +48,6 @@ NUMBERED = [
 UNNAMED_BYTES = {"dwframe_entry": 2}
 # What a look-up never writes, so the header has no name for it.
 UNNAMED = {"DWFRAME_RULE_UNSPECIFIED": "0", "DWFRAME_CFA_UNSET": "0"}
-# The crate for Rust has the names of its enums in place of these.
-NAMES = {"dwframe_status_name", "dwframe_refusal_name", "dwframe_fault_name"}
-# What no call answers to the crate for Rust, or what the crate tells by no name of its own.
-NOT_IN_RUST = {"DWFRAME_BAD_ARGUMENT", "DWFRAME_DEVICE", "DWFRAME_FAULT_DEVICE", "DWFRAME_RULE_UNDEFINED", "DWFRAME_COLUMN_CFA"}
 
 
 def plain(text):
@@ -68,7 +63,7 @@ def parts(text):
 def in_c(kind):
     """A type of Rattle as C has it."""
     kind = kind.strip()
-    return NUMBERS.get(kind) or STRUCTS[kind][0]
+    return NUMBERS.get(kind) or STRUCTS[kind]
 
 
 def expected(parameter):
@@ -100,47 +95,27 @@ def declared(text):
     return calls
 
 
-def bound(text):
-    """The calls that the crate for Rust declares."""
-    names = {raw: c for c, raw in STRUCTS.values()}
-    calls = {}
-    for name, inside, answer in re.findall(r"fn (dwframe_\w+)\(([^)]*)\) -> (\w+);", text):
-        kinds = []
-        for part in parts(inside):
-            found = re.fullmatch(r"\w+: (?:\*(const|mut) )?(\w+)", part)
-            kind = NUMBERS.get(found[2]) or names[found[2]]
-            kinds.append(f"{'const ' if found[1] == 'const' else ''}{kind} *" if found[1] else kind)
-        calls[name] = (NUMBERS[answer], kinds)
-    return calls
-
-
-# A field's name and its type: a number or a struct, an array of numbers, a slice of Rattle, or a pointer of Rust.
-FIELD = r"(?P<name>\w+): (?:&'a \[(?P<slice>\w+)\]|\*const (?P<pointed>\w+)|\[(?P<item>\w+); (?P<count>\d+)\]|(?P<plain>\w+))"
+# A field's name and its type: a number or a struct, an array of numbers, or a slice.
+FIELD = r"(?P<name>\w+): (?:&'a \[(?P<slice>\w+)\]|\[(?P<item>\w+); (?P<count>\d+)\]|(?P<plain>\w+))"
 # Where a slice is a pointer and a length in a struct, the length's name.
 LENGTHS = {"bytes": "len", "registers": "register_count", "windows": "window_count", "memory": "memory_len"}
 
 
 def fields_of(inside):
-    """The fields of a struct of Rattle or Rust as C has them."""
-    names = {one: c for rattle, (c, raw) in STRUCTS.items() for one in (rattle, raw)}
-
-    def named(kind):
-        return NUMBERS.get(kind) or names[kind]
-
+    """The fields of a struct of Rattle as C has them."""
     for field in re.finditer(FIELD, inside):
-        if kind := field["slice"] or field["pointed"]:
-            yield field["name"], f"const {named(kind)} *"
-            if field["slice"]:
-                yield LENGTHS[field["name"]], "size_t"
+        if field["slice"]:
+            yield field["name"], f"const {in_c(field['slice'])} *"
+            yield LENGTHS[field["name"]], "size_t"
         elif field["item"]:
-            yield field["name"], f"{named(field['item'])}[{field['count']}]"
+            yield field["name"], f"{in_c(field['item'])}[{field['count']}]"
         else:
-            yield field["name"], named(field["plain"])
+            yield field["name"], in_c(field["plain"])
 
 
-def structs(text, word):
+def structs(text):
     found = re.findall(r"#\[repr\(C\)\] (?:#\[[^\]]*\] )*(?:pub(?:\(crate\))? )?struct (\w+)(?:<'a>)? \{(.*?)\}", text)
-    return {name: list(fields_of(inside)) for name, inside in found if word(name)}
+    return {name: list(fields_of(inside)) for name, inside in found if name in STRUCTS}
 
 
 def layout_of(fields, all_fields):
@@ -212,11 +187,11 @@ def header_numbers():
 
 
 def wrong_versions(header):
-    """The version of the header, of the command and of the crate for Rust is one."""
+    """The version of the header, of the command and of the Rust edition is one."""
     told = ".".join(header.pop(f"DWFRAME_VERSION_{part}") for part in ("MAJOR", "MINOR", "PATCH"))
     others = {
         "crates/dw_words/src/help.rt": r'VERSION: &str = "([^"]*)"',
-        "bindings/rust/Cargo.toml": r'version = "([^"]*)"',
+        "edition/package/Cargo.toml": r'version = "([^"]*)"',
     }
     for path, line in others.items():
         own = re.search(line, text_of(path))[1]
@@ -224,7 +199,7 @@ def wrong_versions(header):
             yield f"{path} is of version {own}, and the header of {told}"
 
 
-def wrong_numbers(own, header, rust):
+def wrong_numbers(own, header):
     yield from wrong_versions(header)
     # A refusal's name stands in the library, and its longest has to fit with the zero byte.
     room = header.pop("DWFRAME_NAME_SIZE")
@@ -234,20 +209,6 @@ def wrong_numbers(own, header, rust):
     for name in sorted(own.keys() | header.keys()):
         if own.get(name) != header.get(name):
             yield f"{name} is {own.get(name)}, and in the header {header.get(name)}"
-    in_rust = dict(re.findall(r"const (DWFRAME_\w+): \w+ = (\d+);", rust))
-    wanted = {name: number for name, number in header.items() if name not in NOT_IN_RUST}
-    for name in sorted(wanted.keys() | in_rust.keys()):
-        if wanted.get(name) != in_rust.get(name):
-            yield f"{name} is {in_rust.get(name)} in bindings/rust, and in the header {wanted.get(name)}"
-    # What the crate makes of a number, and which number it makes of a value.
-    read = re.findall(r"DWFRAME_(?:REFUSAL_|FAULT_|RULE_|CFA_)?(\w+) => (?:Failure::Fault\()?\w+::(\w+)", rust)
-    written = [(number, name) for name, number in re.findall(r"(?:Order|Unset)::(\w+) => DWFRAME_(?:UNSET_)?(\w+)", rust)]
-    for number, name in read + written:
-        if in_capitals(name) != number:
-            yield f"bindings/rust takes {number} for {name}"
-    told = len(read) + len(written) + len(["OK", "REFUSED", "NO_VALUE"])
-    if told != len(in_rust):
-        yield f"bindings/rust has {len(in_rust)} numbers, and uses {told}"
 
 
 def main():
@@ -256,20 +217,17 @@ def main():
     sources["indexing.rt"] = text_of("crates/dw_index/src/ranged.rt")
     rattle = " ".join(sources.values())
     header = text_of("include/dwframe.h")
-    rust = " ".join(plain(path.read_text()) for path in sorted((ROOT / "bindings/rust/src").glob("*.rs")))
 
     wrong = []
-    calls = exports(rattle)
-    for place, found in {"dwframe.h": declared(header), "bindings/rust": bound(rust)}.items():
-        left_out = NAMES if place == "bindings/rust" else set()
-        for name in sorted((calls.keys() | found.keys()) - left_out):
-            if calls.get(name) != found.get(name):
-                wrong.append(f"{place}: {name} is {found.get(name)}, and the library has {calls.get(name)}")
-    own, in_header, in_rust = structs(rattle, STRUCTS.get), c_structs(header), structs(rust, bool)
-    for name, (c, raw) in STRUCTS.items():
-        if not own.get(name) == in_header.get(c) == in_rust.get(raw):
-            wrong.append(f"struct {c}: {own.get(name)}, {in_header.get(c)} and {in_rust.get(raw)}")
-    fields = {c: own[name] for name, (c, _) in STRUCTS.items() if name in own}
+    calls, in_c_too = exports(rattle), declared(header)
+    for name in sorted(calls.keys() | in_c_too.keys()):
+        if calls.get(name) != in_c_too.get(name):
+            wrong.append(f"dwframe.h: {name} is {in_c_too.get(name)}, and the library has {calls.get(name)}")
+    own, in_header = structs(rattle), c_structs(header)
+    for name, c in STRUCTS.items():
+        if own.get(name) != in_header.get(c):
+            wrong.append(f"struct {c}: {own.get(name)} and {in_header.get(c)}")
+    fields = {c: own[name] for name, c in STRUCTS.items() if name in own}
     layouts = {c: layout_of(of, fields) for c, of in fields.items()}
     wanted = {c: (size, {name: place for name, place in places.items() if place}) for c, (size, _, places, _) in layouts.items()}
     told = asserted(header)
@@ -277,10 +235,10 @@ def main():
     unnamed = {c: count for c, (_, _, _, count) in layouts.items() if count}
     if unnamed != UNNAMED_BYTES:
         wrong.append(f"bytes without a name: {unnamed}, and not {UNNAMED_BYTES}")
-    if len(own) != len(in_header) or len(own) != len(in_rust):
-        wrong.append("one of the three has a struct that is not compared")
+    if len(own) != len(in_header):
+        wrong.append("one of the two has a struct that is not compared")
     numbers = own_numbers(rattle)
-    wrong += wrong_numbers(numbers, header_numbers(), rust)
+    wrong += wrong_numbers(numbers, header_numbers())
     print("\n".join(wrong) or f"header: {len(calls)} calls, {len(own)} structs and {len(numbers)} numbers as in the library")
     return 1 if wrong else 0
 

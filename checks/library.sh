@@ -1,6 +1,6 @@
 #!/bin/bash
-# Builds the library for C and its examples in C and Rust, and compares what they print with the command, on the sections of the
-# examples, on made ones, and on those of the folders that are named:
+# Builds the library for C and its examples, and compares what they print with the command, on the sections of the examples, on made
+# ones, and on those of the folders that are named:
 #
 #     library.sh [FOLDER]..
 #
@@ -51,26 +51,9 @@ built() {
     names+=("$name")
 }
 
-# built_in_rust NAME FOLDER: the same by cargo, with the libdwframe.a of a folder.
-built_in_rust() {
-    (cd "$root/bindings/rust" && DWFRAME_LIB=$2 cargo build --quiet --offline --release --examples --target-dir "$folder/target-$1")
-    for example in library frames lookup; do cp "target-$1/release/examples/$example" "$example-$1"; done
-    names+=("$1")
-}
-
 built gcc gcc
 built sanitized gcc "${sanitize[@]}"
 if has clang; then built clang clang; else echo "library by clang: $without"; fi
-mkdir lent refusing
-cp "$library" lent/libdwframe.a
-if has cargo; then
-    built_in_rust rust "$folder/lent"
-    (cd "$root/bindings/rust" && DWFRAME_LIB="$folder/lent" cargo test --quiet --offline --all-features --target-dir "$folder/target-rust" >"$folder/tested") || { cat tested; exit 1; }
-    walked=$(target-rust/release/examples/walk "$root/examples/plain.bin")
-    [ "$walked" = "0 callers, 1 reads" ] || { echo "library: walk says $walked"; exit 1; }
-else
-    echo "library by rustc: $without"
-fi
 for compiler in g++ clang++; do
     if has $compiler; then
         $compiler -std=c++11 -Wall -Wextra -Werror -pedantic -I"$root/include" -o "header-$compiler" "$root/checks/header.cpp" "$library"
@@ -171,7 +154,7 @@ for size in 4 8; do
         echo "library: size $size, $order: $(grep -c "^$size $order " all) sections, ${frames[$size,$order]} frames"
     done
 done
-echo "library: the rows of $looked sections by one call for each FDE, or by a look-up of each address (in Rust), by ${names[*]}"
+echo "library: the rows of $looked sections by one call for each FDE, by ${names[*]}"
 echo "library: $compared answers as the command's"
 
 # A real program that stopped: the walk of its stack is that of examples/backtrace.py. chain.c knows two processors.
@@ -229,15 +212,6 @@ each_refused() {
 
 names=()
 built refused gcc "${sanitize[@]}" -Wl,--wrap=malloc,--wrap=realloc "$root/checks/refuse_linked.c"
-# The requests of Rust's own library are not refused: those of libdwframe.a have another name.
-if has cargo objcopy; then
-    objcopy --redefine-sym malloc=__wrap_malloc --redefine-sym realloc=__wrap_realloc "$library" refusing/libdwframe.a
-    gcc -O2 -c -D__real_malloc=malloc -D__real_realloc=realloc -o refuse.o "$root/checks/refuse_linked.c"
-    ar q refusing/libdwframe.a refuse.o
-    built_in_rust refused-rust "$folder/refusing"
-else
-    echo "library, requests for memory by rustc: $without"
-fi
 for build in "${names[@]}"; do
     for name in plain rules many big-endian; do
         read -r size order <"$root/examples/$name.target"
@@ -301,30 +275,21 @@ for counts in *.counts; do echo "library: 10000 damaged copies of ${counts%.coun
 # ---- all of it under valgrind
 
 if has valgrind; then
-    # Rust's own library keeps a block to the end.
-    declare -A run=(
-        [gcc]="valgrind --quiet --error-exitcode=99 --leak-check=full --show-leak-kinds=all --errors-for-leak-kinds=all"
-        [rust]="valgrind --quiet --error-exitcode=99 --leak-check=full"
-    )
+    run="valgrind --quiet --error-exitcode=99 --leak-check=full --show-leak-kinds=all --errors-for-leak-kinds=all"
     while read -r size order section; do
         "$program" rows --size "$size" --order "$order" "$section" >rows.txt
         stop=stop-$(basename "$section")
         mkdir "$stop"
         "$root/checks/stops.py" "$size" "$order" rows.txt "$stop" 8
         for dump in "$stop"/*; do ! ./frames-gcc "$size" "$order" "$section" "$dump" >/dev/null 2>&1 || break; done
-        for build in gcc rust; do
-            [ -x "library-$build" ] || continue
-            echo "${run[$build]} ./library-$build normal $size $order ${section@Q} >/dev/null"
-            echo "${run[$build]} ./library-$build same $size $order ${section@Q} ${section@Q} >/dev/null"
-            echo "${run[$build]} ./lookup-$build $size $order ${section@Q} >/dev/null"
-            echo "${run[$build]} ./frames-$build $size $order ${section@Q} ${dump@Q} >/dev/null"
-        done
-        echo "${run[gcc]} ./damage $size $order ${section@Q} 1000 >/dev/null"
-        echo "${run[gcc]} ./refused $size $order ${section@Q} >/dev/null"
+        echo "$run ./library-gcc normal $size $order ${section@Q} >/dev/null"
+        echo "$run ./library-gcc same $size $order ${section@Q} ${section@Q} >/dev/null"
+        echo "$run ./lookup-gcc $size $order ${section@Q} >/dev/null"
+        echo "$run ./frames-gcc $size $order ${section@Q} ${dump@Q} >/dev/null"
+        echo "$run ./damage $size $order ${section@Q} 1000 >/dev/null"
+        echo "$run ./refused $size $order ${section@Q} >/dev/null"
     done <damaged >runs
-    for build in gcc rust; do
-        [ ! -x "frames-$build" ] || [ ${#stopped[@]} -eq 0 ] || echo "${run[$build]} ./frames-$build ${stopped[*]} >/dev/null"
-    done >>runs
+    [ ${#stopped[@]} -eq 0 ] || echo "$run ./frames-gcc ${stopped[*]} >/dev/null" >>runs
     side_by_side <runs
     echo "library: no error and no leak in $(wc -l <runs) runs under valgrind"
 else

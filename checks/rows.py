@@ -1,6 +1,6 @@
 #!/usr/bin/env python3
-"""Compares the rows that examples/lookup.c finds with those that the command prints: by one call for each FDE (in Rust by a look-up of
-each address), and by one call for the addresses of many rows.
+"""Compares the rows that an example finds (examples/lookup.c, or rows of the Rust edition) with those that the command prints: those of
+each FDE, and those at the addresses of many rows.
 
     rows.py LOOKUP SIZE ORDER SECTION ROWS
 

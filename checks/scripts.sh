@@ -60,7 +60,7 @@ echo "scripts: as many proofs side by side as a container may run"
 
 mkdir "$copy"
 tar -C "$root" --exclude-vcs --exclude=./crates/*/out --exclude=./bench/out --exclude=./edition/out \
-    --exclude=./bindings/rust/target --exclude=./out -cf - . | tar -C "$copy" -xf -
+    --exclude=./out -cf - . | tar -C "$copy" -xf -
 real=$(command -v rt) || real=false
 cat >"$folder/tools/rt" <<SCRIPT
 #!/bin/bash

@@ -8,6 +8,7 @@ use dwframe::{
     Frame, Index, Memory, MemoryError, Register, Registers, Section, UnwindOptions, Window,
 };
 use std::error::Error;
+use std::process::ExitCode;
 
 /// A machine that stopped.
 struct Dump {
@@ -68,20 +69,15 @@ fn print(frame: &Frame) {
 
 fn walk(index: &Index, mut dump: Dump, stack_pointer: Register) -> Result<(), Box<dyn Error>> {
     let (mut registers, mut address) = (std::mem::take(&mut dump.registers), dump.pc);
-    let mut last = None;
+    let (mut number, mut last, options) = (0, None, UnwindOptions::default());
     println!("#0 {:#x}", dump.pc);
-    for number in 1.. {
-        let frame = index.unwind(address, &registers, &mut dump, UnwindOptions::default())?;
-        let Some(frame) = frame else {
-            break;
-        };
-        if last.is_some_and(|last| frame.cfa <= last) {
+    while let Some(frame) = index.unwind(address, &registers, &mut dump, options)?
+        && let Some(caller) = frame.return_address()
+    {
+        if last.replace(frame.cfa).is_some_and(|last| frame.cfa <= last) {
             return Err("a frame does not stand above the one before".into());
         }
-        last = Some(frame.cfa);
-        let Some(caller) = frame.return_address() else {
-            break;
-        };
+        number += 1;
         println!("#{number} {caller:#x}");
         // The call is before the return address.
         address = caller.wrapping_sub(1);
@@ -90,9 +86,8 @@ fn walk(index: &Index, mut dump: Dump, stack_pointer: Register) -> Result<(), Bo
     Ok(())
 }
 
-fn main() -> Result<(), Box<dyn Error>> {
-    let words: Vec<String> = std::env::args().skip(1).collect();
-    let (bytes, size, endian) = input::read(&words)?;
+fn run(words: &[String]) -> Result<(), Box<dyn Error>> {
+    let (bytes, size, endian) = input::read(words)?;
     let index = Section::new(&bytes, size, endian).index()?;
     let mut dump = Dump::read(&std::fs::read_to_string(words.get(3).ok_or("a dump")?)?)?;
     if let Some(number) = words.get(4) {
@@ -102,4 +97,9 @@ fn main() -> Result<(), Box<dyn Error>> {
     let frame = index.unwind(dump.pc, &registers, &mut dump, UnwindOptions::default())?;
     print(&frame.ok_or("fault: NoFde")?);
     Ok(())
+}
+
+fn main() -> ExitCode {
+    let words: Vec<String> = std::env::args().skip(1).collect();
+    input::end(run(&words))
 }

@@ -7,6 +7,7 @@ mod input;
 use dwframe::{CfaRule, Index, Register, Section};
 use std::collections::{BTreeMap, HashMap};
 use std::error::Error;
+use std::process::ExitCode;
 use std::thread;
 
 /// How many samples an FDE has: all, and those whose CFA is found by a register.
@@ -57,9 +58,8 @@ fn count_by_threads(index: &Index, samples: &[u64]) -> Result<Counts, dwframe::E
     })
 }
 
-fn main() -> Result<(), Box<dyn Error>> {
-    let words: Vec<String> = std::env::args().skip(1).collect();
-    let (bytes, size, endian) = input::read(&words)?;
+fn run(words: &[String]) -> Result<(), Box<dyn Error>> {
+    let (bytes, size, endian) = input::read(words)?;
     let index = Section::new(&bytes, size, endian).index()?;
     let samples = std::fs::read_to_string(words.get(3).ok_or("a file of samples")?)?;
     let samples = samples.lines().map(input::number).collect::<Result<Vec<u64>, _>>()?;
@@ -71,4 +71,9 @@ fn main() -> Result<(), Box<dyn Error>> {
         println!("{begin:#x} {}{by}", count.all);
     }
     Ok(())
+}
+
+fn main() -> ExitCode {
+    let words: Vec<String> = std::env::args().skip(1).collect();
+    input::end(run(&words))
 }

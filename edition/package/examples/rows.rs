@@ -6,6 +6,7 @@ mod input;
 use dwframe::{CfaRule, RegisterRule, Row, Section, UnwindExpression};
 use std::error::Error;
 use std::fmt::Write;
+use std::process::ExitCode;
 
 fn hex(expression: &UnwindExpression) -> Result<String, dwframe::Error> {
     let block = expression.decode()?.to_bytes()?;
@@ -50,9 +51,8 @@ fn print_all(section: Section) -> Result<(), dwframe::Error> {
     Ok(())
 }
 
-fn main() -> Result<(), Box<dyn Error>> {
-    let words: Vec<String> = std::env::args().skip(1).collect();
-    let (bytes, size, endian) = input::read(&words)?;
+fn run(words: &[String]) -> Result<(), Box<dyn Error>> {
+    let (bytes, size, endian) = input::read(words)?;
     let section = Section::new(&bytes, size, endian);
     if words.len() == 3 {
         return Ok(print_all(section)?);
@@ -65,4 +65,9 @@ fn main() -> Result<(), Box<dyn Error>> {
         }
     }
     Ok(())
+}
+
+fn main() -> ExitCode {
+    let words: Vec<String> = std::env::args().skip(1).collect();
+    input::end(run(&words))
 }

@@ -50,8 +50,17 @@ impl fmt::Display for Error {
             Error::Frame(FrameError::Eval { kind, index, column }) => {
                 write!(f, "fault: {kind} at {index} in {column}")
             }
-            Error::Frame(error) => write!(f, "fault: {error}"),
-            Error::OutOfMemory => write!(f, "out of memory"),
+            Error::Frame(FrameError::Unreadable { column, .. }) => {
+                write!(f, "fault: Unreadable in {column}")
+            }
+            Error::Frame(FrameError::Device { column }) => write!(f, "fault: Device in {column}"),
+            Error::Frame(FrameError::NoRegister { column, .. }) => {
+                write!(f, "fault: NoRegister in {column}")
+            }
+            Error::Frame(FrameError::NoFde) => write!(f, "fault: NoFde"),
+            Error::OutOfMemory | Error::Frame(FrameError::OutOfMemory) => {
+                write!(f, "out of memory")
+            }
         }
     }
 }
