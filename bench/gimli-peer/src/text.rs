@@ -1,49 +1,168 @@
-//! The texts of rules. Numbers are written by hand, since the formatting machinery would take most of the time.
+//! The texts of rules. Numbers are written by hand, since the formatting machinery would take most
+//! of the time.
 
 use crate::section::{refused, Answer, Bytes};
-use gimli::{CfaRule, Encoding, Expression, Operation, Reader, RegisterRule};
+use gimli::{CfaRule, Encoding, Endianity, Expression, Operation, Reader, RegisterRule};
 use std::collections::HashMap;
 
-pub fn put_number(out: &mut String, mut number: u64, base: u64) {
-    let mut digits = [0; 20];
-    let mut first = digits.len();
-    loop {
-        first -= 1;
-        digits[first] = b"0123456789abcdef"[(number % base) as usize];
-        number /= base;
-        if number == 0 {
-            break;
+/// A text that makes room before several writes, each of which then asks for none.
+#[derive(Default)]
+pub struct Text {
+    bytes: Vec<u8>,
+}
+
+/// A rule without an expression, with its register, takes less.
+pub const ROOM: usize = 64;
+
+impl Text {
+    #[inline(always)]
+    pub fn bytes(&self) -> &[u8] {
+        &self.bytes
+    }
+
+    #[inline(always)]
+    pub fn len(&self) -> usize {
+        self.bytes.len()
+    }
+
+    #[inline(always)]
+    pub fn cut(&mut self, length: usize) {
+        self.bytes.truncate(length);
+    }
+
+    #[inline(always)]
+    pub fn reserve(&mut self, more: usize) {
+        self.bytes.reserve(more);
+    }
+
+    /// Writes N bytes, of which the first `length` are kept. There has to be room for all N.
+    #[inline(always)]
+    fn put<const N: usize>(&mut self, text: &[u8; N], length: usize) {
+        let end = self.bytes.len();
+        debug_assert!(length <= N && end + N <= self.bytes.capacity());
+        // SAFETY: callers reserve ROOM for what they write.
+        unsafe {
+            self.bytes
+                .as_mut_ptr()
+                .add(end)
+                .cast::<[u8; N]>()
+                .write_unaligned(*text);
+            self.bytes.set_len(end + length);
         }
     }
-    out.extend(digits[first..].iter().map(|digit| char::from(*digit)));
-}
 
-pub fn put_address(out: &mut String, address: u128) {
-    out.push_str("0x");
-    match u64::try_from(address) {
-        Ok(address) => put_number(out, address, 16),
-        Err(_) => out.push_str("10000000000000000"),
+    #[inline(always)]
+    pub fn word<const N: usize>(&mut self, text: &[u8; N]) {
+        self.put(text, N);
+    }
+
+    /// A text of any length, and room behind it for all rules of a row.
+    pub fn long(&mut self, text: &[u8]) {
+        self.bytes.extend_from_slice(text);
+        self.bytes.reserve(200 * ROOM);
     }
 }
 
-fn put_offset(out: &mut String, offset: i64) {
-    out.push(if offset < 0 { '-' } else { '+' });
-    put_number(out, offset.unsigned_abs(), 10);
+/// A number in decimal digits: most are short.
+#[inline(always)]
+pub fn put_number(out: &mut Text, number: u64) {
+    if number < 100 {
+        let [a, b] = TWO_DIGITS[number as usize];
+        if number < 10 {
+            out.put(&[b], 1);
+        } else {
+            out.put(&[a, b], 2);
+        }
+    } else if number < 1000 {
+        let hundreds = number * 41 >> 12;
+        let [b, c] = TWO_DIGITS[(number - hundreds * 100) as usize];
+        out.put(&[b'0' + hundreds as u8, b, c], 3);
+    } else {
+        put_long_number(out, number);
+    }
 }
 
-pub fn put_register(out: &mut String, register: u16) {
-    out.push('r');
-    put_number(out, register.into(), 10);
+#[inline(never)]
+fn put_long_number(out: &mut Text, mut number: u64) {
+    let mut digits = [0u8; 20];
+    let mut first = digits.len();
+    while number >= 10 {
+        first -= 2;
+        digits[first..first + 2].copy_from_slice(&TWO_DIGITS[(number % 100) as usize]);
+        number /= 100;
+    }
+    if number > 0 {
+        first -= 1;
+        digits[first] = b'0' + number as u8;
+    }
+    for digit in &digits[first..] {
+        out.put(&[*digit], 1);
+    }
 }
 
-/// The operations of an expression, each with its code and the place behind it, and which of them begins at a place.
-struct Operations<'a> {
-    list: Vec<(u8, Operation<Bytes<'a>>, usize)>,
+const TWO_DIGITS: [[u8; 2]; 100] = {
+    let mut table = [[0; 2]; 100];
+    let mut n = 0;
+    while n < 100 {
+        table[n] = [b'0' + (n / 10) as u8, b'0' + (n % 10) as u8];
+        n += 1;
+    }
+    table
+};
+
+const HEX: [[u8; 2]; 256] = {
+    let digits = b"0123456789abcdef";
+    let mut table = [[0; 2]; 256];
+    let mut n = 0;
+    while n < 256 {
+        table[n] = [digits[n >> 4], digits[n & 15]];
+        n += 1;
+    }
+    table
+};
+
+pub fn put_address(out: &mut Text, address: u64) {
+    let digits = (67 - (address | 1).leading_zeros() as usize) / 4;
+    let mut text = *b"0x................";
+    let mut rest = address << ((16 - digits) * 4);
+    let mut at = 2;
+    while at < 2 + digits {
+        text[at..at + 2].copy_from_slice(&HEX[(rest >> 56) as usize]);
+        rest <<= 8;
+        at += 2;
+    }
+    out.put(&text, 2 + digits);
+}
+
+/// The end of a nonempty range, which may be one more than the last address.
+pub fn put_end(out: &mut Text, begin: u64, length: u64) {
+    match begin.checked_add(length) {
+        Some(end) => put_address(out, end),
+        None => out.long(format!("{:#x}", u128::from(begin) + u128::from(length)).as_bytes()),
+    }
+}
+
+#[inline(always)]
+fn put_offset(out: &mut Text, offset: i64) {
+    out.word(&[if offset < 0 { b'-' } else { b'+' }]);
+    put_number(out, offset.unsigned_abs());
+}
+
+#[inline(always)]
+pub fn put_register(out: &mut Text, register: u16) {
+    out.word(&[b'r']);
+    put_number(out, register.into());
+}
+
+/// The operations of an expression, each with its code and the place behind it, and which of them
+/// begins at a place.
+struct Operations<'a, E: Endianity> {
+    list: Vec<(u8, Operation<Bytes<'a, E>>, usize)>,
     at: HashMap<usize, usize>,
 }
 
-impl<'a> Operations<'a> {
-    fn new(bytes: Bytes<'a>, encoding: Encoding) -> Answer<Self> {
+impl<'a, E: Endianity> Operations<'a, E> {
+    fn new(bytes: Bytes<'a, E>, encoding: Encoding) -> Answer<Self> {
         let (mut rest, mut list, mut at) = (bytes, Vec::new(), HashMap::new());
         while !rest.is_empty() {
             let place = bytes.len() - rest.len();
@@ -64,7 +183,7 @@ impl<'a> Operations<'a> {
 }
 
 // The names of operations without operands, as in the table of codes (DWARF 5, 7.7.1).
-fn name(operation: &Operation<Bytes>) -> Option<&'static str> {
+fn name<E: Endianity>(operation: &Operation<Bytes<E>>) -> Option<&'static str> {
     Some(match operation {
         Operation::Drop => "drop",
         Operation::Swap => "swap",
@@ -94,8 +213,12 @@ fn name(operation: &Operation<Bytes>) -> Option<&'static str> {
     })
 }
 
-fn expression_text(expression: &Expression<Bytes>, encoding: Encoding) -> Answer<String> {
-    let operations = Operations::new(expression.0, encoding)?;
+fn expression_text<E: Endianity>(
+    expression: &Expression<Bytes<E>>,
+    encoding: Encoding,
+) -> Answer<String> {
+    let bytes = expression.0;
+    let operations = Operations::new(bytes, encoding)?;
     let mask = u64::MAX >> (64 - 8 * u32::from(encoding.address_size));
     let mut texts = Vec::new();
     for (code, operation, behind) in &operations.list {
@@ -122,38 +245,50 @@ fn expression_text(expression: &Expression<Bytes>, encoding: Encoding) -> Answer
     Ok(format!("expr({})", texts.join("; ")))
 }
 
-pub fn put_cfa(out: &mut String, rule: &CfaRule<Bytes>, encoding: Encoding) -> Answer<()> {
+#[inline(always)]
+pub fn put_cfa<E: Endianity>(
+    out: &mut Text,
+    rule: &CfaRule<Bytes<E>>,
+    encoding: Encoding,
+) -> Answer<()> {
     match rule {
         CfaRule::RegisterAndOffset { register, offset } => {
             put_register(out, register.0);
             put_offset(out, *offset);
         }
-        CfaRule::Expression(expression) => out.push_str(&expression_text(expression, encoding)?),
+        CfaRule::Expression(expression) => {
+            out.long(expression_text(expression, encoding)?.as_bytes())
+        }
     }
     Ok(())
 }
 
-pub fn put_rule(out: &mut String, rule: &RegisterRule<Bytes>, encoding: Encoding) -> Answer<()> {
+#[inline(always)]
+pub fn put_rule<E: Endianity>(
+    out: &mut Text,
+    rule: &RegisterRule<Bytes<E>>,
+    encoding: Encoding,
+) -> Answer<()> {
     match rule {
-        RegisterRule::Undefined => out.push('u'),
-        RegisterRule::SameValue => out.push('s'),
+        RegisterRule::Undefined => out.word(&[b'u']),
+        RegisterRule::SameValue => out.word(&[b's']),
         RegisterRule::Offset(offset) => {
-            out.push_str("[cfa");
+            out.word(b"[cfa");
             put_offset(out, *offset);
-            out.push(']');
+            out.word(&[b']']);
         }
         RegisterRule::ValOffset(offset) => {
-            out.push_str("cfa");
+            out.word(b"cfa");
             put_offset(out, *offset);
         }
         RegisterRule::Register(register) => put_register(out, register.0),
         RegisterRule::Expression(expression) => {
-            out.push('[');
-            out.push_str(&expression_text(expression, encoding)?);
-            out.push(']');
+            out.word(&[b'[']);
+            out.long(expression_text(expression, encoding)?.as_bytes());
+            out.word(&[b']']);
         }
         RegisterRule::ValExpression(expression) => {
-            out.push_str(&expression_text(expression, encoding)?);
+            out.long(expression_text(expression, encoding)?.as_bytes());
         }
         RegisterRule::Architectural => return Err("a rule of no standard".into()),
     }

@@ -1,200 +1,145 @@
-//! The caller's frame of a machine that stopped, by the rules at its pc. Registers that no rule names are unchanged.
+//! The caller's frame of a machine that stopped, by the rules at its pc. Registers that no rule
+//! names are unchanged.
 
+use crate::context::{Contexts, Task};
 use crate::lookup::{at, by_begin};
+use crate::machine::{slot_of, Machine, Slot};
 use crate::section::{refused, Answer, Bytes, Fde, Section};
 use gimli::{
-    CfaRule, Encoding, EvaluationResult, Expression, Format, Location, Register, RegisterRule,
-    RunTimeEndian, UnwindContext, Value,
+    CfaRule, Endianity, Error, Register, RegisterRule, UnwindContext, UnwindContextStorage,
+    UnwindTableRow,
 };
-use std::collections::BTreeMap;
 use std::fmt::Write as _;
 use std::io::Write;
 
-/// What a dump says. Memory is kept as the ranges of its lines.
-pub struct Machine {
-    pc: u64,
-    registers: BTreeMap<u16, u64>,
-    memory: Vec<(u64, Vec<u8>)>,
-    encoding: Encoding,
-    order: RunTimeEndian,
+/// Those of an expression.
+const STEPS: u32 = 10_000;
+
+/// A frame in the making. Its room is used again for the next one.
+struct Unwinding<'m, M: Endianity> {
+    machine: &'m Machine<M>,
+    cfa: u64,
+    return_register: Register,
+    /// By number.
+    registers: Vec<Slot>,
 }
 
-fn number(text: &str) -> Answer<u64> {
-    u64::from_str_radix(text.trim_start_matches("0x"), 16).map_err(|error| error.to_string())
-}
-
-fn bytes_of(hex: &str) -> Answer<Vec<u8>> {
-    (0..hex.len() / 2)
-        .map(|i| number(&hex[2 * i..2 * i + 2]).map(|byte| byte as u8))
-        .collect()
-}
-
-impl Machine {
-    pub fn parse(text: &str, size: u8, order: RunTimeEndian) -> Answer<Machine> {
-        let encoding = Encoding {
-            address_size: size,
-            format: Format::Dwarf32,
-            version: 5,
-        };
-        let mut machine = Machine {
-            pc: 0,
-            registers: BTreeMap::new(),
-            memory: Vec::new(),
-            encoding,
-            order,
-        };
-        for line in text.lines() {
-            match line.split(' ').collect::<Vec<_>>()[..] {
-                ["pc", value] => machine.pc = number(value)?,
-                ["mem", address, bytes] => machine.memory.push((number(address)?, bytes_of(bytes)?)),
-                [name, value] if name.starts_with('r') => {
-                    let register = name[1..].parse().map_err(|_| format!("{line}: no register"))?;
-                    machine.registers.insert(register, number(value)?);
-                }
-                _ => {}
-            }
-        }
-        machine.memory.sort();
-        Ok(machine)
-    }
-
-    fn byte(&self, address: u64) -> Answer<u8> {
-        let place = self.memory.partition_point(|range| range.0 <= address);
-        let range = place.checked_sub(1).map(|place| &self.memory[place]);
-        range
-            .and_then(|(begin, bytes)| bytes.get((address - begin) as usize))
-            .copied()
-            .ok_or_else(|| "Unreadable".into())
-    }
-
-    fn read(&self, address: u64, len: u8) -> Answer<u64> {
-        let mut value = 0;
-        for i in 0..u64::from(len) {
-            let place = match self.order {
-                RunTimeEndian::Little => u64::from(len) - 1 - i,
-                RunTimeEndian::Big => i,
-            };
-            value = value << 8 | u64::from(self.byte(address.wrapping_add(place))?);
-        }
-        Ok(value)
-    }
-
-    fn register(&self, register: Register) -> Answer<u64> {
-        let value = self.registers.get(&register.0).copied();
-        value.ok_or_else(|| "NoRegister".into())
-    }
-
-    fn evaluate(&self, expression: Expression<Bytes>, first: Option<u64>) -> Answer<u64> {
-        let mut evaluation = expression.evaluation(self.encoding);
-        evaluation.set_max_iterations(10_000);
-        if let Some(first) = first {
-            evaluation.set_initial_value(first);
-        }
-        let mut result = evaluation.evaluate().map_err(refused)?;
-        loop {
-            result = match result {
-                EvaluationResult::Complete => break,
-                EvaluationResult::RequiresMemory { address, size, .. } => {
-                    let value = Value::Generic(self.read(address, size)?);
-                    evaluation.resume_with_memory(value).map_err(refused)?
-                }
-                EvaluationResult::RequiresRegister { register, .. } => {
-                    let value = Value::Generic(self.register(register)?);
-                    evaluation.resume_with_register(value).map_err(refused)?
-                }
-                other => return Err(format!("{other:?}")),
-            }
-        }
-        match evaluation.result().first().map(|piece| &piece.location) {
-            Some(Location::Address { address }) => Ok(*address),
-            other => Err(format!("no value, but {other:?}")),
-        }
-    }
-
-    fn recover(&self, register: u16, rule: &RegisterRule<Bytes>, cfa: u64) -> Answer<Option<u64>> {
-        let size = self.encoding.address_size;
+impl<M: Endianity> Unwinding<'_, M> {
+    #[inline(always)]
+    fn cfa<E: Endianity>(&self, rule: &CfaRule<Bytes<E>>) -> Answer<u64> {
         match rule {
-            RegisterRule::Undefined | RegisterRule::SameValue => {
-                Ok(self.registers.get(&register).copied())
-            }
+            CfaRule::RegisterAndOffset { register, offset } => Ok(self
+                .machine
+                .address(self.machine.register(*register)?, *offset)),
+            CfaRule::Expression(expression) => self.machine.value(expression, None, STEPS),
+        }
+    }
+
+    /// What a rule gives a register, or None where it leaves it as it is.
+    #[inline(always)]
+    fn recovered<E: Endianity>(&self, rule: &RegisterRule<Bytes<E>>) -> Answer<Option<u64>> {
+        let machine = self.machine;
+        Ok(Some(match rule {
+            // gimli keeps no register that is undefined.
+            RegisterRule::Undefined | RegisterRule::SameValue => return Ok(None),
             RegisterRule::Offset(offset) => {
-                self.read(cfa.wrapping_add_signed(*offset), size).map(Some)
+                machine.read(machine.address(self.cfa, *offset), machine.size)?
             }
-            RegisterRule::ValOffset(offset) => Ok(Some(cfa.wrapping_add_signed(*offset))),
-            RegisterRule::Register(other) => self.register(*other).map(Some),
+            RegisterRule::ValOffset(offset) => machine.address(self.cfa, *offset),
+            RegisterRule::Register(other) => machine.register(*other)?,
             RegisterRule::Expression(expression) => {
-                let address = self.evaluate(expression.clone(), Some(cfa))?;
-                self.read(address, size).map(Some)
+                let address = machine.value(expression, Some(self.cfa), STEPS)?;
+                machine.read(address, machine.size)?
             }
             RegisterRule::ValExpression(expression) => {
-                self.evaluate(expression.clone(), Some(cfa)).map(Some)
+                machine.value(expression, Some(self.cfa), STEPS)?
             }
-            RegisterRule::Architectural => Err("Architectural".into()),
+            RegisterRule::Architectural => return Err("Architectural".into()),
+        }))
+    }
+
+    #[inline(always)]
+    fn recover<'a, E: Endianity, S: UnwindContextStorage<Bytes<'a, E>>>(
+        &mut self,
+        row: &UnwindTableRow<Bytes<'a, E>, S>,
+    ) -> Answer<()> {
+        self.cfa = self.cfa(row.cfa())?;
+        self.registers.clear();
+        self.registers.extend_from_slice(&self.machine.registers);
+        list(&mut self.registers, self.return_register);
+        for (register, rule) in row.registers() {
+            match self.recovered(rule)? {
+                Some(value) => *slot_of(&mut self.registers, register.0) = Slot::Value(value),
+                None => list(&mut self.registers, *register),
+            }
         }
+        Ok(())
     }
-}
 
-struct Frame {
-    cfa: u64,
-    return_register: u16,
-    registers: Vec<(u16, Option<u64>)>,
-}
-
-/// One frame. The list of FDEs and the context are made before.
-#[inline(never)]
-fn unwind<'a>(
-    section: &Section<'a>,
-    fdes: &[Fde<'a>],
-    context: &mut UnwindContext<Bytes<'a>>,
-    machine: &Machine,
-) -> Answer<Frame> {
-    let fde = at(fdes, machine.pc).ok_or("NoFde")?;
-    let row = fde
-        .unwind_info_for_address(&section.frame, &section.bases, context, machine.pc)
-        .map_err(refused)?;
-    let cfa = match row.cfa() {
-        CfaRule::RegisterAndOffset { register, offset } => {
-            machine.register(*register)?.wrapping_add_signed(*offset)
+    fn text(&self) -> String {
+        let mut text = format!("cfa {:#x}\nra r{}\n", self.cfa, self.return_register.0);
+        for (number, slot) in self.registers.iter().enumerate() {
+            let _ = match slot {
+                Slot::Unlisted => Ok(()),
+                Slot::Undefined => writeln!(text, "r{number} undefined"),
+                Slot::Value(value) => writeln!(text, "r{number} {value:#x}"),
+            };
         }
-        CfaRule::Expression(expression) => machine.evaluate(expression.clone(), None)?,
-    };
-    let return_register = fde.cie().return_address_register().0;
-    let mut listed: Vec<u16> = machine.registers.keys().copied().collect();
-    listed.extend(row.registers().map(|(register, _)| register.0));
-    listed.push(return_register);
-    listed.sort_unstable();
-    listed.dedup();
-    let mut registers = Vec::with_capacity(listed.len());
-    for register in listed {
-        let value = machine.recover(register, &row.register(Register(register)), cfa)?;
-        registers.push((register, value));
+        text
     }
-    Ok(Frame {
-        cfa,
-        return_register,
-        registers,
-    })
 }
 
-fn text(frame: &Frame) -> String {
-    let mut text = format!("cfa 0x{:x}\nra r{}\n", frame.cfa, frame.return_register);
-    for (register, value) in &frame.registers {
-        let _ = match value {
-            Some(value) => writeln!(text, "r{register} 0x{value:x}"),
-            None => writeln!(text, "r{register} undefined"),
-        };
+/// A register stands in a frame, if only as one without a value.
+#[inline(always)]
+fn list(registers: &mut Vec<Slot>, register: Register) {
+    let slot = slot_of(registers, register.0);
+    if *slot == Slot::Unlisted {
+        *slot = Slot::Undefined;
     }
-    text
 }
 
-/// Unwinds the frame so many times over, and prints it. Those of no unwinding are the cost of the list and the dump.
-pub fn print(section: &Section, machine: &Machine, count: u64, out: &mut impl Write) -> Answer<()> {
+impl<M: Endianity> Task for Unwinding<'_, M> {
+    type Found = Answer<()>;
+
+    #[inline(always)]
+    fn run<'a, E: Endianity, S: UnwindContextStorage<Bytes<'a, E>>>(
+        &mut self,
+        section: &Section<'a, E>,
+        fde: &Fde<'a, E>,
+        context: &mut UnwindContext<Bytes<'a, E>, S>,
+    ) -> Result<Answer<()>, Error> {
+        let (frame, bases, pc) = (&section.frame, &section.bases, self.machine.pc);
+        let row = fde.unwind_info_for_address(frame, bases, context, pc)?;
+        self.return_register = fde.cie().return_address_register();
+        Ok(self.recover(row))
+    }
+}
+
+/// Unwinds the frame so many times over, and prints it. Those of no unwinding are the cost of the
+/// list and the dump.
+pub fn print<E: Endianity, M: Endianity>(
+    section: &Section<E>,
+    machine: &Machine<M>,
+    count: u64,
+    out: &mut impl Write,
+) -> Answer<()> {
     let fdes = by_begin(section)?;
-    let mut context = UnwindContext::new();
-    let mut frame = None;
+    let mut contexts = Contexts::new(section);
+    let mut unwinding = Unwinding {
+        machine,
+        cfa: 0,
+        return_register: Register(0),
+        registers: Vec::new(),
+    };
     for _ in 0..count {
-        frame = Some(unwind(section, &fdes, &mut context, machine)?);
+        let fde = at(&fdes, machine.pc).ok_or("NoFde")?;
+        contexts.run(&mut unwinding, fde).map_err(refused)??;
     }
-    let text = frame.as_ref().map(text).unwrap_or_default();
-    write!(out, "{text}").map_err(|error| error.to_string())
+    let text = if count > 0 {
+        unwinding.text()
+    } else {
+        String::new()
+    };
+    out.write_all(text.as_bytes())
+        .map_err(|error| error.to_string())
 }
