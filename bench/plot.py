@@ -1,9 +1,15 @@
-"""Draws the table of `bench/run --folder` as an SVG: a group of bars for each section, with a line where the peer is."""
+"""Draws the table of `bench/run --folder` as an SVG: bars for each section, a line at the peer."""
 from xml.sax.saxutils import escape
 
 # What is drawn of a line of the table, and in which colour.
 COLUMNS = {"check": "#3b6ea5", "rows": "#7fa7d1", "look-up": "#c98a2b", "normal": "#8a8a8a"}
-LABELS = {"check": "check", "rows": "rows", "look-up": "a look-up", "normal": "normal, to the peer's check"}
+LABELS = {
+    "check": "check",
+    "rows": "rows",
+    "look-up": "a look-up",
+    "normal": "normal, to the peer's check",
+}
+FONT = 'font-family="sans-serif" font-size="11"'
 BAR = 10
 GAP = 14
 LEFT = 270
@@ -33,17 +39,19 @@ def bars(name, line, top):
 
 
 def plot(lines):
-    """The picture of lines of the table, each by the name of its section, in their order."""
+    """The picture of a table's lines, each with its section's label, in their order."""
     step = BAR * len(COLUMNS) + GAP
     height = TOP + step * len(lines) + 20
-    widest = max([1.0, *(line[column] or 0 for line in lines.values() for column in COLUMNS)])
+    widest = max([1.0, *(line[column] or 0 for _, line in lines for column in COLUMNS)])
     width = round(LEFT + SCALE * widest + 60)
-    yield f'<svg xmlns="http://www.w3.org/2000/svg" width="{width}" height="{height}" font-family="sans-serif" font-size="11">'
-    yield f'<rect width="{width}" height="{height}" fill="white"/>'
+    area = f'width="{width}" height="{height}"'
+    yield f'<svg xmlns="http://www.w3.org/2000/svg" {area} {FONT}>'
+    yield f'<rect {area} fill="white"/>'
     yield from legend()
-    for i, (name, line) in enumerate(lines.items()):
+    for i, (name, line) in enumerate(lines):
         yield from bars(name, line, TOP + step * i)
     peer = LEFT + SCALE
-    yield f'<line x1="{peer}" y1="{TOP - 6}" x2="{peer}" y2="{height - 16}" stroke="black" stroke-dasharray="3,3"/>'
+    ends = f'x1="{peer}" y1="{TOP - 6}" x2="{peer}" y2="{height - 16}"'
+    yield f'<line {ends} stroke="black" stroke-dasharray="3,3"/>'
     yield text(peer, height - 4, "gimli-peer", "middle")
     yield "</svg>"
