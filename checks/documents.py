@@ -34,12 +34,12 @@ CONTRACTS = "docs/CONTRACTS.md"
 # that checks/definitions.py makes.
 LINES = {
     "README.md": 170,
-    "SECURITY.md": 45,
+    "SECURITY.md": 50,
     "CHANGELOG.md": 60,
     "docs/ARCHITECTURE.md": 150,
     "docs/CALLING.md": 200,
-    "docs/CONTRACTS.md": 240,
-    "docs/LIBRARY.md": 140,
+    "docs/CONTRACTS.md": 250,
+    "docs/LIBRARY.md": 150,
     "docs/REFUSALS.md": 160,
     "docs/dwframe.1": 420,
     "docs/dwframe.3": 225,
