@@ -144,7 +144,8 @@ fn with_nops(alloc: Global, front: &[u8], behind: &[u8]) -> Result<Vec<u8>, Allo
 #[test]
 fn writes_a_long_expression_on_a_tape(rt: HostRuntime) -> Result<(), Fail> {
     let alloc = rt.alloc();
-    let front = b"\xfc\x03\0\0\xff\xff\xff\xff\x04\0\x08\0\x01\x78\x10\x0c\x07\x08\x90\x01\x10\x03\xe8\x07";
+    let front =
+        b"\xfc\x03\0\0\xff\xff\xff\xff\x04\0\x08\0\x01\x78\x10\x0c\x07\x08\x90\x01\x10\x03\xe8\x07";
     let normal_front =
         b"\xfc\x03\0\0\xff\xff\xff\xff\x04\0\x08\0\x01\x7f\x10\x0c\x07\x08\x10\x03\xe8\x07";
     let section = with_nops(alloc, front, b"")?;
