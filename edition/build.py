@@ -80,19 +80,30 @@ def require_cargo():
         sys.exit(f"edition: this is cargo {found}, and {needed} or later is needed")
 
 
-def build(folder, *words, target=TARGET):
+def cargo(folder, *words, target=TARGET, of_rustc=()):
     """Builds a package, or ends in a sentence that says why not."""
     require_cargo()
     crates = crates_from()
-    command = ["cargo", "build", "--release", *crates, "--target-dir", target, *words]
+    command = ["cargo", "rustc", "--release", *crates, "--target-dir", target, *words]
     # What cargo prints is progress.
-    if subprocess.run(command, cwd=folder, stdout=sys.stderr).returncode:
+    if subprocess.run([*command, "--", *of_rustc], cwd=folder, stdout=sys.stderr).returncode:
         fetch = f"; where crates.io is not reached, `apt-get install {' '.join(debian_packages())}`"
         sys.exit(f"edition: cargo could not build it{'' if crates else fetch}")
 
 
+def static_runtime():
+    """The word for rustc that links the C library into the program, where there is an archive."""
+    linker, host = shutil.which("cc"), ["rustc", "--version", "--verbose"]
+    said = subprocess.run(host, stdout=subprocess.PIPE, text=True).stdout
+    if not linker or "linux-gnu" not in said:
+        return []
+    archive = [linker, "-print-file-name=libc.a"]
+    found = subprocess.run(archive, stdout=subprocess.PIPE, text=True).stdout.strip()
+    return ["-Ctarget-feature=+crt-static"] if Path(found).is_absolute() else []
+
+
 def build_command():
-    build(OUT, "--bin", "dwframe")
+    cargo(OUT, "--bin", "dwframe", of_rustc=static_runtime())
     return TARGET / "release/dwframe"
 
 
@@ -102,7 +113,7 @@ def build_checked():
     quick = {"lto": '"off"', "codegen-units": "16", "opt-level": "1"}
     of_profile = (f"profile.release.{key}={value}" for key, value in {**tests, **quick}.items())
     config = [word for setting in of_profile for word in ("--config", setting)]
-    build(OUT, "--bin", "dwframe", *config, target=OUT / "checked")
+    cargo(OUT, "--bin", "dwframe", *config, target=OUT / "checked")
     return OUT / "checked/release/dwframe"
 
 
@@ -113,7 +124,7 @@ def need_crates():
 
 
 def build_library():
-    build(CALLS, "--config", 'build.rustflags=["-Cforce-unwind-tables=yes"]')
+    cargo(CALLS, "--lib", of_rustc=["-Cforce-unwind-tables=yes"])
     made, library = TARGET / "release/libdwframe_c.a", OUT / "libdwframe.a"
     # One object whose only global names are the calls, so it stands beside other code of Rust.
     calls = [f"--undefined={name}" for name in CALL.findall((CALLS / "src/calls.rs").read_text())]
