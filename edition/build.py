@@ -6,6 +6,7 @@
     build.py checked    the program with tests of overflow and of `debug_assert!`
     build.py package    no more than the text of the package `dwframe`
     build.py crates     the packages of Debian that have the crates; 1 where they are not here
+    build.py cargo WORDS..    what cargo does in the package, with the crates that were found
 
 It needs cargo, and crates: Debian's where all are installed, else those of crates.io.
 """
@@ -117,10 +118,17 @@ def build_checked():
     return OUT / "checked/release/dwframe"
 
 
+def run_cargo(words):
+    """Runs cargo in the package's folder, and ends with its status."""
+    require_cargo()
+    ran = subprocess.run(["cargo", words[0], *crates_from(), *words[1:]], cwd=OUT)
+    sys.exit(ran.returncode)
+
+
 def need_crates():
     """The packages of Debian that have the crates; a status that says whether they are here."""
     print(" ".join(debian_packages()))
-    sys.exit(0 if shutil.which("cargo") and (is_resolved(crates_from())) else 1)
+    sys.exit(0 if shutil.which("cargo") and is_resolved(crates_from()) else 1)
 
 
 def build_library():
@@ -153,15 +161,18 @@ MAKES = {
 
 
 def main():
-    if len(sys.argv) != 2 or sys.argv[1] not in MAKES:
-        sys.exit(f"usage: build.py {'|'.join(MAKES)}")
+    what, *words = sys.argv[1:] or [""]
+    if (words or what not in MAKES) and not (words and what == "cargo"):
+        sys.exit(f"usage: build.py {'|'.join(MAKES)}, or build.py cargo WORDS..")
     checkout = Checkout(HERE.parent)
     try:
         write_package(checkout, OUT)
         write_calls(checkout, CALLS)
     except Refusal as refusal:
         sys.exit(f"edition: {refusal}")
-    print(MAKES[sys.argv[1]]())
+    if words:
+        run_cargo(words)
+    print(MAKES[what]())
 
 
 if __name__ == "__main__":
