@@ -13,7 +13,6 @@ pub type Result<T, E = Error> = core::result::Result<T, E>;
 ///
 /// ```
 /// use dwframe::{AddressSize, Endian, Error, Refusal, RefusalCode, Section};
-///
 /// let cut = Section::new(&[0x14, 0, 0, 0], AddressSize::Eight, Endian::Little);
 /// let error = cut.check().unwrap_err();
 /// assert_eq!(error.to_string(), "refused: EntryPastEnd at 0x0");

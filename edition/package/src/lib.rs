@@ -9,7 +9,6 @@ extern crate alloc;
 extern crate core as std;
 
 mod error;
-mod expression;
 mod machine;
 mod row;
 mod section;
@@ -17,8 +16,8 @@ mod section;
 pub mod proved;
 
 pub use error::{Error, Result};
-pub use expression::{Environment, Expression, UnwindExpression};
-pub use machine::{Frame, Memory, Registers, UnwindOptions, Window};
+pub use machine::{Environment, Expression, Frame, Memory, Registers};
+pub use machine::{UnwindExpression, UnwindOptions, Window};
 #[doc(inline)]
 pub use proved::{
     dw_eval::{Kind as FaultKind, Policy as DefaultRule, ReadFault as MemoryError},

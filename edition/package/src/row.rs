@@ -75,7 +75,6 @@ impl<'a> RegisterRule<'a> {
 /// ```
 /// # const BYTES: &[u8] = include_bytes!("../tests/data/plain.bin");
 /// use dwframe::{AddressSize, Endian, Register, RegisterRule, Section};
-///
 /// let index = Section::new(BYTES, AddressSize::Eight, Endian::Little).index()?;
 /// let row = index.row_at(0x401002)?.expect("an FDE covers the address");
 /// assert_eq!(row.fde, 0x401000..=0x40100f);
@@ -86,7 +85,6 @@ impl<'a> RegisterRule<'a> {
 /// ```
 #[derive(Clone, Debug, PartialEq, Eq)]
 #[must_use]
-#[non_exhaustive]
 pub struct Row<'a> {
     /// The addresses of its FDE.
     pub fde: RangeInclusive<u64>,

@@ -20,7 +20,6 @@ use core::{fmt, ops::RangeInclusive};
 /// ```
 /// # const BYTES: &[u8] = include_bytes!("../tests/data/scrambled.bin");
 /// use dwframe::{AddressSize, Endian, Section};
-///
 /// let section = Section::new(BYTES, AddressSize::Eight, Endian::Little);
 /// let counts = section.check()?.counts();
 /// assert_eq!((counts.cies, counts.fdes), (1, 1));
@@ -106,7 +105,6 @@ impl fmt::Debug for Section<'_> {
 /// ```
 /// # const BYTES: &[u8] = include_bytes!("../tests/data/plain.bin");
 /// use dwframe::{AddressSize, Endian, Section};
-///
 /// let table = Section::new(BYTES, AddressSize::Eight, Endian::Little).check()?;
 /// for row in table.fdes().flat_map(|fde| fde.rows()) {
 ///     let (addresses, row) = row?;
@@ -194,7 +192,6 @@ pub(crate) fn addresses_of(fde: dw_section::Fde) -> RangeInclusive<u64> {
 /// ```
 /// # const BYTES: &[u8] = include_bytes!("../tests/data/plain.bin");
 /// use dwframe::{AddressSize, Endian, Index, IndexEntry, Section};
-///
 /// let section = Section::new(BYTES, AddressSize::Eight, Endian::Little);
 /// let entries = [IndexEntry { begin: 0x401000, range: 0x10, at: 0x18, return_register: 16 }];
 /// assert_eq!(section.index()?.entries(), &entries);
