@@ -1,7 +1,10 @@
 #!/bin/bash
-# Installs dwframe into a folder of its own, whose path has blanks, and compares what is there with what it has to be: the command
-# answers, programs in C and C++ are built by pkg-config over the static and the shared library and answer, these export the calls of the
-# header and no more, and nothing is left once it is taken away. What needs a tool that is missing is left out, and named.
+# Installs dwframe into a folder of its own, whose path has blanks, and compares what is there with
+# what it has to be: the command answers, programs in C and C++ are built by pkg-config over the
+# static and the shared library and answer, these export the calls of the header and no more, and
+# nothing is left once it is taken away. What needs a tool that is missing is left out, and named.
+#
+#     install.sh [--edition]      --edition: the Rust edition in place of what is proved
 set -euo pipefail
 root=$(cd "$(dirname "$0")/.." && pwd)
 folder=$(mktemp -d)
@@ -21,14 +24,16 @@ has() {
     done
 }
 
-"$root/install" --prefix "$prefix"
+"$root/install" "$@" --prefix "$prefix"
 export PATH=$prefix/bin:$PATH PKG_CONFIG_PATH=$prefix/lib/pkgconfig
 examples=$root/examples
 
 # ---- the command: the program itself, and not a script beside the sources
 
 version=$(dwframe --version)
-cmp "$prefix/bin/dwframe" "$root/crates/dwframe/out/dwframe"
+program=$root/crates/dwframe/out/dwframe proved=yes
+[ $# -eq 0 ] || program=$root/edition/out/target/release/dwframe proved=no
+cmp "$prefix/bin/dwframe" "$program"
 dwframe rows --size 8 --order little "$examples/plain.bin" | cmp - "$examples/plain.rows"
 dwframe-section --help | grep -q '^usage: dwframe-section '
 for completion in "$root"/completions/*; do
@@ -75,6 +80,7 @@ is_example_right() {
 if has pkg-config; then
     is_example_right
     [ "dwframe $(pkg-config --modversion dwframe)" = "$version" ] || fail "dwframe.pc has another version than the command"
+    [ "$(pkg-config --variable=proved dwframe)" = $proved ] || fail "dwframe.pc does not say proved=$proved"
     for compiler in gcc clang g++ clang++; do
         has "$compiler" || continue
         case $compiler in
@@ -95,7 +101,7 @@ fi
 
 # ---- and away with it
 
-DESTDIR=$folder/stage "$root/install" --prefix /usr >/dev/null
+DESTDIR=$folder/stage "$root/install" "$@" --prefix /usr >/dev/null
 grep -qx 'prefix=/usr' "$folder/stage/usr/lib/pkgconfig/dwframe.pc"
 [ "$(cd "$folder/stage/usr" && find . | sort)" = "$(cd "$prefix" && find . | sort)" ] || fail "other files below a DESTDIR"
 DESTDIR=$folder/stage "$root/install" --prefix /usr --uninstall

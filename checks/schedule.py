@@ -6,7 +6,7 @@ crate does not wait for others, and shares the processors with the urgent ones a
 crate has one copy of the prover, and waits for a processor.
 """
 # What is left to prove from an urgent crate on, as a share of what is left at the longest.
-URGENT = 0.7
+URGENT = 0.65
 # More copies of the prover do not make a proof faster.
 MOST_JOBS = 4
 
@@ -23,8 +23,10 @@ def chain_sizes(sizes, below):
 
 
 def jobs_of_urgent(count, processors):
-    """How many copies of the prover each of so many urgent crates has."""
-    return min(MOST_JOBS, max(min(2, processors), processors // count))
+    """How many copies of the prover each of so many urgent crates has: all processors, shared, but
+    two at least, unless there are but two processors."""
+    least = 2 if processors > 2 else 1
+    return min(MOST_JOBS, max(least, processors // count))
 
 
 def next_starts(sizes, below, processors, proved, running, failed=()):

@@ -59,6 +59,8 @@ class Decisions(unittest.TestCase):
 
     def test_two_urgent_crates_share_the_processors(self):
         beside = ["low", "small", "tiny"]
+        self.assertEqual(starts(2, proved=beside), {"long": 1, "near": 1})
+        self.assertEqual(starts(3, proved=beside), {"long": 2, "near": 2})
         self.assertEqual(starts(4, proved=beside), {"long": 2, "near": 2})
         self.assertEqual(starts(8, proved=beside), {"long": 4, "near": 4})
 
@@ -67,7 +69,7 @@ class Decisions(unittest.TestCase):
 
     def test_an_urgent_crate_never_waits(self):
         found = starts(2, proved=["low"], running=["small", "tiny"])
-        self.assertEqual(found, {"long": 2, "near": 2})
+        self.assertEqual(found, {"long": 1, "near": 1})
 
     def test_another_crate_waits_for_a_processor(self):
         self.assertEqual(starts(2, running=["low", "small"]), {})
