@@ -19,7 +19,7 @@ struct Dump {
 
 impl Dump {
     fn read(text: &str) -> Result<Dump, Box<dyn Error>> {
-        let (mut pc, mut registers, mut memory) = (None, Registers::new(), Vec::new());
+        let (mut pc, mut registers, mut memory) = (None, Registers::default(), Vec::new());
         for line in text.lines().filter(|line| !line.is_empty() && !line.starts_with('#')) {
             match line.split(' ').collect::<Vec<_>>()[..] {
                 ["pc", value] => pc = Some(input::number(value)?),

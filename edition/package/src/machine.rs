@@ -65,31 +65,25 @@ impl<M: Memory + ?Sized> dw_eval::Memory for Reader<'_, M> {
     }
 }
 
-/// The values of registers. Those below 128 take no memory.
+/// The values of registers, at first of none. Those below 128 take no memory.
 ///
 /// ```
 /// use dwframe::{Register, Registers};
-/// let mut registers = Registers::new();
+/// let mut registers = Registers::default();
 /// registers.set(Register(7), 0x7ffdf0)?;
 /// assert_eq!(registers.get(Register(7)), Some(0x7ffdf0));
-/// assert_eq!(registers.get(Register(6)), None);
 /// # Ok::<(), dwframe::Error>(())
 /// ```
 #[must_use]
 pub struct Registers(pub(crate) dw_eval::Registers);
 
 impl Registers {
-    /// No register has a value.
-    pub fn new() -> Registers {
-        Registers(dw_eval::Registers::new(Global))
-    }
-
     /// These registers have these values; of one that is given twice the last counts.
     ///
     /// # Errors
     /// [`Error::OutOfMemory`](crate::Error), by a register from 128 on.
     pub fn from_values(values: impl IntoIterator<Item = (Register, u64)>) -> Result<Registers> {
-        let mut registers = Registers::new();
+        let mut registers = Registers::default();
         values.into_iter().try_for_each(|(own, value)| registers.set(own, value))?;
         Ok(registers)
     }
@@ -110,7 +104,7 @@ impl Registers {
 
 impl Default for Registers {
     fn default() -> Registers {
-        Registers::new()
+        Registers(dw_eval::Registers::new(Global))
     }
 }
 
@@ -200,8 +194,7 @@ impl Frame {
     }
 }
 
-/// The expression of a rule (DWARF 5, 6.4.2), borrowed from the section. Two are equal if their
-/// operations are.
+/// The expression of a rule (DWARF 5, 6.4.2), in the section. Two are equal if their operations are.
 ///
 /// ```
 /// # const BYTES: &[u8] = include_bytes!("../tests/data/rules.bin");
@@ -221,8 +214,7 @@ impl<'a> UnwindExpression<'a> {
         self.0.steps().fuse()
     }
 
-    /// The expression by itself. That of a register is evaluated with the CFA on the stack
-    /// ([`Environment::initial`]).
+    /// The expression by itself. That of a register begins with the CFA ([`Environment::initial`]).
     ///
     /// # Errors
     /// [`Error::OutOfMemory`](crate::Error).
@@ -243,7 +235,7 @@ impl Clone for UnwindExpression<'_> {
 /// use dwframe::{AddressSize, Endian, Environment, Expression, Registers, Window};
 /// // DW_OP_lit2, DW_OP_lit3, DW_OP_mul.
 /// let expression = Expression::parse(&[0x32, 0x33, 0x1e], AddressSize::Eight, Endian::Little)?;
-/// let registers = Registers::new();
+/// let registers = Registers::default();
 /// let value = expression.evaluate(&Environment::new(&registers), &mut Window::default())?;
 /// assert_eq!(value, 6);
 /// # Ok::<(), dwframe::Error>(())

@@ -4,7 +4,7 @@ use crate::proved::dw_row::{self, RegRule};
 use crate::proved::dw_section::{self, Changes};
 use crate::section::addresses_of;
 use crate::{Error, Result, UnwindExpression, error::no_memory};
-use core::iter::FusedIterator;
+use core::iter::{self, FusedIterator};
 use core::{fmt, mem, ops::RangeInclusive};
 use smallvec::SmallVec;
 
@@ -70,7 +70,7 @@ impl<'a> RegisterRule<'a> {
 }
 
 /// The rules at an address: a row of the table of 6.4.1. Its expressions are borrowed from the section,
-/// and it takes no memory up to 16 registers. Expressions are compared by their operations.
+/// and it takes no memory up to 8 registers. Expressions are compared by their operations.
 ///
 /// ```
 /// # const BYTES: &[u8] = include_bytes!("../tests/data/plain.bin");
@@ -80,7 +80,6 @@ impl<'a> RegisterRule<'a> {
 /// assert_eq!(row.fde, 0x401000..=0x40100f);
 /// assert_eq!(*row.register(Register(6)), RegisterRule::Offset(-16));
 /// assert_eq!(*row.register(row.return_register), RegisterRule::Offset(-8));
-/// assert_eq!(row.registers().len(), 2);
 /// # Ok::<(), dwframe::Error>(())
 /// ```
 #[derive(Clone, Debug, PartialEq, Eq)]
@@ -92,11 +91,12 @@ pub struct Row<'a> {
     pub return_register: Register,
     /// How the CFA is found.
     pub cfa: CfaRule<'a>,
-    registers: SmallVec<[(Register, RegisterRule<'a>); 16]>,
+    registers: SmallVec<[(Register, RegisterRule<'a>); 8]>,
 }
 
 impl<'a> Row<'a> {
     /// A copy of a row. One of a section that was checked says how the CFA is found.
+    #[inline(always)]
     pub(crate) fn new(row: &dw_row::Row<'a>, fde: dw_section::Fde) -> Result<Row<'a>> {
         let cfa = match row.cfa() {
             dw_row::CfaRule::Unset => return Err(Error::BadIndex),
@@ -106,9 +106,17 @@ impl<'a> Row<'a> {
             dw_row::CfaRule::Expression(block) => CfaRule::Expression(UnwindExpression(block)),
         };
         let mut registers = SmallVec::new();
-        for (register, rule) in row.specified() {
-            registers.try_reserve(1).map_err(no_memory)?;
-            registers.push((Register(register), RegisterRule::new(rule)));
+        let mut rules = row.specified();
+        // Most are offsets, which have a quicker way.
+        let next = || match rules.next_offset() {
+            Some((register, offset)) => Some((register, RegisterRule::Offset(offset))),
+            None => rules.next().map(|(register, rule)| (register, RegisterRule::new(rule))),
+        };
+        for (register, rule) in iter::from_fn(next) {
+            if registers.len() == registers.capacity() {
+                registers.try_reserve(1).map_err(no_memory)?;
+            }
+            registers.push((Register(register), rule));
         }
         let return_register = Register(fde.return_register);
         Ok(Row { fde: addresses_of(fde), return_register, cfa, registers })
@@ -137,23 +145,10 @@ pub struct Rows<'a> {
 }
 
 impl<'a> Rows<'a> {
+    #[inline(always)]
     pub(crate) fn new(mut changes: Changes<'a>, fde: dw_section::Fde) -> Rows<'a> {
         let begin = changes.advance().map_err(no_memory);
         Rows { changes, fde, begin }
-    }
-
-    fn next_row(&mut self) -> Result<Option<(RangeInclusive<u64>, Row<'a>)>> {
-        let Some(begin) = mem::replace(&mut self.begin, Ok(None))? else {
-            return Ok(None);
-        };
-        // What follows says where the row ends, and that is before it then.
-        let next = self.changes.advance().map_err(no_memory)?;
-        let row = if next.is_some() { self.changes.before() } else { self.changes.row() };
-        let row = row.map(|row| Row::new(row, self.fde)).transpose()?;
-        self.begin = Ok(next);
-        // Both are addresses of the FDE.
-        let addresses = begin as u64..=(next.unwrap_or(self.fde.end) - 1) as u64;
-        Ok(row.map(|row| (addresses, row)))
     }
 }
 
@@ -161,7 +156,22 @@ impl<'a> Iterator for Rows<'a> {
     type Item = Result<(RangeInclusive<u64>, Row<'a>)>;
 
     fn next(&mut self) -> Option<Self::Item> {
-        self.next_row().transpose()
+        let begin = match mem::replace(&mut self.begin, Ok(None)) {
+            Ok(begin) => begin?,
+            Err(error) => return Some(Err(error)),
+        };
+        // What follows says where the row ends, and that is before it then.
+        let Ok(next) = self.changes.advance() else { return Some(Err(Error::OutOfMemory)) };
+        let row = if next.is_some() { self.changes.before() } else { self.changes.row() };
+        // Both are addresses of the FDE.
+        let addresses = begin as u64..=(next.unwrap_or(self.fde.end) - 1) as u64;
+        match Row::new(row?, self.fde) {
+            Ok(row) => {
+                self.begin = Ok(next);
+                Some(Ok((addresses, row)))
+            }
+            Err(error) => Some(Err(error)),
+        }
     }
 }
 

@@ -14,8 +14,7 @@ use alloc::{borrow::Cow, vec::Vec};
 use core::iter::FusedIterator;
 use core::{fmt, ops::RangeInclusive};
 
-/// The bytes of a section `.debug_frame` (DWARF 5, 6.4.1), and how its numbers are read. Nothing is
-/// judged before a call.
+/// The bytes of a section `.debug_frame` (DWARF 5, 6.4.1), and how its numbers are read.
 ///
 /// ```
 /// # const BYTES: &[u8] = include_bytes!("../tests/data/scrambled.bin");
@@ -173,6 +172,7 @@ impl<'a> Fde<'_, 'a> {
     }
 
     /// Its rows, ascending by address, by one run of its program.
+    #[inline]
     pub fn rows(&self) -> Rows<'a> {
         Rows::new(self.table.0.changes(self.place), self.fde)
     }
@@ -226,9 +226,7 @@ impl<'a> Index<'a> {
     pub fn row_at(&self, address: u64) -> Result<Option<Row<'a>>> {
         let (bytes, target) = (self.section.bytes, self.section.target());
         let found = dw_section::fde_by_index(bytes, target, &self.entries, address);
-        let Some(found) = found.map_err(refused)? else {
-            return Ok(None);
-        };
+        let Some(found) = found.map_err(refused)? else { return Ok(None) };
         let mut room = RowRoom::new(Global);
         found.run(&mut room).map_err(refused)?;
         Row::new(room.row(), found.fde()).map(Some)
@@ -265,7 +263,6 @@ impl<'a> Index<'a> {
     }
 }
 
-// The entries are counted, and not printed.
 impl fmt::Debug for Index<'_> {
     fn fmt(&self, f: &mut fmt::Formatter<'_>) -> fmt::Result {
         write!(f, "Index({:?}, {} entries)", self.section, self.entries.len())

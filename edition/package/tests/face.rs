@@ -195,7 +195,7 @@ fn takes_any_list_for_an_index() {
         let address = [0x1004, 0x401004, random(0x402000), u64::MAX][random(4) as usize];
         let _ = index.row_at(address);
         let mut memory = |_: u64, _: &mut [u8]| Err(MemoryError::Unreadable);
-        let _ = index.unwind(address, &Registers::new(), &mut memory, UnwindOptions::default());
+        let _ = index.unwind(address, &Registers::default(), &mut memory, UnwindOptions::default());
     }
 }
 
@@ -343,7 +343,7 @@ fn evaluates_expressions() {
         ("0c01020304", None, 10_000, Ok(0x0403_0201)),
         ("11ff7e", None, 10_000, Ok(0xffff_ffff_ffff_ff7f)),
     ];
-    let registers = Registers::new();
+    let registers = Registers::default();
     for (block, initial, step_limit, wanted) in cases {
         let block = bytes(block);
         let parsed =

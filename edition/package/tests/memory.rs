@@ -140,7 +140,7 @@ fn of_registers_and_expressions() {
     let block = [[0x31; 100].as_slice(), &[0x22; 99]].concat();
     let parse = || Expression::parse(&block, AddressSize::Eight, Endian::Little);
     assert!(refuse_each(|| parse().map(|parsed| parsed.operations().len())) > 0);
-    let (parsed, registers) = (parse().expect("memory"), Registers::new());
+    let (parsed, registers) = (parse().expect("memory"), Registers::default());
     let mut memory = |_: u64, _: &mut [u8]| Err(MemoryError::Unreadable);
     assert!(refuse_each(|| parsed.to_bytes()) > 0);
     let value = parsed.evaluate(&Environment::new(&registers), &mut memory);
