@@ -18,7 +18,7 @@ import sys
 
 MOST_LINES, MOST_OF_FUNCTION = 500, 60
 # Files that have more, with the lines that they have: each can only get shorter.
-LONGER = {"bench/run": 516, "checks/core.py": 525}
+LONGER = {"checks/core.py": 525}
 # Crates that are no part of the product.
 BESIDE = ("texts", "cases", "caller")
 COLUMNS = ["sources", "functions", "public", "specs", "inner", "proofs", "longest"]
