@@ -47,23 +47,23 @@ def debian_packages():
     return [f"librust-{name}-dev" for name in dependencies()]
 
 
-def is_resolved(words):
-    """Whether cargo has all crates here, without the network."""
+def is_resolved(folder, words):
+    """Whether cargo has all crates of a package here, without the network."""
     command = ["cargo", "metadata", "--quiet", "--format-version=1", *words]
     offline = {**os.environ, "CARGO_NET_OFFLINE": "true"}
     quiet = {"stdout": subprocess.DEVNULL, "stderr": subprocess.DEVNULL}
-    ran = subprocess.run(command, cwd=OUT, env=offline, **quiet)
+    ran = subprocess.run(command, cwd=folder, env=offline, **quiet)
     return ran.returncode == 0
 
 
-def crates_from():
+def crates_from(folder):
     """The words for cargo that say where crates are."""
     if not all(any(DEBIAN.glob(f"{name}-[0-9]*")) for name in dependencies()):
         return []
-    # What was locked may have been other versions.
-    for folder in (OUT, CALLS):
+    if not is_resolved(folder, FROM_DEBIAN):
+        # What was locked may have been other versions.
         (folder / "Cargo.lock").unlink(missing_ok=True)
-    return FROM_DEBIAN if is_resolved(FROM_DEBIAN) else []
+    return FROM_DEBIAN if is_resolved(folder, FROM_DEBIAN) else []
 
 
 def numbers(version):
@@ -84,7 +84,7 @@ def require_cargo():
 def cargo(folder, *words, target=TARGET, of_rustc=()):
     """Builds a package, or ends in a sentence that says why not."""
     require_cargo()
-    crates = crates_from()
+    crates = crates_from(folder)
     command = ["cargo", "rustc", "--release", *crates, "--target-dir", target, *words]
     # What cargo prints is progress.
     if subprocess.run([*command, "--", *of_rustc], cwd=folder, stdout=sys.stderr).returncode:
@@ -121,14 +121,14 @@ def build_checked():
 def run_cargo(words):
     """Runs cargo in the package's folder, and ends with its status."""
     require_cargo()
-    ran = subprocess.run(["cargo", words[0], *crates_from(), *words[1:]], cwd=OUT)
+    ran = subprocess.run(["cargo", words[0], *crates_from(OUT), *words[1:]], cwd=OUT)
     sys.exit(ran.returncode)
 
 
 def need_crates():
     """The packages of Debian that have the crates; a status that says whether they are here."""
     print(" ".join(debian_packages()))
-    sys.exit(0 if shutil.which("cargo") and is_resolved(crates_from()) else 1)
+    sys.exit(0 if shutil.which("cargo") and is_resolved(OUT, crates_from(OUT)) else 1)
 
 
 def build_library():
