@@ -1,5 +1,5 @@
 #!/usr/bin/env python3
-"""Checks what is written by hand of the Rust edition's package, and its examples beside the command.
+"""Checks what is written by hand of the Rust edition's package, and runs its examples.
 
     face.py [PROGRAM]
 
@@ -36,7 +36,7 @@ def run(*words, **options):
 
 
 def answer(*words):
-    """The status, what is printed, and the first line of standard error, without a program's name."""
+    """The status, what is printed, and standard error's first line without a program's name."""
     ran = run(*words, capture_output=True, text=True)
     line = (ran.stderr.splitlines() or [""])[0]
     return ran.returncode, ran.stdout, line.removeprefix("dwframe: ")
@@ -60,9 +60,9 @@ def is_there(tool, what):
 
 def compare_layout():
     sources = sorted(path for path in PACKAGE.rglob("*.rs") if "target" not in path.parts)
-    library = [path for path in sources if path.parent.name == "src" and path.name != "main.rs"]
-    library = [path for path in library if path.parent == PACKAGE / "src"]
-    lines = sum(len(path.read_text().splitlines()) for path in library)
+    library = [path for path in sources if path.parent == PACKAGE / "src"]
+    texts = [path.read_text() for path in library if path.name != "main.rs"]
+    lines = sum(len(text.splitlines()) for text in texts)
     if lines > LINES:
         fail(f"{lines} lines, where {LINES} are allowed")
     if not is_there("rustfmt", "its layout"):
@@ -77,8 +77,7 @@ def compare_layout():
 
 def check_package():
     if is_there("cargo-clippy", "clippy"):
-        for features in ([], LIBRARY):
-            cargo("clippy", "--quiet", "--all-targets", *features, "--", "-D", "warnings")
+        cargo("clippy", "--quiet", "--all-targets", "--", "-D", "warnings")
     cargo("test", "--quiet", *LIBRARY)
     cargo("doc", "--quiet", "--no-deps", RUSTDOCFLAGS="-D warnings")
     cargo("package", "--quiet", "--allow-dirty", "--no-verify")
@@ -129,9 +128,10 @@ def samples_of(text):
 
 
 def counted(counts):
-    for begin, count in sorted(counts.items(), key=lambda item: (-item[1]["all"], int(item[0], 16))):
-        named = sorted((name for name in count if name[1:].isdigit()), key=lambda name: int(name[1:]))
-        by = "".join(f" {name}:{count[name]}" for name in named)
+    ordered = sorted(counts.items(), key=lambda item: (-item[1]["all"], int(item[0], 16)))
+    for begin, count in ordered:
+        registers = sorted(int(name[1:]) for name in count if name[1:].isdigit())
+        by = "".join(f" r{register}:{count[f'r{register}']}" for register in registers)
         yield f"{begin} {count['all']}{by}"
 
 
@@ -226,10 +226,13 @@ def compare_binaries(example, folder):
 
 
 def main():
-    program = Path(sys.argv[1] if len(sys.argv) > 1 else ROOT / "crates/dwframe/out/dwframe").resolve()
+    program = ROOT / "crates/dwframe/out/dwframe"
+    if len(sys.argv) > 1:
+        program = Path(sys.argv[1]).resolve()
     compare_layout()
-    if run(*BUILD, "crates", stdout=subprocess.DEVNULL).returncode:
-        if os.environ.get("CI") == "true":
+    status, packages, _ = answer(*BUILD, "crates")
+    if status:
+        if not packages or os.environ.get("CI") == "true":
             fail("cargo or its crates are not here")
         print("face: left out but for its layout, for cargo or its crates are not here")
         return

@@ -1,10 +1,10 @@
 //! Rows: the rules at an address.
 
-use crate::proved::dw_row::{self, RegRule};
+use crate::proved::dw_row::{self, RegRule, Specified};
 use crate::proved::dw_section::{self, Changes};
 use crate::section::addresses_of;
 use crate::{Error, Result, UnwindExpression, error::no_memory};
-use core::iter::{self, FusedIterator};
+use core::iter::FusedIterator;
 use core::{fmt, mem, ops::RangeInclusive};
 use smallvec::SmallVec;
 
@@ -69,6 +69,16 @@ impl<'a> RegisterRule<'a> {
     }
 }
 
+/// The next register with its rule. Most rules are offsets, which are read the quicker way.
+#[inline(always)]
+fn next_rule<'a>(rules: &mut Specified<'_, 'a>) -> Option<(Register, RegisterRule<'a>)> {
+    if let Some((register, offset)) = rules.next_offset() {
+        return Some((Register(register), RegisterRule::Offset(offset)));
+    }
+    let (register, rule) = rules.next()?;
+    Some((Register(register), RegisterRule::new(rule)))
+}
+
 /// The rules at an address: a row of the table of 6.4.1. Its expressions are borrowed from the section,
 /// and it takes no memory up to 8 registers. Expressions are compared by their operations.
 ///
@@ -107,16 +117,11 @@ impl<'a> Row<'a> {
         };
         let mut registers = SmallVec::new();
         let mut rules = row.specified();
-        // Most are offsets, which have a quicker way.
-        let next = || match rules.next_offset() {
-            Some((register, offset)) => Some((register, RegisterRule::Offset(offset))),
-            None => rules.next().map(|(register, rule)| (register, RegisterRule::new(rule))),
-        };
-        for (register, rule) in iter::from_fn(next) {
+        while let Some(rule) = next_rule(&mut rules) {
             if registers.len() == registers.capacity() {
                 registers.try_reserve(1).map_err(no_memory)?;
             }
-            registers.push((Register(register), rule));
+            registers.push(rule);
         }
         let return_register = Register(fde.return_register);
         Ok(Row { fde: addresses_of(fde), return_register, cfa, registers })
@@ -145,7 +150,6 @@ pub struct Rows<'a> {
 }
 
 impl<'a> Rows<'a> {
-    #[inline(always)]
     pub(crate) fn new(mut changes: Changes<'a>, fde: dw_section::Fde) -> Rows<'a> {
         let begin = changes.advance().map_err(no_memory);
         Rows { changes, fde, begin }

@@ -172,7 +172,6 @@ impl<'a> Fde<'_, 'a> {
     }
 
     /// Its rows, ascending by address, by one run of its program.
-    #[inline]
     pub fn rows(&self) -> Rows<'a> {
         Rows::new(self.table.0.changes(self.place), self.fde)
     }
