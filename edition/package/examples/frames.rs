@@ -1,6 +1,6 @@
-//! Walks a stack by a raw section: `frames 4|8 little|big FILE DUMP STACK-POINTER`, where the dump has
-//! lines `pc 0x..`, `r6 0x..` and `mem 0x.. DIGITS`. Without the number of the stack pointer it prints
-//! the registers of the caller.
+//! Walks a stack by a raw section: `frames 4|8 little|big FILE DUMP STACK-POINTER`, where the dump
+//! has lines `pc 0x..`, `r6 0x..` and `mem 0x.. DIGITS`. Without the number of the stack pointer it
+//! prints the registers of the caller.
 
 mod input;
 

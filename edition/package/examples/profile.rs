@@ -1,6 +1,6 @@
-//! Counts a profiler's samples: `profile 4|8 little|big FILE SAMPLES`. The samples are addresses, one a
-//! line. It prints each FDE that has some, most first: how many, and how many of them find the CFA by
-//! each register.
+//! Counts a profiler's samples: `profile 4|8 little|big FILE SAMPLES`. The samples are addresses,
+//! one a line. It prints each FDE that has some, most first: how many, and how many of them find
+//! the CFA by each register.
 
 mod input;
 

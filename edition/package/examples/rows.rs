@@ -1,5 +1,5 @@
-//! Prints the rows of a raw section: `rows 4|8 little|big FILE [ADDRESS..]`, those at the addresses,
-//! or those of each FDE.
+//! Prints the rows of a raw section: `rows 4|8 little|big FILE [ADDRESS..]`, those at the
+//! addresses, or those of each FDE.
 
 mod input;
 

@@ -118,7 +118,7 @@ impl fmt::Debug for Registers {
 /// How a frame is unwound.
 #[derive(Clone, Copy, Debug, PartialEq, Eq)]
 pub struct UnwindOptions {
-    /// What a register is taken as that no instruction has set, as the ABI says: at first `SameValue`.
+    /// What a register without a rule is taken as, as the ABI says: `SameValue` at first.
     pub default_rule: DefaultRule,
     /// How many operations each expression may execute: at first 10,000.
     pub step_limit: u64,
@@ -183,8 +183,8 @@ impl Frame {
         self.register(self.return_register)
     }
 
-    /// The registers to go on with: those that are recovered, and as the stack pointer the CFA, as the
-    /// ABIs of most processors have it.
+    /// The registers to go on with: those that are recovered, and as the stack pointer the CFA, as
+    /// the ABIs of most processors have it.
     ///
     /// # Errors
     /// [`Error::OutOfMemory`](crate::Error), by a register from 128 on.
@@ -194,7 +194,7 @@ impl Frame {
     }
 }
 
-/// The expression of a rule (DWARF 5, 6.4.2), in the section. Two are equal if their operations are.
+/// The expression of a rule (DWARF 5, 6.4.2). Two are equal if their operations are.
 ///
 /// ```
 /// # const BYTES: &[u8] = include_bytes!("../tests/data/rules.bin");

@@ -79,8 +79,8 @@ fn next_rule<'a>(rules: &mut Specified<'_, 'a>) -> Option<(Register, RegisterRul
     Some((Register(register), RegisterRule::new(rule)))
 }
 
-/// The rules at an address: a row of the table of 6.4.1. Its expressions are borrowed from the section,
-/// and it takes no memory up to 8 registers. Expressions are compared by their operations.
+/// The rules at an address: a row of the table of 6.4.1. Its expressions are borrowed from the
+/// section, and compared by their operations. It takes no memory up to 8 registers.
 ///
 /// ```
 /// # const BYTES: &[u8] = include_bytes!("../tests/data/plain.bin");
@@ -139,8 +139,8 @@ impl<'a> Row<'a> {
     }
 }
 
-/// An iterator over the rows of an [`Fde`](crate::Fde), each with the addresses that have it, ascending.
-/// Rows that follow one another differ. Where memory is refused, an error is the last item.
+/// An iterator over the rows of an [`Fde`](crate::Fde), each with the addresses that have it,
+/// ascending. Neighbours differ. Where memory is refused, an error is the last item.
 #[must_use]
 pub struct Rows<'a> {
     changes: Changes<'a>,

@@ -76,11 +76,11 @@ impl<'a> Section<'a> {
         Ok(normal.map_err(refused)?.into_std())
     }
 
-    /// Whether another section for the same machine has the same nonempty FDEs, with the same return
+    /// Whether another section for the machine has the same nonempty FDEs with the same return
     /// address registers, and the same rules at each address.
     ///
     /// # Errors
-    /// Those of [`normalize`](Section::normalize), and [`Error::OtherRefused`] for the other section.
+    /// Those of [`normalize`](Section::normalize), and [`Error::OtherRefused`] for the other one.
     pub fn means_the_same(self, other: &[u8]) -> Result<bool> {
         let same = dw_normal::same(Global, self.bytes, other, self.target());
         same.map_err(|error| match error {
@@ -216,12 +216,12 @@ impl<'a> Index<'a> {
         &self.entries
     }
 
-    /// The rules at an address, none where no FDE of the list covers it. The FDE is found by halving,
-    /// and its program is run up to the address.
+    /// The rules at an address, none where no FDE of the list covers it. The FDE is found by
+    /// halving, and its program is run up to the address.
     ///
     /// # Errors
-    /// [`Error::OutOfMemory`]; and [`Error::BadIndex`] or [`Error::Refused`] where the list is not that
-    /// of a section that was checked.
+    /// [`Error::OutOfMemory`]; and [`Error::BadIndex`] or [`Error::Refused`] where the list is not
+    /// that of a section that was checked.
     pub fn row_at(&self, address: u64) -> Result<Option<Row<'a>>> {
         let (bytes, target) = (self.section.bytes, self.section.target());
         let found = dw_section::fde_by_index(bytes, target, &self.entries, address);
@@ -231,9 +231,9 @@ impl<'a> Index<'a> {
         Row::new(room.row(), found.fde()).map(Some)
     }
 
-    /// The frame of the caller of a function that stopped at `pc`, none where no FDE of the list covers
-    /// that. `pc` is an address of the section: that of the process, less the module's load bias. For a
-    /// caller give the return address less one, which is in the call.
+    /// The frame of the caller of a function that stopped at `pc`, none where no FDE of the list
+    /// covers that. `pc` is an address of the section: that of the process, less the load bias. For
+    /// a caller give the return address less one, which is in the call.
     ///
     /// # Errors
     /// Those of [`row_at`](Index::row_at), and [`Error::Frame`].

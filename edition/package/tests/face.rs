@@ -58,12 +58,15 @@ fn tells_the_rows_of_a_section() {
         ("cie", ""),
         (
             "cie; plain",
-            "fde 0x401000 0x401010 ra=r16 | 0x401000 cfa=r7+8 r16=[cfa-8] | 0x401001 cfa=r7+16 r6=[cfa-16] r16=[cfa-8] \
-             | 0x401004 cfa=r6+16 r6=[cfa-16] r16=[cfa-8] | 0x40100f cfa=r7+8 r6=[cfa-16] r16=[cfa-8]",
+            "fde 0x401000 0x401010 ra=r16 | 0x401000 cfa=r7+8 r16=[cfa-8] \
+             | 0x401001 cfa=r7+16 r6=[cfa-16] r16=[cfa-8] \
+             | 0x401004 cfa=r6+16 r6=[cfa-16] r16=[cfa-8] \
+             | 0x40100f cfa=r7+8 r6=[cfa-16] r16=[cfa-8]",
         ),
         (
             "cie; fde fffffffffffffff0 10 50",
-            "fde 0xfffffffffffffff0 0x10000000000000000 ra=r16 | 0xfffffffffffffff0 cfa=r7+8 r16=[cfa-8]",
+            "fde 0xfffffffffffffff0 0x10000000000000000 ra=r16 \
+             | 0xfffffffffffffff0 cfa=r7+8 r16=[cfa-8]",
         ),
         (
             "cie; fde 1000 20 0a410e108602440b",

@@ -1,5 +1,5 @@
-//! Tells whether the `.debug_frame` sections of two ELF files mean the same: `compare FILE FILE`. So
-//! one sees whether another compiler, linker or strip has changed how stacks are walked.
+//! Tells whether the `.debug_frame` sections of two ELF files mean the same: `compare FILE FILE`.
+//! So one sees whether another compiler, linker or strip has changed how stacks are walked.
 
 use dwframe::{AddressSize, Endian, Section};
 use object::elf::{FileHeader32, FileHeader64};

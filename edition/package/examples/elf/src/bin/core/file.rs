@@ -1,9 +1,10 @@
-//! Reads a core file, and the files that were mapped. Nothing that they say is trusted: what makes no
-//! sense is left out.
+//! Reads a core file, and the files that were mapped. Nothing that they say is trusted: what makes
+//! no sense is left out.
 //!
 //! The notes of a core file (PT_NOTE) are the registers of each thread (NT_PRSTATUS), the auxiliary
-//! vector (NT_AUXV), which says where the program was loaded, and the parts of files that were mapped
-//! (NT_FILE). Its segments (PT_LOAD) are the memory, but for what stands unchanged in those files.
+//! vector (NT_AUXV), which says where the program was loaded, and the parts of files that were
+//! mapped (NT_FILE). Its segments (PT_LOAD) are the memory, but for what stands unchanged in those
+//! files.
 
 use object::LittleEndian as Little;
 use object::elf::{self, FileHeader64, ProgramHeader64};
@@ -281,7 +282,8 @@ impl Core {
         now.starts_with(then)
     }
 
-    /// Fills a buffer from the core file, and from the files that were mapped where that has no byte.
+    /// Fills a buffer from the core file, and from the files that were mapped where that has no
+    /// byte.
     pub fn fill(&self, modules: &[Module], address: u64, buffer: &mut [u8]) -> bool {
         let len = buffer.len() as u64;
         let mut found = self.memory_at(address, len);
@@ -314,8 +316,8 @@ impl Core {
         Ok(Module::new(self, path.to_owned(), loaded.wrapping_sub(linked), bytes))
     }
 
-    /// The parts of NT_FILE, each with its path: there stand how many they are, the size of a page, the
-    /// parts, and the paths, each with a zero byte behind it.
+    /// The parts of NT_FILE, each with its path: there stand how many they are, the size of a page,
+    /// the parts, and the paths, each with a zero byte behind it.
     fn mappings(&self) -> impl Iterator<Item = (Mapping, &Path)> {
         let word = |number: u64| u64_at(&self.files, number * 8);
         let most = self.files.len() as u64 / 24;

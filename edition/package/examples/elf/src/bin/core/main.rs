@@ -1,9 +1,10 @@
-//! Prints the stack of each thread of a program that stopped, from its core file, on x86-64 or AArch64:
+//! Prints the stack of each thread of a program that stopped, from its core file, on x86-64 or
+//! AArch64:
 //!
 //!     core [--time] PROGRAM CORE
 //!
-//! `file` reads the files. Here the index of each `.debug_frame` is made, once, and stacks are walked.
-//! The memory is that of the core file, and of the files that were mapped.
+//! `file` reads the files. Here the index of each `.debug_frame` is made, once, and stacks are
+//! walked. The memory is that of the core file, and of the files that were mapped.
 
 mod file;
 
@@ -79,8 +80,8 @@ fn why(error: &Error) -> &'static str {
     }
 }
 
-/// A subroutine that was active: its pc, the address that is looked up for it, the CFA of the one that
-/// it has called, or 0, and its registers.
+/// A subroutine that was active: its pc, the address that is looked up for it, the CFA of the one
+/// that it has called, or 0, and its registers.
 struct Activation {
     pc: u64,
     looked_up: u64,
@@ -110,12 +111,13 @@ struct Stopped<'a> {
 }
 
 impl Stopped<'_> {
-    /// Goes to the caller, whose CFA and return address are known. The ABI says the rest: the pc is the
-    /// return address, without the bits that sign it (PAC), and 0 where nobody has called. The address
-    /// that is looked up is one less, and so in the call: a call that never returns may be the last
-    /// instruction of its function. Of the innermost frame it is the pc itself, and so it is of a frame
-    /// that a signal has interrupted. That one is never reached here: what the handler returns to is a
-    /// trampoline of the C library or of the kernel, and these have no `.debug_frame`.
+    /// Goes to the caller, whose CFA and return address are known. The ABI says the rest: the pc is
+    /// the return address, without the bits that sign it (PAC), and 0 where nobody has called. The
+    /// address that is looked up is one less, and so in the call: a call that never returns may be
+    /// the last instruction of its function. Of the innermost frame it is the pc itself, and so it
+    /// is of a frame that a signal has interrupted. That one is never reached here: what the
+    /// handler returns to is a trampoline of the C library or of the kernel, and these have no
+    /// `.debug_frame`.
     fn enter_caller(&self, frame: &mut Activation, cfa: u64, address: u64) -> Result<(), End> {
         let pc = address & !self.core.signature;
         if pc == 0 {
