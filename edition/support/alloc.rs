@@ -36,3 +36,11 @@ pub trait TryClone: Sized {
     /// The same value once more, or want of memory.
     fn clone(&self) -> Result<Self, AllocError>;
 }
+
+// What Rattle derives for rows, which tests of the text copy.
+#[cfg(test)]
+impl TryClone for crate::proved::dw_cfa::LocatedRow<'_> {
+    fn clone(&self) -> Result<Self, AllocError> {
+        Ok(Self { location: self.location, row: self.row.copied()? })
+    }
+}
